@@ -1,0 +1,15 @@
+pub mod Gaps
+pub mod Intervals
+pub mod Bits
+pub mod Codec
+pub mod Items
+pub mod Whole
+pub mod Packets
+pub mod MetFiles
+pub mod PartTags
+pub mod PartRefusals
+pub mod PartMet
+pub mod Acceptance
+pub mod Many
+pub mod There
+pub mod Cases

@@ -1,0 +1,13 @@
+pub mod Tables
+pub mod Bits
+pub mod Gaps
+pub mod Messages
+pub mod Layout
+pub mod Rules
+pub mod Decoding
+pub mod Order
+pub mod PacketOrder
+pub mod GapTags
+pub mod PartTagOrder
+pub mod MetOrder
+pub mod Cases
