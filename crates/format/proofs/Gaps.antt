@@ -10,7 +10,7 @@ use mathlib.Core.List.{List, [], _∷_, _++_, append-assoc}
 use lib.ListN.{length}
 use lib.Dec.{leb, ltb}
 use borrow.Author.Tests.{lt-ltb, le-ltb, le-leb, lt-leb, ltb-true, leb-true}
-use Rattle.format.specs.Gaps.{Gap, within, missing, Ordered, Lawful, ordered, lawful, count, total, between, remaining, subtract}
+use Rattle.format.specs.Gaps.{Gap, within, missing, Ordered, Lawful, follows, ordered, lawful, count, total, between, remaining, subtract}
 
 -- Tests
 
@@ -55,18 +55,24 @@ ltb-leb x a = go (decLe a x)
 
 -- The rules as tests
 
+pub follows-true : (size low : ℕ) (g : Gap) → follows size low g ≡ true → (low ≤ g .start) × (g .start < g .end) × (g .end ≤ size)
+unfolding follows
+follows-true size low g h =
+    let a = both-true (leb low (g .start)) _ h in
+    let b = both-true (ltb (g .start) (g .end)) _ (a .1) in
+    (leb-true low (g .start) (a .0), ltb-true (g .start) (g .end) (b .0), leb-true (g .end) size (b .1))
+
 ordered-true : (size low : ℕ) (l : List Gap) → ordered size low l ≡ true → Ordered size low l
 unfolding Ordered ordered
 ordered-true size low [] h = tt
 ordered-true size low (g ∷ l) h =
-    let a = both-true (leb low (g .start)) _ h in
-    let b = both-true (ltb (g .start) (g .end)) _ (a .1) in
-    let c = both-true (leb (g .end) size) _ (b .1) in
-    let r = ordered-true size (g .end + 1) l (c .1) in
-    (leb-true low (g .start) (a .0), ltb-true (g .start) (g .end) (b .0), leb-true (g .end) size (c .0), rw (← add-one) r)
+    let a = both-true (follows size low g) _ h in
+    let f = follows-true size low g (a .0) in
+    let r = ordered-true size (g .end + 1) l (a .1) in
+    (f .0, f .1, f .2, rw (← add-one) r)
 
 ordered-holds : (size low : ℕ) (l : List Gap) → Ordered size low l → ordered size low l ≡ true
-unfolding Ordered ordered
+unfolding Ordered ordered follows
 ordered-holds size low [] o = refl
 ordered-holds size low (g ∷ l) o =
     rw (le-leb low (g .start) (o .0), lt-ltb (g .start) (g .end) (o .1), le-leb (g .end) size (o .2), add-one)

@@ -3,7 +3,7 @@ use Prim.Native.Nat.{ℕ, zero, suc, _-_, _<_, _≤_, _+_}
 use mathlib.Core.Path.{_≡_, refl, sym, _∙_}
 use native.Mathlib.Omega.{arith}
 use mathlib.Core.List.{List, [], _∷_}
-use Rattle.format.specs.Decoding.{Decoder, Fault, Outcome, refused, got, andThen, pure, decodeMany, placed, ends}
+use Rattle.format.specs.Decoding.{Decoder, Fault, Outcome, refused, got, andThen, pure, decodeMany, itemsOf, ends}
 
 ends-cons : {A : Type 0} (s : List ℕ) (a : A) (o : Outcome (List A)) → ends (andThen s o (λ l. pure (a ∷ l))) ≡ ends o
 unfolding ends
@@ -24,11 +24,11 @@ unfolding ends
 ends-refused (refused n) f e = cc
 ends-refused (got l p) f e = cc
 
--- what a place stands for, where the items that lie there are known to end
-pub ends-placed : {A : Type 0} (o : Outcome A) (p : ℕ) → ends o ≡ got tt p → placed o p ≡ o
+-- The items at a place that end there are all that a decoder finds.
+pub ends-items : {A : Type 0} (o : Outcome (List A)) (p : ℕ) → ends o ≡ got tt p → got (itemsOf o) p ≡ o
 unfolding ends
-ends-placed (refused n) p e = let z : _≡_ {A = ℕ} 0 1 = cc in absurd (omega arith)
-ends-placed (got l q) p e = cc
+ends-items (refused n) p e = cc
+ends-items (got l q) p e = cc
 
 -- with i items decoded, what is left ends as the whole, o, does
 module _ {A : Type 0} (d : Decoder A) (s : List ℕ) (o : Outcome (List A)) (n i at : ℕ) where
@@ -38,6 +38,9 @@ module _ {A : Type 0} (d : Decoder A) (s : List ℕ) (o : Outcome (List A)) (n i
   pub loop-stop : {f : Fault} → i < n → ends o ≡ ends (decodeMany (n - i) d s at) → refused f ≡ d s at → refused f ≡ o
   loop-stop {f} h e r = let m : n - i ≡ suc (n - (i + 1)) = omega arith in ends-refused o f ((rw m at e) ∙ many-stop d s (n - (i + 1)) at r)
 
-  pub loop-done : n ≤ i → ends o ≡ ends (decodeMany (n - i) d s at) → placed o at ≡ o
+  pub loop-ends : n ≤ i → ends o ≡ ends (decodeMany (n - i) d s at) → ends o ≡ got tt at
   unfolding ends
-  loop-done h e = let m : n - i ≡ 0 = omega arith in ends-placed o at (rw m at e)
+  loop-ends h e = let m : n - i ≡ 0 = omega arith in rw m at e
+
+  pub loop-done : n ≤ i → ends o ≡ ends (decodeMany (n - i) d s at) → got (itemsOf o) at ≡ o
+  loop-done h e = ends-items o at (loop-ends h e)

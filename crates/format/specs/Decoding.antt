@@ -9,11 +9,10 @@ use lib.Dec.{leb, eqb}
 use Rattle.format.specs.Tables.{pick}
 
 -- The rules that bytes can break, and 01's number for each. Where 01 gives one number to several rules, they are told apart.
--- The last is no rule of 01 and no decoder gives it (proofs/Placed): see `placed` below.
 pub data Rule : Type 0 where
   short opening frameLength kind choice statusBit : Rule
   bytesCeiling depthCeiling nameCeiling gapCeiling : Rule
-  rest order dataLength sizeTag unplaced : Rule
+  rest order dataLength sizeTag : Rule
 
 abbrev pub number : Rule → ℕ
 number short = 1
@@ -30,7 +29,6 @@ number rest = 7
 number order = 8
 number dataLength = 8
 number sizeTag = 9
-number unplaced = 0
 
 -- The rule that is broken, where the faulty item begins, and how many bytes it has.
 pub record Fault : Type 0 where
@@ -151,13 +149,13 @@ abbrev pub reply : {A : Type 0} → Answer A → Reply A
 reply (refusal f) = refusedWith (number (f .rule))
 reply (accepted a) = message a
 
--- Code hands back places in the lent bytes. A place and a count stand for the items that lie there, and end where the code
--- says. A place that does not hold them stands for nothing, and for no list by mistake.
-abbrev pub placed : {A : Type 0} → Outcome A → ℕ → Outcome A
-placed (refused f) next = refused (fault unplaced 0 0)
-placed (got a at) next = got a next
+-- Code hands back places in the lent bytes: a place and a count stand for the items that are decoded there. Where none are, this
+-- alone would pass for an empty list, so a contract also says where they end (`ends`).
+abbrev pub itemsOf : {A : Type 0} → Outcome (List A) → List A
+itemsOf (refused f) = []
+itemsOf (got l at) = l
 
--- Where a decoder ends, without its value: what a loop that keeps no list can know.
+-- Where a decoder ends, without its value.
 unfoldable pub ends : {A : Type 0} → Outcome A → Outcome (Unit {0})
 ends (refused f) = refused f
 ends (got a at) = got tt at

@@ -28,16 +28,19 @@ unfoldable pub Ordered : ℕ → ℕ → List Gap → Type 0
 Ordered size low [] = Unit {0}
 Ordered size low (g ∷ gaps) = (low ≤ g .start) × (g .start < g .end) × (g .end ≤ size) × Ordered size (suc (g .end)) gaps
 
--- What document 01 asks of a lawful gap record (its term): a size up to the limit and at most 64 gaps in order.
+-- A lawful gap record, document 01's term: a size up to the limit, and at most 64 gaps in order.
 pub record Lawful (limit size : ℕ) (gaps : List Gap) : Type 0 where
   pub fits : size ≤ limit
   pub few : length gaps ≤ 64
   pub ordered : Ordered size 0 gaps
 
--- Both rules as tests
+-- Both rules as tests: of a next gap, of all gaps, of a record
+unfoldable pub follows : ℕ → ℕ → Gap → Bool
+follows size low g = leb low (g .start) && (ltb (g .start) (g .end) && leb (g .end) size)
+
 unfoldable pub ordered : ℕ → ℕ → List Gap → Bool
 ordered size low [] = true
-ordered size low (g ∷ gaps) = leb low (g .start) && (ltb (g .start) (g .end) && (leb (g .end) size && ordered size (g .end + 1) gaps))
+ordered size low (g ∷ gaps) = follows size low g && ordered size (g .end + 1) gaps
 
 unfoldable pub lawful : ℕ → ℕ → List Gap → Bool
 lawful limit size gaps = leb size limit && (leb (length gaps) 64 && ordered size 0 gaps)

@@ -1,0 +1,4 @@
+pub mod Records
+pub mod Steps
+pub mod Marking
+pub mod Cases

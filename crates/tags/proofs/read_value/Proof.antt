@@ -1,0 +1,122 @@
+use mathlib.Core.Path.{refl}
+use Rattle.format.proofs.There.{value-is}
+use borrow.Author.Needs.{needs}
+use Rattle.tags.proofs.read_value.Statement.{statement}
+use Rattle.tags.proofs.read_value.Tie as tie
+
+enum-told : tie.Need-enum-told
+enum-told c = search needs
+
+hash-requires : tie.Need-hash-requires
+hash-requires c κs = search needs
+
+enum-known-h : tie.Need-enum-known-h
+enum-known-h c = search needs
+
+enum-told-2 : tie.Need-enum-told-2
+enum-told-2 c = search needs
+
+fault-requires : tie.Need-fault-requires
+fault-requires c κs = search needs
+
+returns : tie.Need-returns
+returns c = rw (c .fault .ensures, c .before .before .before .before .enum-told .given .1, value-is, ← c .before .before .before .hash .ensures, c .before .enum-told2 .given .1) refl
+
+enum-told-3 : tie.Need-enum-told-3
+enum-told-3 c = search needs
+
+string-requires : tie.Need-string-requires
+string-requires c κs = search needs
+
+enum-known-p : tie.Need-enum-known-p
+enum-known-p c = search needs
+
+enum-told-4 : tie.Need-enum-told-4
+enum-told-4 c = search needs
+
+fault-requires-2 : tie.Need-fault-requires-2
+fault-requires-2 c κs = search needs
+
+returns-2 : tie.Need-returns-2
+returns-2 c = rw (c .fault2 .ensures, c .before .before .before .before .enum-told3 .given .1, value-is, ← c .before .before .before .string .ensures, c .before .enum-told4 .given .1) refl
+
+enum-told-5 : tie.Need-enum-told-5
+enum-told-5 c = search needs
+
+dword-requires : tie.Need-dword-requires
+dword-requires c κs = search needs
+
+enum-known-d : tie.Need-enum-known-d
+enum-known-d c = search needs
+
+enum-told-6 : tie.Need-enum-told-6
+enum-told-6 c = search needs
+
+fault-requires-3 : tie.Need-fault-requires-3
+fault-requires-3 c κs = search needs
+
+returns-3 : tie.Need-returns-3
+returns-3 c = rw (c .fault3 .ensures, c .before .before .before .before .enum-told5 .given .1, value-is, ← c .before .before .before .dword .ensures, c .before .enum-told6 .given .1) refl
+
+enum-told-7 : tie.Need-enum-told-7
+enum-told-7 c = search needs
+
+dword-requires-2 : tie.Need-dword-requires-2
+dword-requires-2 c κs = search needs
+
+enum-known-d-2 : tie.Need-enum-known-d-2
+enum-known-d-2 c = search needs
+
+enum-told-8 : tie.Need-enum-told-8
+enum-told-8 c = search needs
+
+fault-requires-4 : tie.Need-fault-requires-4
+fault-requires-4 c κs = search needs
+
+returns-4 : tie.Need-returns-4
+returns-4 c = rw (c .fault4 .ensures, c .before .before .before .before .enum-told7 .given .1, value-is, ← c .before .before .before .dword2 .ensures, c .before .enum-told8 .given .1) refl
+
+returns-5 : tie.Need-returns-5
+returns-5 c = rw (c .before .before .before .before .enum-told .given .1, value-is, ← c .before .before .before .hash .ensures, c .before .h .given .1) refl
+
+returns-6 : tie.Need-returns-6
+returns-6 c = rw (c .before .before .before .before .enum-told3 .given .1, value-is, ← c .before .before .before .string .ensures, c .before .p .given .1) refl
+
+returns-7 : tie.Need-returns-7
+returns-7 c = rw (c .before .before .before .before .enum-told5 .given .1, value-is, ← c .before .before .before .dword .ensures, c .before .d .given .1) refl
+
+returns-8 : tie.Need-returns-8
+returns-8 c = rw (c .before .before .before .before .enum-told7 .given .1, value-is, ← c .before .before .before .dword2 .ensures, c .before .d2 .given .1) refl
+
+pub read-value-spec : {M : Type 1} → statement M
+read-value-spec =
+    tie.close
+    (tie.spec
+    enum-told
+    hash-requires
+    enum-known-h
+    enum-told-2
+    fault-requires
+    returns
+    enum-told-3
+    string-requires
+    enum-known-p
+    enum-told-4
+    fault-requires-2
+    returns-2
+    enum-told-5
+    dword-requires
+    enum-known-d
+    enum-told-6
+    fault-requires-3
+    returns-3
+    enum-told-7
+    dword-requires-2
+    enum-known-d-2
+    enum-told-8
+    fault-requires-4
+    returns-4
+    returns-5
+    returns-6
+    returns-7
+    returns-8)

@@ -1,0 +1,241 @@
+// Tags and tag lists.
+//
+// A tag is a type byte, a name and a value; a tag list is a DWORD count and the tags. The readers copy nothing: a name, a
+// text and a hash are places in the lent bytes, and a list is the place of its first tag and how many tags there are.
+// A caller goes through a list by `read_tag`, which answers with the cursor behind each tag.
+//
+// specs/Meaning.antt says what each answer stands for.
+ghost use mathlib.Core.Path.{_≡_};
+ghost use mathlib.Core.List.{List};
+ghost use mathlib.Core.Logic.{_↔_};
+ghost use Rattle.format.specs.Messages as messages;
+ghost use Rattle.format.specs.Messages.{loneTags};
+ghost use Rattle.format.specs.Layout.{encodeTags};
+ghost use Rattle.format.specs.Rules.{Valid};
+ghost use Rattle.format.specs.Decoding.{reply, message};
+ghost use Rattle.format.specs.Order.{decodeType, decodeValue, decodeTag, decodeTags};
+ghost use Rattle.format.specs.MetOrder.{decode};
+ghost use Rattle.wire.specs.Meaning.{itemsMeaning, ItemsStepPlaced};
+ghost use Rattle.tags.specs.Meaning.{typeOf, typeMeaning, valueMeaning, tagMeaning, tagListReply, TagListPlaced};
+ghost use Rattle.tags.specs.Meaning.{typeFault, valueFault, tagFault};
+use wire::ByteStep;
+use wire::Cursor;
+use wire::DwordStep;
+use wire::Fault;
+use wire::HashStep;
+use wire::Items;
+use wire::ItemsStep;
+use wire::Place;
+use wire::PlaceStep;
+use wire::Rule;
+use wire::no_fault;
+use wire::number;
+
+pub enum TagType {
+    Hash,
+    Text,
+    Dword,
+    Float,
+}
+
+// The value of a tag. A hash is the place of its 16 bytes; a FLOAT is kept as its bits.
+pub enum TagValue {
+    Hash(usize),
+    Text(Place),
+    Dword(u32),
+    Float(u32),
+}
+
+// A name of one byte is a published special tag; the others are texts. Names are told apart by their bytes alone.
+pub struct Tag {
+    pub name_at: usize,
+    pub name_len: usize,
+    pub value: TagValue,
+}
+
+pub enum TypeStep {
+    Got(TagType, Cursor),
+    Refused(Fault),
+}
+
+pub enum ValueStep {
+    Got(TagValue, Cursor),
+    Refused(Fault),
+}
+
+pub enum TagStep {
+    Got(Tag, Cursor),
+    Refused(Fault),
+}
+
+impl TypeStep {
+    // The fault of a refusal.
+    pub fn fault(self) -> Fault
+        ensures { λ r. ⌜ r ≡ typeFault self ⌝ }
+    {
+        match self {
+            TypeStep::Got(_, _) => no_fault(),
+            TypeStep::Refused(f) => f,
+        }
+    }
+}
+
+impl ValueStep {
+    pub fn fault(self) -> Fault
+        ensures { λ r. ⌜ r ≡ valueFault self ⌝ }
+    {
+        match self {
+            ValueStep::Got(_, _) => no_fault(),
+            ValueStep::Refused(f) => f,
+        }
+    }
+}
+
+impl TagStep {
+    pub fn fault(self) -> Fault
+        ensures { λ r. ⌜ r ≡ tagFault self ⌝ }
+    {
+        match self {
+            TagStep::Got(_, _) => no_fault(),
+            TagStep::Refused(f) => f,
+        }
+    }
+}
+
+pub fn read_type(s: &[u8], c: Cursor) -> TypeStep
+    ensures { λ r. ⌜ typeMeaning r ≡ decodeType (now (s .entry)) (c .at) ⌝ }
+{
+    let b = c.byte(s);
+    let ByteStep::Got(code, next) = b else {
+        return TypeStep::Refused(b.fault());
+    };
+    match code {
+        1 => TypeStep::Got(TagType::Hash, next),
+        2 => TypeStep::Got(TagType::Text, next),
+        3 => TypeStep::Got(TagType::Dword, next),
+        4 => TypeStep::Got(TagType::Float, next),
+        _ => TypeStep::Refused(Fault {
+            rule: Rule::Choice,
+            at: c.at,
+            size: 1,
+        }),
+    }
+}
+
+// A value of the type.
+pub fn read_value(s: &[u8], c: Cursor, tag_type: TagType) -> ValueStep
+    ensures { λ r. ⌜ valueMeaning (now (s .entry)) r ≡ decodeValue (typeOf «tag_type») (now (s .entry)) (c .at) ⌝ }
+{
+    match tag_type {
+        TagType::Hash => {
+            let h = c.hash(s);
+            let HashStep::Got(at, next) = h else {
+                return ValueStep::Refused(h.fault());
+            };
+            ValueStep::Got(TagValue::Hash(at), next)
+        }
+        TagType::Text => {
+            let p = c.string(s);
+            let PlaceStep::Got(text, next) = p else {
+                return ValueStep::Refused(p.fault());
+            };
+            ValueStep::Got(TagValue::Text(text), next)
+        }
+        TagType::Dword => {
+            let d = c.dword(s);
+            let DwordStep::Got(n, next) = d else {
+                return ValueStep::Refused(d.fault());
+            };
+            ValueStep::Got(TagValue::Dword(n), next)
+        }
+        TagType::Float => {
+            let d = c.dword(s);
+            let DwordStep::Got(bits, next) = d else {
+                return ValueStep::Refused(d.fault());
+            };
+            ValueStep::Got(TagValue::Float(bits), next)
+        }
+    }
+}
+
+pub fn read_tag(s: &[u8], c: Cursor) -> TagStep
+    ensures { λ r. ⌜ tagMeaning (now (s .entry)) r ≡ decodeTag (now (s .entry)) (c .at) ⌝ }
+{
+    let t = read_type(s, c);
+    let TypeStep::Got(tag_type, after_type) = t else {
+        return TagStep::Refused(t.fault());
+    };
+    let n = after_type.name(s);
+    let PlaceStep::Got(name, after_name) = n else {
+        return TagStep::Refused(n.fault());
+    };
+    let v = read_value(s, after_name, tag_type);
+    let ValueStep::Got(value, next) = v else {
+        return TagStep::Refused(v.fault());
+    };
+    TagStep::Got(
+        Tag {
+            name_at: name.at,
+            name_len: name.len,
+            value,
+        },
+        next,
+    )
+}
+
+// A tag list: every tag is read, and none is kept.
+pub fn read_tags(s: &[u8], c: Cursor) -> ItemsStep
+    ensures { λ r. ⌜ itemsMeaning decodeTag (now (s .entry)) r ≡ decodeTags (now (s .entry)) (c .at) ⌝ }
+    ensures placed { λ r. ⌜ ItemsStepPlaced decodeTag (now (s .entry)) r ⌝ }
+{
+    let d = c.dword(s);
+    let DwordStep::Got(count, first) = d else {
+        return ItemsStep::Refused(d.fault());
+    };
+    let mut next = first;
+    let mut i: u32 = 0;
+    while i < count {
+        let t = read_tag(s, next);
+        let TagStep::Got(_, after) = t else {
+            return ItemsStep::Refused(t.fault());
+        };
+        next = after;
+        i += 1;
+    }
+    ItemsStep::Got(
+        Items {
+            at: first.at,
+            end: next.at,
+            count,
+        },
+        next,
+    )
+}
+
+pub enum TagListAnswer {
+    Accepted(Items),
+    Refused(u8),
+}
+
+// A lone tag list: the bytes are one tag list and nothing else, and are at most 65,536.
+pub fn read_tag_list(s: &[u8]) -> TagListAnswer
+    ensures { λ r. ⌜ tagListReply (now (s .entry)) r ≡ reply (decode loneTags (now (s .entry))) ⌝ }
+    ensures placed { λ r. ⌜ TagListPlaced (now (s .entry)) r ⌝ }
+    ensures exact { λ r. ⌜ ((m : List messages.Tag) →
+        (tagListReply (now (s .entry)) r ≡ message m) ↔ ((now (s .entry) ≡ encodeTags m) × Valid loneTags m)) ⌝ }
+{
+    if 65536 < s.len() {
+        return TagListAnswer::Refused(number(Rule::BytesCeiling));
+    }
+    let t = read_tags(s, Cursor { at: 0 });
+    let ItemsStep::Got(list, next) = t else {
+        let f = t.fault();
+        let rule = f.rule;
+        return TagListAnswer::Refused(number(rule));
+    };
+    let end = next.at;
+    if end == s.len() {
+        return TagListAnswer::Accepted(list);
+    }
+    TagListAnswer::Refused(number(Rule::Rest))
+}

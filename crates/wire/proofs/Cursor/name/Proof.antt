@@ -1,0 +1,60 @@
+use mathlib.Core.Path.{refl}
+use borrow.Author.Tests.{lt-leb, le-leb, eq-eqb, ne-eqb}
+use Rattle.format.specs.Order.{decodeName}
+use borrow.Author.Needs.{needs}
+use Rattle.wire.proofs.Cursor.name.Statement.{statement}
+use Rattle.wire.proofs.Cursor.name.Tie as tie
+
+word-requires : tie.Need-word-requires
+word-requires c κs = search needs
+
+enum-known-w : tie.Need-enum-known-w
+enum-known-w c = search needs
+
+enum-told : tie.Need-enum-told
+enum-told c = search needs
+
+fault-requires : tie.Need-fault-requires
+fault-requires c κs = search needs
+
+returns : tie.Need-returns
+unfolding decodeName
+returns c = rw (c .fault .ensures, ← c .before .before .before .word .ensures, c .before .enum-told .given .1) refl
+
+returns-2 : tie.Need-returns-2
+unfolding decodeName
+returns-2 c = rw (← c .before .before .before .before .word .ensures, c .before .before .w .given .1, eq-eqb _ _ (c .if1 .taken)) refl
+
+returns-3 : tie.Need-returns-3
+unfolding decodeName
+returns-3 c =
+    let b = c .before .before .before in
+    rw (← b .before .before .word .ensures, b .w .given .1, ne-eqb _ _ (c .before .if1 .left), lt-leb _ _ (c .if2 .taken)) refl
+
+cast-run : tie.Need-cast-run
+cast-run c = search needs
+
+run-requires : tie.Need-run-requires
+run-requires c κs = search needs
+
+returns-4 : tie.Need-returns-4
+unfolding decodeName
+returns-4 c =
+    let b = c .before .before .before .before in
+    rw (← b .before .before .word .ensures, b .w .given .1, ne-eqb _ _ (c .before .before .if1 .left), le-leb _ _ (c .before .if2 .left))
+    (c .run .ensures)
+
+pub name-spec : {M : Type 1} → statement M
+name-spec =
+    tie.close
+    (tie.spec
+    word-requires
+    enum-known-w
+    enum-told
+    fault-requires
+    returns
+    returns-2
+    returns-3
+    cast-run
+    run-requires
+    returns-4)

@@ -1,0 +1,44 @@
+use mathlib.Core.Path.{refl}
+use Rattle.format.specs.Order.{decodeString}
+use borrow.Author.Needs.{needs}
+use Rattle.wire.proofs.Cursor.string.Statement.{statement}
+use Rattle.wire.proofs.Cursor.string.Tie as tie
+
+word-requires : tie.Need-word-requires
+word-requires c κs = search needs
+
+enum-known-w : tie.Need-enum-known-w
+enum-known-w c = search needs
+
+enum-told : tie.Need-enum-told
+enum-told c = search needs
+
+fault-requires : tie.Need-fault-requires
+fault-requires c κs = search needs
+
+returns : tie.Need-returns
+unfolding decodeString
+returns c = rw (c .fault .ensures, ← c .before .before .before .word .ensures, c .before .enum-told .given .1) refl
+
+cast-run : tie.Need-cast-run
+cast-run c = search needs
+
+run-requires : tie.Need-run-requires
+run-requires c κs = search needs
+
+returns-2 : tie.Need-returns-2
+unfolding decodeString
+returns-2 c = rw (← c .before .before .before .before .word .ensures, c .before .before .w .given .1) (c .run .ensures)
+
+pub string-spec : {M : Type 1} → statement M
+string-spec =
+    tie.close
+    (tie.spec
+    word-requires
+    enum-known-w
+    enum-told
+    fault-requires
+    returns
+    cast-run
+    run-requires
+    returns-2)
