@@ -13,3 +13,4 @@ pub mod Acceptance
 pub mod Many
 pub mod There
 pub mod Cases
+pub mod Truth

@@ -35,21 +35,21 @@ andCheck-passes (passes a) f e = record { first = a; was = refl; then = e }
 andCheck-passes (violates rule) f e = absurd (violates-passes e)
 
 -- Tests on names
-no-true : false ≡ true → ⊥
+pub no-true : false ≡ true → ⊥
 no-true e = let z : _≡_ {A = ℕ} 0 1 = cc in omega arith
 
-both-true : (a b : Bool) → pick a b false ≡ true → (a ≡ true) × (b ≡ true)
+pub both-true : (a b : Bool) → pick a b false ≡ true → (a ≡ true) × (b ≡ true)
 both-true true b e = (refl, e)
 both-true false b e = absurd (no-true e)
 
-same-true : (k l : List ℕ) → same k l ≡ true → k ≡ l
+pub same-true : (k l : List ℕ) → same k l ≡ true → k ≡ l
 unfolding same
 same-true [] [] e = refl
 same-true [] (b ∷ l) e = absurd (no-true e)
 same-true (a ∷ k) [] e = absurd (no-true e)
 same-true (a ∷ k) (b ∷ l) e = let h = both-true (eqb a b) (same k l) e in ap₂ (λ x y. x ∷ y) (eqb-true a b (h .0)) (same-true k l (h .1))
 
-same-refl : (k : List ℕ) → same k k ≡ true
+pub same-refl : (k : List ℕ) → same k k ≡ true
 unfolding same
 same-refl [] = refl
 same-refl (a ∷ k) = rw (eq-eqb a a refl, same-refl k)

@@ -1,19 +1,21 @@
 -- The cases that document 01 marks P, and its limits on depth and names, as one table (proofs/Cases shows that each holds).
 use mathlib.Core.Path.{_≡_}
-use mathlib.Core.Bool.{true}
+use mathlib.Core.Bool.{true, _&&_}
 use mathlib.Core.List.{List, [], _∷_, _++_}
 use Prim.Native.Nat.{ℕ, zero, suc}
 use lib.ListN.{replicate}
 use Rattle.format.specs.Messages.{Tag, stringType, dwordType, and, join, keyword, Query, plain, extended, twoDwordsBody, statusRequestBody, fileStatusBody}
 use Rattle.format.specs.Messages.{Kind, serverLink, clientLink, udpLink, loneQuery, loneTags, Message}
+use Rattle.format.specs.Gaps.{Gap, gap, lawful, sizeLimit, inside, Marking, rejected, leaves, marking}
 use Rattle.format.specs.Rules.{depth}
 use Rattle.format.specs.Decoding.{Reply, refusedWith, message, reply}
 use Rattle.format.specs.MetOrder.{decode}
 
--- What a case claims: the reply to the bytes of a kind, or the depth of the query that the bytes are.
+-- What a case claims: the reply to the bytes of a kind, the depth of the query that the bytes are, or what marking leaves of a gap list.
 pub data Claim : Type 0 where
   replies : (k : Kind) → List ℕ → Reply (Message k) → Claim
   hasDepth : List ℕ → ℕ → Claim
+  marks : (size : ℕ) → List Gap → (start end : ℕ) → Marking → Claim
 
 abbrev depthIn : Reply Query → ℕ
 depthIn (refusedWith n) = 0
@@ -22,6 +24,7 @@ depthIn (message q) = depth q
 abbrev pub Holds : Claim → Type 0
 Holds (replies k s r) = reply (decode k s) ≡ r
 Holds (hasDepth s d) = depthIn (reply (decode loneQuery s)) ≡ d
+Holds (marks size gaps start end m) = marking (lawful sizeLimit size gaps && inside size start end) size gaps start end ≡ m
 
 abbrev abTexts : List ℕ
 abTexts = 0x01 ∷ 0x01 ∷ 0x00 ∷ 0x61 ∷ 0x01 ∷ 0x01 ∷ 0x00 ∷ 0x62 ∷ []
@@ -72,6 +75,8 @@ cases =
       body = (fileStatusBody, record { hash = hash; held = true ∷ true ∷ true ∷ true ∷ true ∷ true ∷ true ∷ true ∷ true ∷ [] });
     }))
     ∷ replies clientLink (fileStatus ++ (0x03 ∷ [])) (refusedWith 5)
+    ∷ marks 100 (gap 0 100 ∷ []) 40 60 (leaves (gap 0 40 ∷ gap 60 100 ∷ []) 80)
+    ∷ marks 100 (gap 0 100 ∷ []) 60 60 (rejected 8)
     ∷ hasDepth (nested 23) 24
     ∷ replies loneQuery (nested 24) (refusedWith 6)
     ∷ replies loneTags (namedTag 255 0xFF 0x00) (message (record { name = nameOf 255; value = (dwordType, 7) } ∷ []))

@@ -28,6 +28,10 @@ unfoldable pub Ordered : ℕ → ℕ → List Gap → Type 0
 Ordered size low [] = Unit {0}
 Ordered size low (g ∷ gaps) = (low ≤ g .start) × (g .start < g .end) × (g .end ≤ size) × Ordered size (suc (g .end)) gaps
 
+-- The largest size of a file. The rules take a limit as an argument, so that another limit moves this number alone.
+abbrev pub sizeLimit : ℕ
+sizeLimit = 4294967295
+
 -- A lawful gap record, document 01's term: a size up to the limit, and at most 64 gaps in order.
 pub record Lawful (limit size : ℕ) (gaps : List Gap) : Type 0 where
   pub fits : size ≤ limit
@@ -66,6 +70,22 @@ remaining g start end = between (g .start) (min (g .end) start) ++ between (max 
 unfoldable pub subtract : List Gap → ℕ → ℕ → List Gap
 subtract [] start end = []
 subtract (g ∷ gaps) start end = remaining g start end ++ subtract gaps start end
+
+-- Marking (document 01's term) the bytes from `start` up to `end` as arrived: refused with a number, or the gaps that are left and the
+-- number of missing bytes.
+pub data Marking : Type 0 where
+  rejected : (number : ℕ) → Marking
+  leaves : List Gap → (missing : ℕ) → Marking
+
+-- a range that may be marked in a file of this size: start < end ≤ size
+abbrev pub inside : (size start end : ℕ) → Bool
+inside size start end = ltb start end && leb end size
+
+-- 8 unless it is allowed (a lawful gap list, a range inside the file); 6 above 64 gaps in the outcome
+unfoldable pub marking : (allowed : Bool) (size : ℕ) → List Gap → ℕ → ℕ → Marking
+marking allowed size gaps start end =
+    let left = subtract gaps start end in
+    cond allowed (cond (leb (length left) 64) (leaves left (count (missing left) size)) (rejected 6)) (rejected 8)
 
 -- The bytes from a up to b are missing too: they lengthen the gap that ends at a, or make a new last gap.
 unfoldable pub extend : List Gap → ℕ → ℕ → List Gap

@@ -11,3 +11,7 @@ pub mod GapTags
 pub mod PartTagOrder
 pub mod MetOrder
 pub mod Cases
+pub mod Truth
+pub mod Writing
+pub mod Saving
+pub mod Putting

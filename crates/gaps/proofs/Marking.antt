@@ -9,7 +9,7 @@ use mathlib.Core.List.{List, [], _∷_, _++_}
 use lib.ListN.{length}
 use lib.Dec.{ltb, eqb}
 use borrow.Author.Tests.{lt-ltb, le-leb, lt-leb, ltb-true, leb-true, eqb-true, eqb-false}
-use Rattle.format.specs.Gaps.{Gap, within, missing, Ordered, count, total, subtract}
+use Rattle.format.specs.Gaps.{Gap, within, missing, Ordered, count, total, subtract, marking}
 use Rattle.format.proofs.Gaps.{never, both-true, subtract-ordered, subtract-lawful, missing-subtract, total-count, count-same}
 use Rattle.gaps.specs.declared.GapRecord.{GapRecord}
 use Rattle.gaps.specs.declared.Marked.{Marked}
@@ -41,7 +41,7 @@ module _ (limit : ℕ) (g : GapRecord) (s e : ℕ) (k : markable limit g s e ≡
       subtract-ordered (g .size) 0 (gapsOf g) s e (m .order) (m .lawful .ordered)
 
   pub marked-full : p .full ≡ true → marked limit g s e ≡ refusal 6 g
-  unfolding marked subtracted
+  unfolding marked marking subtracted
   marked-full f = go (decLe (length left) 64)
     where
       go : Dec (length left ≤ 64) → marked limit g s e ≡ refusal 6 g
@@ -61,7 +61,7 @@ module _ (limit : ℕ) (g : GapRecord) (s e : ℕ) (k : markable limit g s e ≡
 
   pub marked-room : p .full ≡ false → (n : ℕ) → n ≡ total (gapsOf (p .after))
       → marked limit g s e ≡ record { number = 0; missing = n; after = p .after }
-  unfolding marked
+  unfolding marked marking
   marked-room f n h =
       let r = room f in
       let t : total (gapsOf (p .after)) ≡ total left = rw (r .1) (ap total (gaps-of-record (g .size) left)) in
@@ -77,12 +77,12 @@ module _ (limit : ℕ) (g : GapRecord) (s e : ℕ) where
 
   -- the three cases
   data Outcome : Type 0 where
-    accepted : Markable limit g s e → length rest ≤ 64 → answer ≡ acceptance g rest → Outcome
+    accepted : Markable limit g s e → length rest ≤ 64 → answer ≡ acceptance g rest (count (missing rest) (g .size)) → Outcome
     too-many : Markable limit g s e → 64 < length rest → answer ≡ refusal 6 g → Outcome
     barred : (Markable limit g s e → ⊥) → answer ≡ refusal 8 g → Outcome
 
   outcome : Outcome
-  unfolding marked
+  unfolding marked marking
   outcome = go (markable limit g s e) refl (decLe (length rest) 64)
     where
       go : (t : Bool) → markable limit g s e ≡ t → Dec (length rest ≤ 64) → Outcome

@@ -4,7 +4,7 @@ use mathlib.Core.Bool.{Bool, _&&_, cond}
 use mathlib.Core.List.{List, [], _∷_}
 use lib.ListN.{length}
 use lib.Dec.{leb, ltb, eqb}
-use Rattle.format.specs.Gaps.{Gap, Lawful, missing, count, subtract}
+use Rattle.format.specs.Gaps.{Gap, Lawful, missing, count, Marking, rejected, leaves, inside, marking}
 use Rattle.gaps.specs.declared.GapRecord.{GapRecord}
 use Rattle.gaps.specs.declared.Marked.{Marked}
 use Rattle.gaps.specs.declared.MarkAnswer.{MarkAnswer}
@@ -19,20 +19,22 @@ pub record Markable (limit : ℕ) (g : GapRecord) (start end : ℕ) : Type 0 whe
 
 -- the same as a test
 unfoldable pub markable : ℕ → GapRecord → ℕ → ℕ → Bool
-markable limit g start end = lawfulRecord limit g && (ltb start end && leb end (g .size))
+markable limit g start end = lawfulRecord limit g && inside (g .size) start end
 
 -- a refusal hands back the record given, and no count
 abbrev pub refusal : ℕ → GapRecord → Marked
 refusal number g = record { number = number; missing = 0; after = g }
 
--- the gaps with the bytes from `start` up to `end` taken out, and the number of bytes still missing
-abbrev pub acceptance : GapRecord → List Gap → Marked
-acceptance g gaps = record { number = 0; missing = count (missing gaps) (g .size); after = recordOf (g .size) gaps }
+-- the gaps that are left, and the number of bytes still missing
+abbrev pub acceptance : GapRecord → List Gap → ℕ → Marked
+acceptance g gaps missing = record { number = 0; missing = missing; after = recordOf (g .size) gaps }
+
+abbrev pub answered : GapRecord → Marking → Marked
+answered g (rejected number) = refusal number g
+answered g (leaves gaps missing) = acceptance g gaps missing
 
 unfoldable pub marked : ℕ → GapRecord → ℕ → ℕ → Marked
-marked limit g start end =
-    let gaps = subtract (gapsOf g) start end in
-    cond (markable limit g start end) (cond (leb (length gaps) 64) (acceptance g gaps) (refusal 6 g)) (refusal 8 g)
+marked limit g start end = answered g (marking (markable limit g start end) (g .size) (gapsOf g) start end)
 
 abbrev pub answerOf : Marked → MarkAnswer
 answerOf m = record { number = m .number; missing = m .missing }

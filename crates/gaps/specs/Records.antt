@@ -8,10 +8,6 @@ use Rattle.format.specs.Gaps.{Gap, gap, missing, lawful, count, between}
 use Rattle.gaps.specs.declared.Gap.{Gap as Place}
 use Rattle.gaps.specs.declared.GapRecord.{GapRecord}
 
--- The largest size of a file. The rules take the limit as an argument, so that another limit moves this number alone.
-abbrev pub sizeLimit : ℕ
-sizeLimit = 4294967295
-
 -- A place of a record (document 01's term; the code's `Gap`), and the gap that it holds
 abbrev pub place : ℕ → ℕ → Place
 place a b = record { start = a; end = b }

@@ -2,12 +2,12 @@
 // What each function answers is said in specs/Records.antt and specs/Marking.antt; private steps cite specs/Steps.antt.
 ghost use mathlib.Core.Path.{_≡_};
 ghost use Prim.Native.Nat.{_≤_, min, max};
-ghost use Rattle.format.specs.Gaps.{Ordered, total, follows};
-ghost use Rattle.gaps.specs.Records.{sizeLimit, gapOf, gapsOf, noneMissing, allMissing, lawfulRecord, missingCount};
+ghost use Rattle.format.specs.Gaps.{Ordered, total, follows, sizeLimit};
+ghost use Rattle.gaps.specs.Records.{gapOf, gapsOf, noneMissing, allMissing, lawfulRecord, missingCount};
 ghost use Rattle.gaps.specs.Marking.{markable, refusal, marked, answerOf};
 ghost use Rattle.gaps.specs.Steps.{pushed, pushedRemaining, subtracted};
 
-// The largest size of a file: `sizeLimit` in specs/Records.antt.
+// The largest size of a file: `sizeLimit` in the format's specs/Gaps.antt.
 pub const SIZE_LIMIT: u64 = 4294967295;
 
 // The missing bytes from `start` up to `end`, `end` not included.

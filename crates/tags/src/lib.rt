@@ -1,8 +1,8 @@
 // Tags and tag lists.
 //
 // A tag is a type byte, a name and a value; a tag list is a DWORD count and the tags. The readers copy nothing: a name, a
-// text and a hash are places in the lent bytes, and a list is the place of its first tag and how many tags there are.
-// A caller goes through a list by `read_tag`, which answers with the cursor behind each tag.
+// text and a hash are places in the lent bytes, and a list is the place of its tags and how many they are. A caller goes
+// through a list by `read_tag` from that place on, which answers with the cursor behind each tag.
 //
 // specs/Meaning.antt says what each answer stands for.
 ghost use mathlib.Core.Path.{_≡_};
@@ -122,7 +122,7 @@ pub fn read_type(s: &[u8], c: Cursor) -> TypeStep
     }
 }
 
-// A value of the type.
+// A value of a type that was read before the name.
 pub fn read_value(s: &[u8], c: Cursor, tag_type: TagType) -> ValueStep
     ensures { λ r. ⌜ valueMeaning (now (s .entry)) r ≡ decodeValue (typeOf «tag_type») (now (s .entry)) (c .at) ⌝ }
 {
@@ -183,7 +183,7 @@ pub fn read_tag(s: &[u8], c: Cursor) -> TagStep
     )
 }
 
-// A tag list: every tag is read, and none is kept.
+// A tag list. Every tag is read, so that the list handed back is known to lie there whole.
 pub fn read_tags(s: &[u8], c: Cursor) -> ItemsStep
     ensures { λ r. ⌜ itemsMeaning decodeTag (now (s .entry)) r ≡ decodeTags (now (s .entry)) (c .at) ⌝ }
     ensures placed { λ r. ⌜ ItemsStepPlaced decodeTag (now (s .entry)) r ⌝ }
@@ -217,7 +217,8 @@ pub enum TagListAnswer {
     Refused(u8),
 }
 
-// A lone tag list: the bytes are one tag list and nothing else, and are at most 65,536.
+// A lone tag list: at most 65,536 bytes that are one tag list and nothing else. By the last clause it is accepted exactly
+// when some valid tags have these bytes as their encoding, and then as these tags.
 pub fn read_tag_list(s: &[u8]) -> TagListAnswer
     ensures { λ r. ⌜ tagListReply (now (s .entry)) r ≡ reply (decode loneTags (now (s .entry))) ⌝ }
     ensures placed { λ r. ⌜ TagListPlaced (now (s .entry)) r ⌝ }
@@ -229,9 +230,7 @@ pub fn read_tag_list(s: &[u8]) -> TagListAnswer
     }
     let t = read_tags(s, Cursor { at: 0 });
     let ItemsStep::Got(list, next) = t else {
-        let f = t.fault();
-        let rule = f.rule;
-        return TagListAnswer::Refused(number(rule));
+        return TagListAnswer::Refused(t.fault().number());
     };
     let end = next.at;
     if end == s.len() {

@@ -67,6 +67,15 @@ pub struct Fault {
     pub size: usize,
 }
 
+impl Fault {
+    pub fn number(self) -> u8
+        ensures { λ r. ⌜ r ≡ decoding.number (ruleMeaning (self .rule)) ⌝ }
+    {
+        let rule = self.rule;
+        number(rule)
+    }
+}
+
 pub struct Cursor {
     pub at: usize,
 }

@@ -5,9 +5,9 @@ use mathlib.Core.Path.{_≡_, refl, sym, _∙_}
 use lib.ListN.{length, drop, length-map}
 use borrow.Author.Needs.{needs}
 use borrow.Author.Tests.{le-leb, lt-leb, not-true, not-false}
-use Rattle.format.specs.Gaps.{ordered, lawful}
+use Rattle.format.specs.Gaps.{ordered, lawful, sizeLimit}
 use Rattle.format.proofs.Gaps.{follows-true}
-use Rattle.gaps.specs.Records.{sizeLimit, gapOf, gapsOf, lawfulRecord}
+use Rattle.gaps.specs.Records.{gapOf, gapsOf, lawfulRecord}
 use Rattle.gaps.proofs.Records.{At, placeAt, next-at, next-ordered, none-left, lawful-by-gaps}
 use Rattle.gaps.proofs.is_lawful.Statement.{statement}
 use Rattle.gaps.proofs.is_lawful.Tie as tie

@@ -1,7 +1,7 @@
+use Rattle.format.specs.Gaps.{marking, sizeLimit}
 use mathlib.Core.Path.{sym, _∙_}
 use borrow.Author.Needs.{needs}
 use borrow.Author.Tests.{not-true, not-false}
-use Rattle.gaps.specs.Records.{sizeLimit}
 use Rattle.gaps.specs.Marking.{marked}
 use Rattle.gaps.proofs.Marking.{markable-exactly, marked-full, after-ordered, marked-room}
 use Rattle.gaps.proofs.mark.Statement.{statement}
@@ -14,7 +14,7 @@ refused-requires : tie.Need-refused-requires
 refused-requires c κs = search needs
 
 returns : tie.Need-returns
-unfolding marked
+unfolding marked marking
 returns c = let k = sym (c .before .before .is-markable .ensures) ∙ not-true _ (c .before .if1 .taken) in rw k (c .refused .ensures)
 
 subtract-requires : tie.Need-subtract-requires

@@ -1,6 +1,7 @@
 -- A walk of the function's MIR, by hand: a reference to a struct is not covered by the borrow checker. The borrow is opened, the record
 -- is copied out and marked by `mark`, what `mark` hands back is stored, and the borrow is closed at it.
 -- All that the walk knows of `mark` is that it meets its contract. Assumes nothing.
+use Rattle.format.specs.Gaps.{sizeLimit}
 use mathlib.Core.Path.{_≡_, refl, ap}
 use Prim.Native.Nat.{ℕ, _<_, _^_}
 use mathlib.Core.List.{[], _∷_, List}
@@ -41,7 +42,6 @@ use denote.Triple.Table.{entered, cited}
 use denote.Triple.Walked.{says, Stays, stay-ref, stay-none, walkOf, goes-none, goes-ref, Walks, ends-at, walked, walk-meets}
 use denote.Triple.Clauses.{ensured, lasts}
 use denote.Exit.{yes}
-use Rattle.gaps.specs.Records.{sizeLimit}
 use Rattle.gaps.specs.Marking.{marked, answerOf}
 use Rattle.gaps.specs.declared.GapRecord.{GapRecord}
 use Rattle.gaps.specs.declared.Marked.{Marked}

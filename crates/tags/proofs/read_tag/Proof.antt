@@ -34,7 +34,8 @@ fault-requires-2 c κs = search needs
 
 returns-2 : tie.Need-returns-2
 unfolding decodeTag
-returns-2 c = let t = c .before .before .before .before .before in
+returns-2 c =
+    let t = c .before .before .before .before .before in
     rw (
       c .fault2 .ensures,
       ← t .before .before .read-type .ensures,
@@ -58,7 +59,8 @@ fault-requires-3 c κs = search needs
 
 returns-3 : tie.Need-returns-3
 unfolding decodeTag
-returns-3 c = let n = c .before .before .before .before .before in
+returns-3 c =
+    let n = c .before .before .before .before .before in
     let t = n .before .before .before .before in
     rw (
       c .fault3 .ensures,
@@ -73,7 +75,8 @@ returns-3 c = let n = c .before .before .before .before .before in
 
 returns-4 : tie.Need-returns-4
 unfolding decodeTag
-returns-4 c = let n = c .before .before .before .before .before in
+returns-4 c =
+    let n = c .before .before .before .before .before in
     let t = n .before .before .before .before in
     rw (
       ← t .before .before .read-type .ensures,

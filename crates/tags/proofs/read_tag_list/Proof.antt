@@ -15,7 +15,9 @@ returns : tie.Need-returns
 unfolding decode
 returns c =
     let b = c .before .before in
-    exact-placed loneTags (now (b .before .args .s)) (b .shared-slice-known .given) (rw (c .number .ensures, lt-leb _ _ (c .before .if1 .taken)) refl) tt
+    exact-placed loneTags (now (b .before .args .s)) (b .shared-slice-known .given)
+    (rw (c .number .ensures, lt-leb _ _ (c .before .if1 .taken)) refl)
+    tt
 
 read-tags-requires : tie.Need-read-tags-requires
 read-tags-requires c κs = search needs

@@ -51,11 +51,10 @@ returns-2 : tie.Need-returns-2 Inv-loop μ-loop
 unfolding decodeTags decodeCounted
 returns-2 c =
     let l = c .before .before .before .before .before in
+    let d = l .before .before in
     let read = rw (c .before .enum-told2 .given .1) at (c .before .before .before .read-tag .ensures) in
-    let stops = loop-stop decodeTag _ _ _ _ _ (c .before .before .before .before .loop-test .taken) (l .loop .inv .1) read in (
-      rw (c .fault2 .ensures, ← l .before .before .before .before .dword .ensures, l .before .before .d .given .1, c .before .enum-told2 .given .1) stops,
-      tt,
-    )
+    let stops = loop-stop decodeTag _ _ _ _ _ (c .before .before .before .before .loop-test .taken) (l .loop .inv .1) read in
+    (rw (c .fault2 .ensures, ← d .before .before .dword .ensures, d .d .given .1, c .before .enum-told2 .given .1) stops, tt)
 
 add-i : tie.Need-add-i Inv-loop μ-loop
 add-i c = search needs
@@ -72,10 +71,10 @@ loop-again c =
 returns-3 : tie.Need-returns-3 Inv-loop μ-loop
 unfolding decodeTags decodeCounted
 returns-3 c =
-    let l = c .before in (
-      rw (← l .before .before .before .before .dword .ensures, l .before .before .d .given .1) (loop-done decodeTag _ _ _ _ _ (c .loop-test .left) (l .loop .inv .1)),
-      loop-ends decodeTag _ _ _ _ _ (c .loop-test .left) (l .loop .inv .1),
-    )
+    let d = c .before .before .before in
+    let all = c .before .loop .inv .1 in
+    let done = loop-done decodeTag _ _ _ _ _ (c .loop-test .left) all in
+    (rw (← d .before .before .dword .ensures, d .d .given .1) done, loop-ends decodeTag _ _ _ _ _ (c .loop-test .left) all)
 
 pub read-tags-spec : {M : Type 1} → statement M
 read-tags-spec =

@@ -39,7 +39,8 @@ returns-5 c = rw (← c .before .before .before .before .byte .ensures, c .befor
 
 returns-6 : tie.Need-returns-6
 unfolding decodeType decodeCode
-returns-6 c = let others = c .match2 .rest in
+returns-6 c =
+    let others = c .match2 .rest in
     rw (
       ← c .before .before .before .before .byte .ensures,
       c .before .before .b .given .1,

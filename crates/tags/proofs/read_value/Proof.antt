@@ -20,7 +20,9 @@ fault-requires : tie.Need-fault-requires
 fault-requires c κs = search needs
 
 returns : tie.Need-returns
-returns c = rw (c .fault .ensures, c .before .before .before .before .enum-told .given .1, value-is, ← c .before .before .before .hash .ensures, c .before .enum-told2 .given .1) refl
+returns c =
+    let b = c .before .before .before in
+    rw (c .fault .ensures, b .before .enum-told .given .1, value-is, ← b .hash .ensures, c .before .enum-told2 .given .1) refl
 
 enum-told-3 : tie.Need-enum-told-3
 enum-told-3 c = search needs
@@ -38,7 +40,9 @@ fault-requires-2 : tie.Need-fault-requires-2
 fault-requires-2 c κs = search needs
 
 returns-2 : tie.Need-returns-2
-returns-2 c = rw (c .fault2 .ensures, c .before .before .before .before .enum-told3 .given .1, value-is, ← c .before .before .before .string .ensures, c .before .enum-told4 .given .1) refl
+returns-2 c =
+    let b = c .before .before .before in
+    rw (c .fault2 .ensures, b .before .enum-told3 .given .1, value-is, ← b .string .ensures, c .before .enum-told4 .given .1) refl
 
 enum-told-5 : tie.Need-enum-told-5
 enum-told-5 c = search needs
@@ -56,7 +60,9 @@ fault-requires-3 : tie.Need-fault-requires-3
 fault-requires-3 c κs = search needs
 
 returns-3 : tie.Need-returns-3
-returns-3 c = rw (c .fault3 .ensures, c .before .before .before .before .enum-told5 .given .1, value-is, ← c .before .before .before .dword .ensures, c .before .enum-told6 .given .1) refl
+returns-3 c =
+    let b = c .before .before .before in
+    rw (c .fault3 .ensures, b .before .enum-told5 .given .1, value-is, ← b .dword .ensures, c .before .enum-told6 .given .1) refl
 
 enum-told-7 : tie.Need-enum-told-7
 enum-told-7 c = search needs
@@ -74,19 +80,29 @@ fault-requires-4 : tie.Need-fault-requires-4
 fault-requires-4 c κs = search needs
 
 returns-4 : tie.Need-returns-4
-returns-4 c = rw (c .fault4 .ensures, c .before .before .before .before .enum-told7 .given .1, value-is, ← c .before .before .before .dword2 .ensures, c .before .enum-told8 .given .1) refl
+returns-4 c =
+    let b = c .before .before .before in
+    rw (c .fault4 .ensures, b .before .enum-told7 .given .1, value-is, ← b .dword2 .ensures, c .before .enum-told8 .given .1) refl
 
 returns-5 : tie.Need-returns-5
-returns-5 c = rw (c .before .before .before .before .enum-told .given .1, value-is, ← c .before .before .before .hash .ensures, c .before .h .given .1) refl
+returns-5 c =
+    let b = c .before .before .before in
+    rw (b .before .enum-told .given .1, value-is, ← b .hash .ensures, c .before .h .given .1) refl
 
 returns-6 : tie.Need-returns-6
-returns-6 c = rw (c .before .before .before .before .enum-told3 .given .1, value-is, ← c .before .before .before .string .ensures, c .before .p .given .1) refl
+returns-6 c =
+    let b = c .before .before .before in
+    rw (b .before .enum-told3 .given .1, value-is, ← b .string .ensures, c .before .p .given .1) refl
 
 returns-7 : tie.Need-returns-7
-returns-7 c = rw (c .before .before .before .before .enum-told5 .given .1, value-is, ← c .before .before .before .dword .ensures, c .before .d .given .1) refl
+returns-7 c =
+    let b = c .before .before .before in
+    rw (b .before .enum-told5 .given .1, value-is, ← b .dword .ensures, c .before .d .given .1) refl
 
 returns-8 : tie.Need-returns-8
-returns-8 c = rw (c .before .before .before .before .enum-told7 .given .1, value-is, ← c .before .before .before .dword2 .ensures, c .before .d2 .given .1) refl
+returns-8 c =
+    let b = c .before .before .before in
+    rw (b .before .enum-told7 .given .1, value-is, ← b .dword2 .ensures, c .before .d2 .given .1) refl
 
 pub read-value-spec : {M : Type 1} → statement M
 read-value-spec =

@@ -1,0 +1,26 @@
+use mathlib.Core.Path.{refl}
+use borrow.Author.Needs.{needs}
+use Rattle.query.proofs.read_keyword.Statement.{statement}
+use Rattle.query.proofs.read_keyword.Tie as tie
+
+string-requires : tie.Need-string-requires
+string-requires c κs = search needs
+
+enum-known-t : tie.Need-enum-known-t
+enum-known-t c = search needs
+
+enum-told : tie.Need-enum-told
+enum-told c = search needs
+
+fault-requires : tie.Need-fault-requires
+fault-requires c κs = search needs
+
+returns : tie.Need-returns
+returns c = rw (c .fault .ensures, ← c .before .before .before .string .ensures, c .before .enum-told .given .1) refl
+
+returns-2 : tie.Need-returns-2
+returns-2 c = rw (← c .before .before .before .string .ensures, c .before .t .given .1) refl
+
+pub read-keyword-spec : {M : Type 1} → statement M
+read-keyword-spec =
+    tie.close (tie.spec string-requires enum-known-t enum-told fault-requires returns returns-2)

@@ -1,0 +1,341 @@
+// Search queries: the nodes of a query one by one, a whole query by its place, and the lone query.
+//
+// A query is a leaf (a keyword, a field or a limit), or a join: an operator and two queries, its sides. None of this is copied: a
+// query is answered as the place where it lies, with its depth, and a caller that wants its parts reads the node at that place.
+//
+// specs/Nodes.antt takes a query apart in the format's terms, specs/Meaning.antt says what each answer stands for.
+ghost use mathlib.Core.Path.{_≡_};
+ghost use mathlib.Core.Logic.{_↔_};
+ghost use Prim.Native.Nat.{max};
+ghost use Rattle.format.specs.Messages as messages;
+ghost use Rattle.format.specs.Layout.{encodeQuery};
+ghost use Rattle.format.specs.Rules.{Valid};
+ghost use Rattle.format.specs.Decoding.{message, reply};
+ghost use Rattle.format.specs.Order.{decodeCode, operators, bounds, isJoin, isKeyword, isField, isLimit, decodeQueryIn, decodeQuery};
+ghost use Rattle.format.specs.MetOrder.{decode};
+ghost use Rattle.query.specs.Nodes.{decodeNodeOf, decodeNode, depths, decodeDeeper};
+ghost use Rattle.query.specs.Meaning.{operatorMeaning, boundMeaning, nodeMeaning, depthMeaning, queryMeaning, queryReply};
+ghost use Rattle.query.specs.Meaning.{operatorFault, boundFault, nodeFault, depthFault, queryFault};
+ghost use Rattle.query.specs.Meaning.{QueryStepPlaced, QueryAnswerPlaced};
+use wire::ByteStep;
+use wire::Cursor;
+use wire::DwordStep;
+use wire::Fault;
+use wire::Place;
+use wire::PlaceStep;
+use wire::Rule;
+
+pub enum Operator {
+    And,
+    Or,
+    AndNot,
+}
+
+// The papers' min and max.
+pub enum Bound {
+    AtLeast,
+    AtMost,
+}
+
+// The first byte of a query and what stands behind it. The two sides of a join are queries of their own: they follow.
+pub enum Node {
+    Join(Operator),
+    Keyword(Place),
+    Field(Place, Place),
+    Limit(u32, Bound, Place),
+}
+
+// The place of a query in the lent bytes, and its depth: 1 for a leaf, one more than its deeper side for a join.
+pub struct Query {
+    pub at: usize,
+    pub end: usize,
+    pub depth: usize,
+}
+
+pub enum OperatorStep {
+    Got(Operator, Cursor),
+    Refused(Fault),
+}
+
+pub enum BoundStep {
+    Got(Bound, Cursor),
+    Refused(Fault),
+}
+
+pub enum NodeStep {
+    Got(Node, Cursor),
+    Refused(Fault),
+}
+
+// The depth of a query that was read over, and the cursor behind it.
+pub enum DepthStep {
+    Got(usize, Cursor),
+    Refused(Fault),
+}
+
+pub enum QueryStep {
+    Got(Query, Cursor),
+    Refused(Fault),
+}
+
+// The answer for a whole input: the query, or the number of the refusal.
+pub enum QueryAnswer {
+    Accepted(Query),
+    Refused(u8),
+}
+
+impl OperatorStep {
+    // The fault of a refusal.
+    pub fn fault(self) -> Fault
+        ensures { λ r. ⌜ r ≡ operatorFault self ⌝ }
+    {
+        match self {
+            OperatorStep::Got(_, _) => wire::no_fault(),
+            OperatorStep::Refused(f) => f,
+        }
+    }
+}
+
+impl BoundStep {
+    pub fn fault(self) -> Fault
+        ensures { λ r. ⌜ r ≡ boundFault self ⌝ }
+    {
+        match self {
+            BoundStep::Got(_, _) => wire::no_fault(),
+            BoundStep::Refused(f) => f,
+        }
+    }
+}
+
+impl NodeStep {
+    pub fn fault(self) -> Fault
+        ensures { λ r. ⌜ r ≡ nodeFault self ⌝ }
+    {
+        match self {
+            NodeStep::Got(_, _) => wire::no_fault(),
+            NodeStep::Refused(f) => f,
+        }
+    }
+}
+
+impl DepthStep {
+    pub fn fault(self) -> Fault
+        ensures { λ r. ⌜ r ≡ depthFault self ⌝ }
+    {
+        match self {
+            DepthStep::Got(_, _) => wire::no_fault(),
+            DepthStep::Refused(f) => f,
+        }
+    }
+}
+
+impl QueryStep {
+    pub fn fault(self) -> Fault
+        ensures { λ r. ⌜ r ≡ queryFault self ⌝ }
+    {
+        match self {
+            QueryStep::Got(_, _) => wire::no_fault(),
+            QueryStep::Refused(f) => f,
+        }
+    }
+}
+
+pub fn read_operator(s: &[u8], c: Cursor) -> OperatorStep
+    ensures { λ r. ⌜ operatorMeaning r ≡ decodeCode operators (now (s .entry)) (c .at) ⌝ }
+{
+    let b = c.byte(s);
+    let ByteStep::Got(code, next) = b else {
+        return OperatorStep::Refused(b.fault());
+    };
+    match code {
+        0 => OperatorStep::Got(Operator::And, next),
+        1 => OperatorStep::Got(Operator::Or, next),
+        2 => OperatorStep::Got(Operator::AndNot, next),
+        _ => OperatorStep::Refused(Fault {
+            rule: Rule::Choice,
+            at: c.at,
+            size: 1,
+        }),
+    }
+}
+
+pub fn read_bound(s: &[u8], c: Cursor) -> BoundStep
+    ensures { λ r. ⌜ boundMeaning r ≡ decodeCode bounds (now (s .entry)) (c .at) ⌝ }
+{
+    let b = c.byte(s);
+    let ByteStep::Got(code, next) = b else {
+        return BoundStep::Refused(b.fault());
+    };
+    match code {
+        1 => BoundStep::Got(Bound::AtLeast, next),
+        2 => BoundStep::Got(Bound::AtMost, next),
+        _ => BoundStep::Refused(Fault {
+            rule: Rule::Choice,
+            at: c.at,
+            size: 1,
+        }),
+    }
+}
+
+// What stands behind the first byte of each case of a query.
+
+fn read_join(s: &[u8], c: Cursor) -> NodeStep
+    ensures { λ r. ⌜ nodeMeaning (now (s .entry)) r ≡ decodeNodeOf isJoin (now (s .entry)) (c .at) ⌝ }
+{
+    let o = read_operator(s, c);
+    let OperatorStep::Got(operator, next) = o else {
+        return NodeStep::Refused(o.fault());
+    };
+    NodeStep::Got(Node::Join(operator), next)
+}
+
+fn read_keyword(s: &[u8], c: Cursor) -> NodeStep
+    ensures { λ r. ⌜ nodeMeaning (now (s .entry)) r ≡ decodeNodeOf isKeyword (now (s .entry)) (c .at) ⌝ }
+{
+    let t = c.string(s);
+    let PlaceStep::Got(text, next) = t else {
+        return NodeStep::Refused(t.fault());
+    };
+    NodeStep::Got(Node::Keyword(text), next)
+}
+
+fn read_field(s: &[u8], c: Cursor) -> NodeStep
+    ensures { λ r. ⌜ nodeMeaning (now (s .entry)) r ≡ decodeNodeOf isField (now (s .entry)) (c .at) ⌝ }
+{
+    let t = c.string(s);
+    let PlaceStep::Got(text, after_text) = t else {
+        return NodeStep::Refused(t.fault());
+    };
+    let n = after_text.name(s);
+    let PlaceStep::Got(name, next) = n else {
+        return NodeStep::Refused(n.fault());
+    };
+    NodeStep::Got(Node::Field(text, name), next)
+}
+
+fn read_limit(s: &[u8], c: Cursor) -> NodeStep
+    ensures { λ r. ⌜ nodeMeaning (now (s .entry)) r ≡ decodeNodeOf isLimit (now (s .entry)) (c .at) ⌝ }
+{
+    let d = c.dword(s);
+    let DwordStep::Got(value, after_value) = d else {
+        return NodeStep::Refused(d.fault());
+    };
+    let b = read_bound(s, after_value);
+    let BoundStep::Got(bound, after_bound) = b else {
+        return NodeStep::Refused(b.fault());
+    };
+    let n = after_bound.name(s);
+    let PlaceStep::Got(name, next) = n else {
+        return NodeStep::Refused(n.fault());
+    };
+    NodeStep::Got(Node::Limit(value, bound, name), next)
+}
+
+// The node at the cursor. Behind a join stand its two sides, behind a leaf nothing of the query.
+pub fn read_node(s: &[u8], c: Cursor) -> NodeStep
+    ensures { λ r. ⌜ nodeMeaning (now (s .entry)) r ≡ decodeNode (now (s .entry)) (c .at) ⌝ }
+{
+    let b = c.byte(s);
+    let ByteStep::Got(code, next) = b else {
+        return NodeStep::Refused(b.fault());
+    };
+    match code {
+        0 => read_join(s, next),
+        1 => read_keyword(s, next),
+        2 => read_field(s, next),
+        3 => read_limit(s, next),
+        _ => NodeStep::Refused(Fault {
+            rule: Rule::Choice,
+            at: c.at,
+            size: 1,
+        }),
+    }
+}
+
+fn larger(m: usize, n: usize) -> usize
+    ensures { λ r. ⌜ r ≡ max m n ⌝ }
+{
+    if m < n { n } else { m }
+}
+
+// A query of at most `left` depth. One that would begin below that is refused before its first byte is looked at.
+pub fn read_query_in(s: &[u8], c: Cursor, left: usize) -> DepthStep
+    ensures { λ r. ⌜ depthMeaning r ≡ depths (decodeQueryIn left (now (s .entry)) (c .at)) ⌝ }
+{
+    if left == 0 {
+        return DepthStep::Refused(Fault {
+            rule: Rule::DepthCeiling,
+            at: c.at,
+            size: 0,
+        });
+    }
+    let n = read_node(s, c);
+    let NodeStep::Got(node, next) = n else {
+        return DepthStep::Refused(n.fault());
+    };
+    match node {
+        Node::Join(_) => {
+            let d = read_operator_sides(s, next, left - 1);
+            let DepthStep::Got(deeper, end) = d else {
+                return DepthStep::Refused(d.fault());
+            };
+            let depth = deeper + 1;
+            DepthStep::Got(depth, end)
+        }
+        Node::Keyword(_) => DepthStep::Got(1, next),
+        Node::Field(_, _) => DepthStep::Got(1, next),
+        Node::Limit(_, _, _) => DepthStep::Got(1, next),
+    }
+}
+
+// The two queries behind an operator, each of at most `left` depth: the depth of the deeper one, and the cursor behind both.
+fn read_operator_sides(s: &[u8], c: Cursor, left: usize) -> DepthStep
+    ensures { λ r. ⌜ depthMeaning r ≡ decodeDeeper left (now (s .entry)) (c .at) ⌝ }
+{
+    let a = read_query_in(s, c, left);
+    let DepthStep::Got(m, middle) = a else {
+        return DepthStep::Refused(a.fault());
+    };
+    let b = read_query_in(s, middle, left);
+    let DepthStep::Got(n, end) = b else {
+        return DepthStep::Refused(b.fault());
+    };
+    let deeper = larger(m, n);
+    DepthStep::Got(deeper, end)
+}
+
+// A query of a packet or a lone one: its depth is at most 24.
+pub fn read_query(s: &[u8], c: Cursor) -> QueryStep
+    ensures meaning { λ r. ⌜ queryMeaning (now (s .entry)) r ≡ decodeQuery (now (s .entry)) (c .at) ⌝ }
+    ensures placed { λ r. ⌜ QueryStepPlaced (now (s .entry)) r ⌝ }
+{
+    let d = read_query_in(s, c, 24);
+    let DepthStep::Got(depth, next) = d else {
+        return QueryStep::Refused(d.fault());
+    };
+    let at = c.at;
+    let end = next.at;
+    QueryStep::Got(Query { at, end, depth }, next)
+}
+
+// The lent bytes as one query: the byte ceiling first, then the query, then that nothing is left.
+pub fn read_lone_query(s: &[u8]) -> QueryAnswer
+    ensures meaning { λ r. ⌜ queryReply (now (s .entry)) r ≡ reply (decode messages.loneQuery (now (s .entry))) ⌝ }
+    ensures placed { λ r. ⌜ QueryAnswerPlaced (now (s .entry)) r ⌝ }
+    ensures demand3 { λ r. ⌜ ((m : messages.Query) →
+        (queryReply (now (s .entry)) r ≡ message m) ↔ ((now (s .entry) ≡ encodeQuery m) × Valid messages.loneQuery m)) ⌝ }
+{
+    if 65536 < s.len() {
+        return QueryAnswer::Refused(wire::number(Rule::BytesCeiling));
+    }
+    let q = read_query(s, Cursor { at: 0 });
+    let QueryStep::Got(query, next) = q else {
+        let f = q.fault();
+        let rule = f.rule;
+        return QueryAnswer::Refused(wire::number(rule));
+    };
+    if next.at == s.len() {
+        return QueryAnswer::Accepted(query);
+    }
+    QueryAnswer::Refused(wire::number(Rule::Rest))
+}

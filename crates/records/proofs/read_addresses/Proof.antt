@@ -1,0 +1,46 @@
+use mathlib.Core.Path.{refl}
+use Rattle.format.specs.Order.{decodeCounted}
+use borrow.Author.Needs.{needs}
+use Rattle.records.proofs.read_addresses.Statement.{statement}
+use Rattle.records.proofs.read_addresses.Tie as tie
+
+byte-requires : tie.Need-byte-requires
+byte-requires c κs = search needs
+
+enum-known-b : tie.Need-enum-known-b
+enum-known-b c = search needs
+
+enum-told : tie.Need-enum-told
+enum-told c = search needs
+
+fault-requires : tie.Need-fault-requires
+fault-requires c κs = search needs
+
+returns : tie.Need-returns
+unfolding decodeCounted
+returns c = (rw (c .fault .ensures, ← c .before .before .before .byte .ensures, c .before .enum-told .given .1) refl, tt)
+
+cast-addresses-from : tie.Need-cast-addresses-from
+cast-addresses-from c = search needs
+
+addresses-from-requires : tie.Need-addresses-from-requires
+addresses-from-requires c κs = search needs
+
+returns-2 : tie.Need-returns-2
+unfolding decodeCounted
+returns-2 c =
+    let b = c .before .before in
+    (rw (← b .before .before .byte .ensures, b .b .given .1) (c .addresses-from .ensures .0), c .addresses-from .ensures .1)
+
+pub read-addresses-spec : {M : Type 1} → statement M
+read-addresses-spec =
+    tie.close
+    (tie.spec
+    byte-requires
+    enum-known-b
+    enum-told
+    fault-requires
+    returns
+    cast-addresses-from
+    addresses-from-requires
+    returns-2)

@@ -1,0 +1,46 @@
+use mathlib.Core.Path.{refl}
+use Rattle.format.specs.Order.{decodeCounted}
+use borrow.Author.Needs.{needs}
+use Rattle.records.proofs.read_hashes.Statement.{statement}
+use Rattle.records.proofs.read_hashes.Tie as tie
+
+word-requires : tie.Need-word-requires
+word-requires c κs = search needs
+
+enum-known-w : tie.Need-enum-known-w
+enum-known-w c = search needs
+
+enum-told : tie.Need-enum-told
+enum-told c = search needs
+
+fault-requires : tie.Need-fault-requires
+fault-requires c κs = search needs
+
+returns : tie.Need-returns
+unfolding decodeCounted
+returns c = (rw (c .fault .ensures, ← c .before .before .before .word .ensures, c .before .enum-told .given .1) refl, tt)
+
+cast-hashes-from : tie.Need-cast-hashes-from
+cast-hashes-from c = search needs
+
+hashes-from-requires : tie.Need-hashes-from-requires
+hashes-from-requires c κs = search needs
+
+returns-2 : tie.Need-returns-2
+unfolding decodeCounted
+returns-2 c =
+    let w = c .before .before in
+    (rw (← w .before .before .word .ensures, w .w .given .1) (c .hashes-from .ensures .0), c .hashes-from .ensures .1)
+
+pub read-hashes-spec : {M : Type 1} → statement M
+read-hashes-spec =
+    tie.close
+    (tie.spec
+    word-requires
+    enum-known-w
+    enum-told
+    fault-requires
+    returns
+    cast-hashes-from
+    hashes-from-requires
+    returns-2)

@@ -1,0 +1,158 @@
+use mathlib.Core.Path.{refl}
+use Rattle.format.specs.Order.{decodeRecord}
+use borrow.Author.Needs.{needs}
+use Rattle.records.proofs.read_record.Statement.{statement}
+use Rattle.records.proofs.read_record.Tie as tie
+
+hash-requires : tie.Need-hash-requires
+hash-requires c κs = search needs
+
+enum-known-h : tie.Need-enum-known-h
+enum-known-h c = search needs
+
+enum-told : tie.Need-enum-told
+enum-told c = search needs
+
+fault-requires : tie.Need-fault-requires
+fault-requires c κs = search needs
+
+returns : tie.Need-returns
+unfolding decodeRecord
+returns c = (rw (c .fault .ensures, ← c .before .before .before .hash .ensures, c .before .enum-told .given .1) refl, tt)
+
+dword-requires : tie.Need-dword-requires
+dword-requires c κs = search needs
+
+enum-known-d : tie.Need-enum-known-d
+enum-known-d c = search needs
+
+enum-told-2 : tie.Need-enum-told-2
+enum-told-2 c = search needs
+
+fault-requires-2 : tie.Need-fault-requires-2
+fault-requires-2 c κs = search needs
+
+returns-2 : tie.Need-returns-2
+unfolding decodeRecord
+returns-2 c =
+    let h = c .before .before .before .before .before in (
+      rw (
+        c .fault2 .ensures,
+        ← h .before .before .hash .ensures,
+        h .h .given .1,
+        ← c .before .before .before .dword .ensures,
+        c .before .enum-told2 .given .1,
+      )
+          refl,
+      tt,
+    )
+
+word-requires : tie.Need-word-requires
+word-requires c κs = search needs
+
+enum-known-w : tie.Need-enum-known-w
+enum-known-w c = search needs
+
+enum-told-3 : tie.Need-enum-told-3
+enum-told-3 c = search needs
+
+fault-requires-3 : tie.Need-fault-requires-3
+fault-requires-3 c κs = search needs
+
+returns-3 : tie.Need-returns-3
+unfolding decodeRecord
+returns-3 c =
+    let d = c .before .before .before .before .before in
+    let h = d .before .before .before .before in (
+      rw (
+        c .fault3 .ensures,
+        ← h .before .before .hash .ensures,
+        h .h .given .1,
+        ← d .before .before .dword .ensures,
+        d .d .given .1,
+        ← c .before .before .before .word .ensures,
+        c .before .enum-told3 .given .1,
+      )
+          refl,
+      tt,
+    )
+
+read-tags-requires : tie.Need-read-tags-requires
+read-tags-requires c κs = search needs
+
+enum-known-t : tie.Need-enum-known-t
+enum-known-t c = search needs
+
+enum-told-4 : tie.Need-enum-told-4
+enum-told-4 c = search needs
+
+fault-requires-4 : tie.Need-fault-requires-4
+fault-requires-4 c κs = search needs
+
+returns-4 : tie.Need-returns-4
+unfolding decodeRecord
+returns-4 c =
+    let w = c .before .before .before .before .before in
+    let d = w .before .before .before .before in
+    let h = d .before .before .before .before in (
+      rw (
+        c .fault4 .ensures,
+        ← h .before .before .hash .ensures,
+        h .h .given .1,
+        ← d .before .before .dword .ensures,
+        d .d .given .1,
+        ← w .before .before .word .ensures,
+        w .w .given .1,
+        ← c .before .before .before .read-tags .ensures .0,
+        c .before .enum-told4 .given .1,
+      )
+          refl,
+      tt,
+    )
+
+returns-5 : tie.Need-returns-5
+unfolding decodeRecord
+returns-5 c =
+    let t = c .before in
+    let w = t .before .before .before .before in
+    let d = w .before .before .before .before in
+    let h = d .before .before .before .before in (
+      rw (
+        ← h .before .before .hash .ensures,
+        h .h .given .1,
+        ← d .before .before .dword .ensures,
+        d .d .given .1,
+        ← w .before .before .word .ensures,
+        w .w .given .1,
+        ← t .before .before .read-tags .ensures .0,
+        t .t .given .1,
+      )
+          refl,
+      rw (t .t .given .1) at (t .before .before .read-tags .ensures .1),
+    )
+
+pub read-record-spec : {M : Type 1} → statement M
+read-record-spec =
+    tie.close
+    (tie.spec
+    hash-requires
+    enum-known-h
+    enum-told
+    fault-requires
+    returns
+    dword-requires
+    enum-known-d
+    enum-told-2
+    fault-requires-2
+    returns-2
+    word-requires
+    enum-known-w
+    enum-told-3
+    fault-requires-3
+    returns-3
+    read-tags-requires
+    enum-known-t
+    enum-told-4
+    fault-requires-4
+    returns-4
+    returns-5)

@@ -1,0 +1,65 @@
+use Prim.Native.Nat.{_-_}
+use Rattle.format.specs.Order.{decodeRecord}
+use borrow.Author.Needs.{needs}
+use Rattle.records.proofs.Loops.{ReadUpTo, begins, goes-on, refuses, finishes}
+use Rattle.records.proofs.records_from.Statement.{statement}
+use Rattle.records.proofs.records_from.Tie as tie
+
+abbrev Inv-loop : tie.InvT-loop
+Inv-loop s first n next₀ i₀ next i = ReadUpTo decodeRecord s (first .at) n i (next .at)
+
+abbrev μ-loop : tie.MeasureT-loop
+μ-loop s first n next₀ i₀ next i = n - i
+
+loop-holds : tie.Need-loop-holds Inv-loop μ-loop
+loop-holds c = begins decodeRecord _ _ _
+
+read-record-requires : tie.Need-read-record-requires Inv-loop μ-loop
+read-record-requires c κs = search needs
+
+enum-known-r : tie.Need-enum-known-r Inv-loop μ-loop
+enum-known-r c = search needs
+
+enum-told : tie.Need-enum-told Inv-loop μ-loop
+enum-told c = search needs
+
+fault-requires : tie.Need-fault-requires Inv-loop μ-loop
+fault-requires c κs = search needs
+
+returns : tie.Need-returns Inv-loop μ-loop
+returns c =
+    let told = c .before .enum-told .given .1 in
+    let l = c .before .before .before .before in
+    rw (c .fault .ensures, told)
+    (refuses decodeRecord _ _ _ _ _ (l .loop-test .taken) (l .before .loop .inv) (rw told at (c .before .before .before .read-record .ensures .0)))
+
+add-i : tie.Need-add-i Inv-loop μ-loop
+add-i c = search needs
+
+loop-less : tie.Need-loop-less Inv-loop μ-loop
+loop-less c = search needs
+
+loop-again : tie.Need-loop-again Inv-loop μ-loop
+loop-again c =
+    let l = c .before .before .before .before in
+    goes-on decodeRecord _ _ _ _ _ (l .loop-test .taken) (l .before .loop .inv) (rw (c .before .r .given .1) at (c .before .before .before .read-record .ensures .0))
+
+returns-2 : tie.Need-returns-2 Inv-loop μ-loop
+returns-2 c = finishes decodeRecord _ _ _ _ _ (c .loop-test .left) (c .before .loop .inv)
+
+pub records-from-spec : {M : Type 1} → statement M
+records-from-spec =
+    tie.close
+    (tie.spec
+    Inv-loop
+    μ-loop
+    loop-holds
+    read-record-requires
+    enum-known-r
+    enum-told
+    fault-requires
+    returns
+    add-i
+    loop-less
+    loop-again
+    returns-2)
