@@ -1,5 +1,5 @@
 -- A query, taken apart: its first node, and the two sides that follow if the node is a join.
-use mathlib.Core.List.{List, []}
+use mathlib.Core.List.{List}
 use Prim.Native.Nat.{ℕ, max}
 use Rattle.format.specs.Messages as messages
 use Rattle.format.specs.Messages.{Operator, Bound, Query}

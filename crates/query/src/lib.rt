@@ -258,7 +258,9 @@ fn larger(m: usize, n: usize) -> usize
     if m < n { n } else { m }
 }
 
-// A query of at most `left` depth. One that would begin below that is refused before its first byte is looked at.
+// A query of at most `left` depth: its own depth, and the cursor behind it. One that would begin below `left` is refused before its
+// first byte is looked at. A query calls for its operator's sides with one less left, an operator for two queries, one behind the
+// other, so every byte is read once and the calls are at most as deep as `left`, whatever the bytes are.
 pub fn read_query_in(s: &[u8], c: Cursor, left: usize) -> DepthStep
     ensures { λ r. ⌜ depthMeaning r ≡ depths (decodeQueryIn left (now (s .entry)) (c .at)) ⌝ }
 {
@@ -304,7 +306,7 @@ fn read_operator_sides(s: &[u8], c: Cursor, left: usize) -> DepthStep
     DepthStep::Got(deeper, end)
 }
 
-// A query of a packet or a lone one: its depth is at most 24.
+// A query as packets hold it, of depth 24 at most.
 pub fn read_query(s: &[u8], c: Cursor) -> QueryStep
     ensures meaning { λ r. ⌜ queryMeaning (now (s .entry)) r ≡ decodeQuery (now (s .entry)) (c .at) ⌝ }
     ensures placed { λ r. ⌜ QueryStepPlaced (now (s .entry)) r ⌝ }
@@ -318,7 +320,8 @@ pub fn read_query(s: &[u8], c: Cursor) -> QueryStep
     QueryStep::Got(Query { at, end, depth }, next)
 }
 
-// The lent bytes as one query: the byte ceiling first, then the query, then that nothing is left.
+// The lent bytes as one query: the byte ceiling first, then the query, then that nothing is left behind it. `demand3` says that
+// exactly the bytes of a valid query are accepted, and that it is that query.
 pub fn read_lone_query(s: &[u8]) -> QueryAnswer
     ensures meaning { λ r. ⌜ queryReply (now (s .entry)) r ≡ reply (decode messages.loneQuery (now (s .entry))) ⌝ }
     ensures placed { λ r. ⌜ QueryAnswerPlaced (now (s .entry)) r ⌝ }

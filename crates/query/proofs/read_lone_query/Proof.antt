@@ -1,7 +1,8 @@
 use mathlib.Core.Path.{refl}
 use borrow.Author.Tests.{lt-leb, le-leb, eq-eqb, ne-eqb}
+use Rattle.format.specs.Messages.{loneQuery}
 use Rattle.format.specs.MetOrder.{decode}
-use Rattle.query.proofs.Lone.{lone-reply}
+use Rattle.wire.proofs.Replies.{exact-placed}
 use borrow.Author.Needs.{needs}
 use Rattle.query.proofs.read_lone_query.Statement.{statement}
 use Rattle.query.proofs.read_lone_query.Tie as tie
@@ -11,7 +12,7 @@ number-requires c κs = search needs
 
 returns : tie.Need-returns
 unfolding decode
-returns c = lone-reply (c .before .before .shared-slice-known .given) (rw (c .number .ensures, lt-leb _ _ (c .before .if1 .taken)) refl) tt
+returns c = exact-placed loneQuery _ (c .before .before .shared-slice-known .given) (rw (c .number .ensures, lt-leb _ _ (c .before .if1 .taken)) refl) tt
 
 read-query-requires : tie.Need-read-query-requires
 read-query-requires c κs = search needs
@@ -32,7 +33,7 @@ returns-2 : tie.Need-returns-2
 unfolding decode
 returns-2 c =
     let b = c .before .before .before .before in
-    lone-reply (b .before .before .shared-slice-known .given)
+    exact-placed loneQuery _ (b .before .before .shared-slice-known .given)
     (rw (c .number2 .ensures, c .before .fault .ensures, le-leb _ _ (b .before .if1 .left))
     (rw (← b .read-query .ensures .0, c .before .before .enum-told .given .1) refl))
     tt
@@ -41,7 +42,7 @@ returns-3 : tie.Need-returns-3
 unfolding decode
 returns-3 c =
     let b = c .before .before .before in
-    lone-reply (b .before .before .before .before .shared-slice-known .given)
+    exact-placed loneQuery _ (b .before .before .before .before .shared-slice-known .given)
     (rw (le-leb _ _ (b .before .before .before .if1 .left), ← b .before .before .read-query .ensures .0, b .q .given .1, eq-eqb _ _ (c .if2 .taken)) refl)
     (rw (b .q .given .1) at (b .before .before .read-query .ensures .1))
 
@@ -52,7 +53,7 @@ returns-4 : tie.Need-returns-4
 unfolding decode
 returns-4 c =
     let b = c .before .before .before .before in
-    lone-reply (b .before .before .before .before .shared-slice-known .given)
+    exact-placed loneQuery _ (b .before .before .before .before .shared-slice-known .given)
     (rw (c .number3 .ensures, le-leb _ _ (b .before .before .before .if1 .left))
     (rw (← b .before .before .read-query .ensures .0, b .q .given .1, ne-eqb _ _ (c .before .if2 .left)) refl))
     tt

@@ -1,6 +1,5 @@
-use mathlib.Core.Path.{_≡_, refl, sym}
+use mathlib.Core.Path.{sym}
 use Rattle.format.specs.Order.{decodeQuery}
-use Rattle.query.specs.Nodes.{depths}
 use Rattle.query.proofs.Depths.{depths-query, depths-refused}
 use borrow.Author.Needs.{needs}
 use Rattle.query.proofs.read_query.Statement.{statement}
