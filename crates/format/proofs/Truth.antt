@@ -33,6 +33,7 @@ module _ {A : Type 0} {p : A → Bool} {P : A → Type 0} (each : (a : A) → Ex
       there : (p a ≡ true) ⊎ (some p l ≡ true) → Exactly (some p l) (Some P l) → P a ⊎ Some P l
       there (inl e) r = inl (each a .0 e)
       there (inr e) r = inr (r .0 e)
+
       back : P a ⊎ Some P l → Exactly (some p l) (Some P l) → pick (p a) true (some p l) ≡ true
       back (inl h) r = rw (each a .1 h)
       back (inr h) r = either-test (p a) (λ e. rw e) (λ e. rw e (r .1 h))
@@ -42,22 +43,24 @@ prefix-exactly : (t s : List ℕ) → Exactly (prefix t s) ((after : List ℕ) �
 unfolding prefix
 prefix-exactly [] s = (λ e. (s, refl), λ h. refl)
 prefix-exactly (a ∷ t) [] = (λ e. absurd (no-true e), λ h. let e = h .1 in let z : _≡_ {A = ℕ} 0 1 = cc in absurd (omega arith))
-prefix-exactly (a ∷ t) (b ∷ s) =
-    ( λ e.
-        let x = both-true (eqb a b) (prefix t s) e in
-        let y = prefix-exactly t s .0 (x .1) in
-        (y .0, ap₂ (λ b s. b ∷ s) (sym (eqb-true a b (x .0))) (y .1))
-    , λ h.
-        let e = h .1 in
-        let q : a ≡ b = cc in
-        let r : s ≡ t ++ h .0 = cc in
-        rw (eq-eqb a b q, prefix-exactly t s .1 (h .0, r)))
+prefix-exactly (a ∷ t) (b ∷ s) = (
+  λ e.
+      let x = both-true (eqb a b) (prefix t s) e in
+      let y = prefix-exactly t s .0 (x .1) in
+      (y .0, ap₂ (λ b s. b ∷ s) (sym (eqb-true a b (x .0))) (y .1)),
+  λ h.
+      let e = h .1 in
+      let q : a ≡ b = cc in
+      let r : s ≡ t ++ h .0 = cc in
+      rw (eq-eqb a b q, prefix-exactly t s .1 (h .0, r)),
+)
 
 occurs-exactly : (t s : List ℕ) → Exactly (occurs t s) (Occurs t s)
 unfolding occurs
-occurs-exactly t [] =
-    ( λ e. let x = prefix-exactly t [] .0 e in record { before = []; after = x .0; here = x .1 }
-    , λ h. prefix-exactly t [] .1 (h .after, none (h .before) (h .here)))
+occurs-exactly t [] = (
+  λ e. let x = prefix-exactly t [] .0 e in record { before = []; after = x .0; here = x .1 },
+  λ h. prefix-exactly t [] .1 (h .after, none (h .before) (h .here)),
+)
   where
     none : (before : List ℕ) {l : List ℕ} → [] ≡ before ++ l → [] ≡ l
     none [] e = e
@@ -67,6 +70,7 @@ occurs-exactly t (b ∷ s) = (λ e. there (either-true (prefix t (b ∷ s)) (occ
     there : (prefix t (b ∷ s) ≡ true) ⊎ (occurs t s ≡ true) → Exactly (occurs t s) (Occurs t s) → Occurs t (b ∷ s)
     there (inl e) r = let x = prefix-exactly t (b ∷ s) .0 e in record { before = []; after = x .0; here = x .1 }
     there (inr e) r = let x = r .0 e in record { before = b ∷ x .before; after = x .after; here = ap (λ s. b ∷ s) (x .here) }
+
     back : (before after : List ℕ) → b ∷ s ≡ before ++ (t ++ after) → Exactly (occurs t s) (Occurs t s) → pick (prefix t (b ∷ s)) true (occurs t s) ≡ true
     back [] after e r = rw (prefix-exactly t (b ∷ s) .1 (after, e))
     back (a ∷ before) after e r =
@@ -87,11 +91,12 @@ module _ {p : List ℕ → Bool} {P : List ℕ → Type 0} (each : (v : List ℕ
 
   string-exactly : (t : Tag) → Exactly (stringTag name p t) (StringTag name P t)
   unfolding stringTag
-  string-exactly t =
-      ( λ e.
-          let x = both-true (same (t .name) name) (onString p (t .value .0) (t .value .1)) e in
-          on-string (t .name) (same-true (t .name) name (x .0)) (t .value .0) (t .value .1) (x .1)
-      , λ h. ap (λ t. pick (same (t .name) name) (onString p (t .value .0) (t .value .1)) false) (h .1 .0) ∙ rw (same-refl name) (each (h .0) .1 (h .1 .1)))
+  string-exactly t = (
+    λ e.
+        let x = both-true (same (t .name) name) (onString p (t .value .0) (t .value .1)) e in
+        on-string (t .name) (same-true (t .name) name (x .0)) (t .value .0) (t .value .1) (x .1),
+    λ h. ap (λ t. pick (same (t .name) name) (onString p (t .value .0) (t .value .1)) false) (h .1 .0) ∙ rw (same-refl name) (each (h .0) .1 (h .1 .1)),
+  )
 
 module _ {p : ℕ → Bool} {P : ℕ → Type 0} (each : (v : ℕ) → Exactly (p v) (P v)) (name : List ℕ) where
   on-dword : (n : List ℕ) → n ≡ name → (t : TagType) (v : TagValue t) → onDword p t v ≡ true → DwordTag name P (record { name = n; value = (t, v) })
@@ -102,11 +107,12 @@ module _ {p : ℕ → Bool} {P : ℕ → Type 0} (each : (v : ℕ) → Exactly (
 
   dword-exactly : (t : Tag) → Exactly (dwordTag name p t) (DwordTag name P t)
   unfolding dwordTag
-  dword-exactly t =
-      ( λ e.
-          let x = both-true (same (t .name) name) (onDword p (t .value .0) (t .value .1)) e in
-          on-dword (t .name) (same-true (t .name) name (x .0)) (t .value .0) (t .value .1) (x .1)
-      , λ h. ap (λ t. pick (same (t .name) name) (onDword p (t .value .0) (t .value .1)) false) (h .1 .0) ∙ rw (same-refl name) (each (h .0) .1 (h .1 .1)))
+  dword-exactly t = (
+    λ e.
+        let x = both-true (same (t .name) name) (onDword p (t .value .0) (t .value .1)) e in
+        on-dword (t .name) (same-true (t .name) name (x .0)) (t .value .0) (t .value .1) (x .1),
+    λ h. ap (λ t. pick (same (t .name) name) (onDword p (t .value .0) (t .value .1)) false) (h .1 .0) ∙ rw (same-refl name) (each (h .0) .1 (h .1 .1)),
+  )
 
 within-exactly : (b : Bound) (number n : ℕ) → Exactly (within b number n) (Within b number n)
 within-exactly atLeast number n = (leb-true number n, le-leb number n)
@@ -120,12 +126,14 @@ combine-exactly or a b {P} {Q} h k = (λ e. there (either-true a b e), back)
     there : (a ≡ true) ⊎ (b ≡ true) → P ⊎ Q
     there (inl e) = inl (h .0 e)
     there (inr e) = inr (k .0 e)
+
     back : P ⊎ Q → pick a true b ≡ true
     back (inl x) = rw (h .1 x)
     back (inr x) = either-test a (λ e. rw e) (λ e. rw e (k .1 x))
-combine-exactly andNot a b {P} {Q} h k =
-    ( λ e. let x = both-true a (pick b false true) e in (h .0 (x .0), λ q. no-true (ap (λ b. pick b false true) (sym (k .1 q)) ∙ x .1))
-    , λ x. rw (h .1 (x .0), false-of b (λ e. x .1 (k .0 e))))
+combine-exactly andNot a b {P} {Q} h k = (
+  λ e. let x = both-true a (pick b false true) e in (h .0 (x .0), λ q. no-true (ap (λ b. pick b false true) (sym (k .1 q)) ∙ x .1)),
+  λ x. rw (h .1 (x .0), false-of b (λ e. x .1 (k .0 e))),
+)
 
 -- The truth of a query.
 pub holds-exactly : (q : Query) (tags : List Tag) → Exactly (holds q tags) (Holds q tags)
