@@ -1,0 +1,57 @@
+use mathlib.Core.Path.{refl}
+use borrow.Author.Needs.{needs}
+use Rattle.format.specs.PacketOrder.{decodeOpcode}
+use Rattle.packets.proofs.read_opcode.Statement.{statement}
+use Rattle.packets.proofs.read_opcode.Tie as tie
+
+byte-requires : tie.Need-byte-requires
+byte-requires c κs = search needs
+
+enum-known-b : tie.Need-enum-known-b
+enum-known-b c = search needs
+
+enum-told : tie.Need-enum-told
+enum-told c = search needs
+
+fault-requires : tie.Need-fault-requires
+fault-requires c κs = search needs
+
+returns : tie.Need-returns
+unfolding decodeOpcode
+returns c = rw (c .fault .ensures, ← c .before .before .before .byte .ensures, c .before .enum-told .given .1) refl
+
+shape-of-requires : tie.Need-shape-of-requires
+shape-of-requires c κs = search needs
+
+enum-known-listed : tie.Need-enum-known-listed
+enum-known-listed c = search needs
+
+enum-told-2 : tie.Need-enum-told-2
+enum-told-2 c = search needs
+
+returns-2 : tie.Need-returns-2
+unfolding decodeOpcode
+returns-2 c =
+    let b = c .before .before .before .before in
+    rw (← b .before .before .byte .ensures, b .b .given .1, ← c .before .before .shape-of .ensures, c .enum-told2 .given .1) refl
+
+returns-3 : tie.Need-returns-3
+unfolding decodeOpcode
+returns-3 c =
+    let b = c .before .before .before .before .before in
+    rw (← b .before .before .byte .ensures, b .b .given .1, ← c .before .before .before .shape-of .ensures, c .before .listed .given .1) refl
+
+pub read-opcode-spec : {M : Type 1} → statement M
+read-opcode-spec =
+    tie.close
+    (tie.spec
+    byte-requires
+    enum-known-b
+    enum-told
+    fault-requires
+    returns
+    shape-of-requires
+    enum-known-listed
+    enum-told-2
+    returns-2
+    returns-3)

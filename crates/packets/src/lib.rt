@@ -1,0 +1,322 @@
+// Packets of the server link, the client link and UDP: every opcode that the scope paper lists.
+//
+// A packet is read in the paper's order: the byte ceiling, the opening byte, on TCP the header's length, the opcode, the
+// body's items from left to right, then the rest. A refusal holds its number and nothing of the input.
+ghost use mathlib.Core.Path.{_≡_};
+ghost use mathlib.Core.Logic.{_↔_};
+ghost use mathlib.Core.List.{[], _∷_};
+ghost use Rattle.format.specs.Tables.{lookup};
+ghost use Rattle.format.specs.Messages.{serverOpcodes, clientOpcodes, udpOpcodes};
+ghost use Rattle.format.specs.Messages as messages;
+ghost use Rattle.format.specs.Decoding.{message};
+ghost use Rattle.format.specs.PacketOrder.{decodeOpening, decodeLength, decodeOpcode, decodeTcp, decodeUdp};
+ghost use Rattle.wire.specs.Meaning.{byteMeaning, dwordMeaning};
+ghost use Rattle.packets.specs.Meaning.{opcodesOf, decodeLink, shapeMeaning, headMeaning, packetMeaning, PacketStepPlaced};
+ghost use Rattle.packets.specs.Meaning.{packetReply, PacketPlaced, linkReply, LinkAccepts};
+ghost use Rattle.packets.specs.Meaning.{headFault, packetFault};
+use bodies::Body;
+use bodies::BodyStep;
+use bodies::Shape;
+use bodies::read_body;
+use bodies::remaining;
+use wire::ByteStep;
+use wire::Cursor;
+use wire::DwordStep;
+use wire::Fault;
+use wire::Rule;
+use wire::no_fault;
+use wire::number;
+
+pub mod opcode;
+
+pub enum Link {
+    Server,
+    Client,
+    Udp,
+}
+
+pub struct Packet {
+    pub opening: u8,
+    pub opcode: u8,
+    pub body: Body,
+}
+
+// The shape of an opcode's body, if the link lists the opcode.
+pub enum Listed {
+    As(Shape),
+    Nowhere,
+}
+
+pub enum HeadStep {
+    Got(u8, Shape, Cursor),
+    Refused(Fault),
+}
+
+pub enum PacketStep {
+    Got(Packet, Cursor),
+    Refused(Fault),
+}
+
+// What a caller gets for the bytes of a packet: the packet, or the number of the refusal.
+pub enum PacketAnswer {
+    Accepted(Packet),
+    Refused(u8),
+}
+
+impl HeadStep {
+    pub fn fault(self) -> Fault
+        ensures { λ r. ⌜ r ≡ headFault self ⌝ }
+    {
+        match self {
+            HeadStep::Got(_, _, _) => no_fault(),
+            HeadStep::Refused(f) => f,
+        }
+    }
+}
+
+impl PacketStep {
+    pub fn fault(self) -> Fault
+        ensures { λ r. ⌜ r ≡ packetFault self ⌝ }
+    {
+        match self {
+            PacketStep::Got(_, _) => no_fault(),
+            PacketStep::Refused(f) => f,
+        }
+    }
+}
+
+fn server_shape(code: u8) -> Listed
+    ensures { λ r. ⌜ shapeMeaning r ≡ lookup serverOpcodes code ⌝ }
+{
+    match code {
+        opcode::BAD_PROTOCOL
+        | opcode::GET_SERVER_LIST
+        | opcode::DISCONNECT
+        | opcode::MORE_RESULTS => Listed::As(Shape::Nothing),
+        opcode::SEARCH_FILE | opcode::SEARCH_USER => Listed::As(Shape::Query),
+        opcode::GET_SOURCES => Listed::As(Shape::Hash),
+        opcode::CLIENT_CB_REQUEST | opcode::CALLBACK_FAIL | opcode::ID_CHANGE => Listed::As(
+            Shape::Dword,
+        ),
+        opcode::SERVER_STATUS => Listed::As(Shape::TwoDwords),
+        opcode::SERVER_MESSAGE => Listed::As(Shape::Text),
+        opcode::SERVER_CB_REQUEST => Listed::As(Shape::Address),
+        opcode::SERVER_LIST => Listed::As(Shape::Addresses),
+        opcode::FOUND_SOURCES => Listed::As(Shape::HashAddresses),
+        opcode::HELLO_SERVER => Listed::As(Shape::Record),
+        opcode::OFFER_FILES | opcode::SEARCH_USER_RESULTS => Listed::As(Shape::Records),
+        opcode::SEARCH_FILE_RESULTS => Listed::As(Shape::RecordsFlag),
+        opcode::SERVER_INFO_DATA => Listed::As(Shape::HashAddressTags),
+        _ => Listed::Nowhere,
+    }
+}
+
+// Opcodes that follow each other stand in different arms: in one arm they would be a range, and tested by its ends.
+fn client_shape(code: u8) -> Listed
+    ensures { λ r. ⌜ shapeMeaning r ≡ lookup clientOpcodes code ⌝ }
+{
+    match code {
+        opcode::VIEW_FILES | opcode::SLOT_GIVEN | opcode::SLOT_TAKEN => Listed::As(Shape::Nothing),
+        opcode::SLOT_RELEASE => Listed::As(Shape::Nothing),
+        opcode::NO_SUCH_FILE | opcode::FILE_STATUS_REQUEST | opcode::HASHSET_REQUEST => Listed::As(
+            Shape::Hash,
+        ),
+        opcode::END_OF_DOWNLOAD | opcode::SLOT_REQUEST | opcode::FILE_REQUEST => Listed::As(
+            Shape::Hash,
+        ),
+        opcode::HELLO_CLIENT => Listed::As(Shape::Hello),
+        opcode::HELLO_ANSWER => Listed::As(Shape::RecordAddress),
+        opcode::QUEUE_RANK => Listed::As(Shape::Dword),
+        opcode::NEW_CLIENT_ID => Listed::As(Shape::TwoDwords),
+        opcode::MESSAGE => Listed::As(Shape::Text),
+        opcode::FILE_REQUEST_ANSWER => Listed::As(Shape::HashText),
+        opcode::VIEW_FILES_ANSWER => Listed::As(Shape::Records),
+        opcode::HASHSET_ANSWER => Listed::As(Shape::Hashset),
+        opcode::SENDING_PART => Listed::As(Shape::SendingPart),
+        opcode::REQUEST_PARTS => Listed::As(Shape::RequestParts),
+        opcode::FILE_STATUS => Listed::As(Shape::FileStatus),
+        _ => Listed::Nowhere,
+    }
+}
+
+fn udp_shape(code: u8) -> Listed
+    ensures { λ r. ⌜ shapeMeaning r ≡ lookup udpOpcodes code ⌝ }
+{
+    match code {
+        opcode::UDP_GET_SERVER_INFO | opcode::UDP_GET_SERVER_LIST => Listed::As(Shape::Nothing),
+        opcode::UDP_GET_SOURCES => Listed::As(Shape::Hash),
+        opcode::UDP_SEARCH_FILE => Listed::As(Shape::Query),
+        opcode::UDP_SEARCH_FILE_RESULT => Listed::As(Shape::Record),
+        opcode::UDP_FOUND_SOURCES => Listed::As(Shape::HashAddresses),
+        opcode::UDP_CALLBACK_REQUEST => Listed::As(Shape::AddressDword),
+        opcode::UDP_CALLBACK_FAIL => Listed::As(Shape::Dword),
+        opcode::UDP_SERVER_LIST => Listed::As(Shape::Addresses),
+        opcode::UDP_SERVER_INFO => Listed::As(Shape::TwoTexts),
+        opcode::UDP_SERVER_STATUS_REQUEST => Listed::As(Shape::StatusRequest),
+        opcode::UDP_SERVER_STATUS => Listed::As(Shape::Status),
+        _ => Listed::Nowhere,
+    }
+}
+
+// The shape of the body behind an opcode of a link.
+pub fn shape_of(link: Link, code: u8) -> Listed
+    ensures { λ r. ⌜ shapeMeaning r ≡ lookup (opcodesOf link) code ⌝ }
+{
+    match link {
+        Link::Server => server_shape(code),
+        Link::Client => client_shape(code),
+        Link::Udp => udp_shape(code),
+    }
+}
+
+// The opening byte of every link.
+const OPENING: u8 = 0xE3;
+
+fn read_opening(s: &[u8], c: Cursor) -> ByteStep
+    ensures { λ r. ⌜ byteMeaning r ≡ decodeOpening (0xE3 ∷ []) (now (s .entry)) (c .at) ⌝ }
+{
+    let b = c.byte(s);
+    let ByteStep::Got(opening, next) = b else {
+        return ByteStep::Refused(b.fault());
+    };
+    if opening == OPENING {
+        return ByteStep::Got(opening, next);
+    }
+    ByteStep::Refused(Fault {
+        rule: Rule::Opening,
+        at: c.at,
+        size: 1,
+    })
+}
+
+// The header's length, which must be the number of bytes behind it, and not 0.
+fn read_length(s: &[u8], c: Cursor) -> DwordStep
+    ensures { λ r. ⌜ dwordMeaning r ≡ decodeLength (now (s .entry)) (c .at) ⌝ }
+{
+    let d = c.dword(s);
+    let DwordStep::Got(n, next) = d else {
+        return DwordStep::Refused(d.fault());
+    };
+    let fault = Fault {
+        rule: Rule::FrameLength,
+        at: c.at,
+        size: 4,
+    };
+    if n == 0 {
+        return DwordStep::Refused(fault);
+    }
+    let length = n as usize;
+    let behind = remaining(s, next);
+    if length == behind {
+        return DwordStep::Got(n, next);
+    }
+    DwordStep::Refused(fault)
+}
+
+// The opcode, and the shape of what stands behind it.
+fn read_opcode(s: &[u8], c: Cursor, link: Link) -> HeadStep
+    ensures { λ r. ⌜ headMeaning r ≡ decodeOpcode (opcodesOf link) (now (s .entry)) (c .at) ⌝ }
+{
+    let b = c.byte(s);
+    let ByteStep::Got(code, next) = b else {
+        return HeadStep::Refused(b.fault());
+    };
+    let listed = shape_of(link, code);
+    let Listed::As(shape) = listed else {
+        return HeadStep::Refused(Fault {
+            rule: Rule::Kind,
+            at: c.at,
+            size: 1,
+        });
+    };
+    HeadStep::Got(code, shape, next)
+}
+
+// A TCP packet of a link: opening byte, length, opcode, body.
+fn read_tcp(s: &[u8], link: Link) -> PacketStep
+    ensures meaning { λ r. ⌜ packetMeaning (now (s .entry)) r ≡ decodeTcp ((0xE3, opcodesOf link) ∷ []) (now (s .entry)) 0 ⌝ }
+    ensures placed { λ r. ⌜ PacketStepPlaced (now (s .entry)) r ⌝ }
+{
+    let o = read_opening(s, Cursor { at: 0 });
+    let ByteStep::Got(opening, after_opening) = o else {
+        return PacketStep::Refused(o.fault());
+    };
+    let d = read_length(s, after_opening);
+    let DwordStep::Got(_, after_length) = d else {
+        return PacketStep::Refused(d.fault());
+    };
+    let h = read_opcode(s, after_length, link);
+    let HeadStep::Got(code, shape, after_opcode) = h else {
+        return PacketStep::Refused(h.fault());
+    };
+    let b = read_body(s, after_opcode, shape);
+    let BodyStep::Got(body, next) = b else {
+        return PacketStep::Refused(b.fault());
+    };
+    PacketStep::Got(
+        Packet {
+            opening,
+            opcode: code,
+            body,
+        },
+        next,
+    )
+}
+
+// A UDP packet: opening byte, opcode, body.
+fn read_datagram(s: &[u8], link: Link) -> PacketStep
+    ensures meaning { λ r. ⌜ packetMeaning (now (s .entry)) r ≡ decodeUdp ((0xE3, opcodesOf link) ∷ []) (now (s .entry)) 0 ⌝ }
+    ensures placed { λ r. ⌜ PacketStepPlaced (now (s .entry)) r ⌝ }
+{
+    let o = read_opening(s, Cursor { at: 0 });
+    let ByteStep::Got(opening, after_opening) = o else {
+        return PacketStep::Refused(o.fault());
+    };
+    let h = read_opcode(s, after_opening, link);
+    let HeadStep::Got(code, shape, after_opcode) = h else {
+        return PacketStep::Refused(h.fault());
+    };
+    let b = read_body(s, after_opcode, shape);
+    let BodyStep::Got(body, next) = b else {
+        return PacketStep::Refused(b.fault());
+    };
+    PacketStep::Got(
+        Packet {
+            opening,
+            opcode: code,
+            body,
+        },
+        next,
+    )
+}
+
+fn read_framed(s: &[u8], link: Link) -> PacketStep
+    ensures meaning { λ r. ⌜ packetMeaning (now (s .entry)) r ≡ decodeLink link (now (s .entry)) 0 ⌝ }
+    ensures placed { λ r. ⌜ PacketStepPlaced (now (s .entry)) r ⌝ }
+{
+    match link {
+        Link::Server => read_tcp(s, Link::Server),
+        Link::Client => read_tcp(s, Link::Client),
+        Link::Udp => read_datagram(s, Link::Udp),
+    }
+}
+
+// The packet that the bytes are on a link, if they are exactly one.
+pub fn read_packet(s: &[u8], link: Link) -> PacketAnswer
+    ensures meaning { λ r. ⌜ packetReply (now (s .entry)) r ≡ linkReply link (now (s .entry)) ⌝ }
+    ensures placed { λ r. ⌜ PacketPlaced (now (s .entry)) r ⌝ }
+    ensures demand3 { λ r. ⌜ ((m : messages.Packet) → (packetReply (now (s .entry)) r ≡ message m) ↔ LinkAccepts link (now (s .entry)) m) ⌝ }
+{
+    if 65536 < s.len() {
+        return PacketAnswer::Refused(number(Rule::BytesCeiling));
+    }
+    let p = read_framed(s, link);
+    let PacketStep::Got(packet, next) = p else {
+        return PacketAnswer::Refused(p.fault().number());
+    };
+    let end = next.at;
+    if end == s.len() {
+        return PacketAnswer::Accepted(packet);
+    }
+    PacketAnswer::Refused(number(Rule::Rest))
+}

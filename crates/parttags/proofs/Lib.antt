@@ -1,0 +1,4 @@
+pub mod Rest
+pub mod Names
+pub mod SizeTags
+pub mod GapTags

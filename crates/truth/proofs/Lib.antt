@@ -1,0 +1,5 @@
+pub mod Texts
+pub mod Values
+pub mod Found
+pub mod Joins
+pub mod Answers

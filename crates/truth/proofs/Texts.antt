@@ -1,0 +1,86 @@
+-- The laws of the loops that compare bytes: i bytes are behind, and the rest decides.
+use Prim.Native.Nat.{ℕ, suc, _+_, _-_, _<_, _≤_}
+use mathlib.Core.Path.{_≡_, refl, ap, _∙_}
+use mathlib.Core.Bool.{Bool, true, false}
+use mathlib.Core.List.{List, [], _∷_}
+use native.Mathlib.Omega.{arith}
+use native.Mathlib.Numerals.{add-one}
+use lib.ListN.{length, drop, getD, length-drop, drop-of-length-le}
+use lib.Seq.{drop-cons, take-all}
+use lib.Dec.{eqb}
+use borrow.Author.Tests.{eq-eqb, ne-eqb}
+use Rattle.format.specs.Tables.{pick}
+use Rattle.format.specs.Decoding.{bytesAt}
+use Rattle.format.specs.PartTagOrder.{same}
+use Rattle.format.specs.Truth.{prefix, occurs}
+
+both-false : (x : Bool) → pick x false false ≡ false
+both-false true = refl
+both-false false = refl
+
+-- A text at the front of another.
+pub prefix-longer : (t s : List ℕ) → length s < length t → prefix t s ≡ false
+unfolding prefix
+prefix-longer [] s h = absurd (omega arith)
+prefix-longer (a ∷ t) [] h = refl
+prefix-longer (a ∷ t) (b ∷ s) h = rw (prefix-longer t s (omega arith)) (both-false (eqb a b))
+
+prefix-none : (s : List ℕ) → prefix [] s ≡ true
+unfolding prefix
+prefix-none s = refl
+
+module _ (t s : List ℕ) (i : ℕ) where
+  prefix-rest : i < length t → i < length s →
+      prefix (drop i t) (drop i s) ≡ pick (eqb (getD t i 0) (getD s i 0)) (prefix (drop (i + 1) t) (drop (i + 1) s)) false
+  unfolding prefix
+  prefix-rest h k = rw (add-one, drop-cons t i 0 h, drop-cons s i 0 k) refl
+
+  pub prefix-step : i < length t → i < length s → getD t i 0 ≡ getD s i 0 → prefix (drop i t) (drop i s) ≡ prefix (drop (i + 1) t) (drop (i + 1) s)
+  prefix-step h k e = rw (prefix-rest h k, eq-eqb _ _ e) refl
+
+  pub prefix-stop : i < length t → i < length s → (getD t i 0 ≡ getD s i 0 → ⊥) → prefix (drop i t) (drop i s) ≡ false
+  prefix-stop h k e = rw (prefix-rest h k, ne-eqb _ _ e) refl
+
+  pub prefix-done : length t ≤ i → prefix (drop i t) (drop i s) ≡ true
+  prefix-done h = rw (drop-of-length-le t h) (prefix-none (drop i s))
+
+-- Two texts are the same if they are as long and one is at the front of the other.
+pub same-prefix : (k l : List ℕ) → length k ≡ length l → prefix k l ≡ same k l
+unfolding prefix same
+same-prefix [] [] e = refl
+same-prefix [] (b ∷ l) e = absurd (omega arith)
+same-prefix (a ∷ k) [] e = absurd (omega arith)
+same-prefix (a ∷ k) (b ∷ l) e = rw (same-prefix k l (omega arith)) refl
+
+pub same-longer : (k l : List ℕ) → (length k ≡ length l → ⊥) → same k l ≡ false
+unfolding same
+same-longer [] [] f = absurd (f refl)
+same-longer [] (b ∷ l) f = refl
+same-longer (a ∷ k) [] f = refl
+same-longer (a ∷ k) (b ∷ l) f = rw (same-longer k l (λ e. f (ap suc e))) (both-false (eqb a b))
+
+-- A text somewhere in another.
+module _ (t s : List ℕ) (i : ℕ) where
+  occurs-rest : i < length s → occurs t (drop i s) ≡ pick (prefix t (drop i s)) true (occurs t (drop (i + 1) s))
+  unfolding occurs
+  occurs-rest h = rw (add-one, drop-cons s i 0 h) refl
+
+  -- the rest of the text, as code lends it
+  rest-whole : prefix t (bytesAt s i (length s - i)) ≡ prefix t (drop i s)
+  rest-whole = rw (take-all (length s - i) (drop i s) (simp length-drop (omega arith))) refl
+
+  pub occurs-here : i < length s → true ≡ prefix t (bytesAt s i (length s - i)) → occurs t (drop i s) ≡ true
+  occurs-here h e = rw (occurs-rest h, ← rest-whole, ← e) refl
+
+  pub occurs-step : i < length s → false ≡ prefix t (bytesAt s i (length s - i)) → occurs t (drop i s) ≡ occurs t (drop (i + 1) s)
+  occurs-step h e = rw (occurs-rest h, ← rest-whole, ← e) refl
+
+  occurs-done : length s ≤ i → occurs t (drop i s) ≡ prefix t []
+  unfolding occurs
+  occurs-done h = rw (drop-of-length-le s h) refl
+
+  pub occurs-empty : length s ≤ i → length t ≡ 0 → occurs t (drop i s) ≡ true
+  occurs-empty h e = occurs-done h ∙ prefix-done t [] 0 (omega arith)
+
+  pub occurs-nowhere : length s ≤ i → (length t ≡ 0 → ⊥) → occurs t (drop i s) ≡ false
+  occurs-nowhere h f = occurs-done h ∙ prefix-longer t [] (omega arith)
