@@ -4,12 +4,15 @@
 ghost use mathlib.Core.Path.{_≡_};
 ghost use Prim.Native.Nat.{_-_, _^_, _<_};
 ghost use lib.ListN.{length};
-ghost use Rattle.format.specs.Messages.{noBody, queryBody, hashBody, dwordBody, twoDwordsBody, stringBody, twoStringsBody, addressBody, addressesBody};
-ghost use Rattle.format.specs.Messages.{hashAddressesBody, addressDwordBody, hashAddressTagsBody, recordBody, recordsBody, recordsFlagBody};
-ghost use Rattle.format.specs.Messages.{recordAddressBody, helloBody, hashStringBody, hashsetBody, sendingPartBody, requestPartsBody, fileStatusBody, statusRequestBody, statusBody};
+ghost use Rattle.format.specs.Messages.{noBody, queryBody, hashBody, dwordBody, twoDwordsBody, stringBody, twoStringsBody};
+ghost use Rattle.format.specs.Messages.{addressBody, addressesBody, hashAddressesBody, addressDwordBody, hashAddressTagsBody};
+ghost use Rattle.format.specs.Messages.{recordBody, recordsBody, recordsFlagBody, recordAddressBody, helloBody};
+ghost use Rattle.format.specs.Messages.{hashStringBody, hashsetBody, sendingPartBody, requestPartsBody, fileStatusBody};
+ghost use Rattle.format.specs.Messages.{statusRequestBody, statusBody};
 ghost use Rattle.format.specs.PacketOrder.{decodeRange, decodeTriple, decodeRanges, decodeBits, formOf, decodeExtendedStatus, decodeFlag, decodeBody};
 ghost use Rattle.wire.specs.Meaning.{byteMeaning};
-ghost use Rattle.bodies.specs.Meaning.{shapeOf, formMeaning, rangeMeaning, tripleMeaning, rangesMeaning, bitsMeaning, extendedStatusMeaning, bodyMeaning, BodyStepPlaced};
+ghost use Rattle.bodies.specs.Meaning.{shapeOf, bodyMeaning, BodyStepPlaced};
+ghost use Rattle.bodies.specs.Meaning.{formMeaning, rangeMeaning, tripleMeaning, rangesMeaning, bitsMeaning, extendedStatusMeaning};
 ghost use Rattle.bodies.specs.Meaning.{rangeFault, tripleFault, rangesFault, bitsFault, extendedStatusFault, bodyFault};
 use query::Query;
 use query::QueryStep;
@@ -390,7 +393,7 @@ fn read_bits(s: &[u8], c: Cursor, n: u16) -> BitsStep
 {
     let size = (n as usize + 7) / 8;
     let p = c.run(s, size);
-    let PlaceStep::Got(place, next) = p else {
+    let PlaceStep::Got(_, next) = p else {
         return BitsStep::Refused(p.fault());
     };
     let used = n % 8;

@@ -14,3 +14,4 @@ pub mod Many
 pub mod There
 pub mod Cases
 pub mod Truth
+pub mod Writing

@@ -4,7 +4,7 @@ use mathlib.Core.Path.{_≡_, refl}
 use mathlib.Core.List.{List}
 use native.Mathlib.Nat.{sub-zero}
 use native.Mathlib.Omega.{arith}
-use Rattle.format.specs.Decoding.{Decoder, Fault, Outcome, refused, got, decodeMany, itemsOf, ends}
+use Rattle.format.specs.Decoding.{Decoder, Fault, refused, got, decodeMany, itemsOf, ends}
 use Rattle.format.proofs.Many.{loop-step, loop-stop, loop-ends, loop-done}
 
 -- The invariant: i of the n items are read, and the others lie from `at` on up to where the whole list ends.

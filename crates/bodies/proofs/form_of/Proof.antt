@@ -1,6 +1,5 @@
 use mathlib.Core.Path.{refl}
 use borrow.Author.Tests.{eq-eqb, ne-eqb}
-use borrow.Author.Needs.{needs}
 use Rattle.bodies.proofs.form_of.Statement.{statement}
 use Rattle.bodies.proofs.form_of.Tie as tie
 

@@ -154,76 +154,76 @@ read-status-requires : tie.Need-read-status-requires
 read-status-requires c κs = search needs
 
 returns : tie.Need-returns
-returns c = (rw (c .enum-told .given .1, no-body) refl, tt)
+returns c = rw (c .enum-told .given .1, no-body) (refl, tt)
 
 returns-2 : tie.Need-returns-2
-returns-2 c = (rw (c .before .enum-told2 .given .1) (c .read-query-body .ensures .0), c .read-query-body .ensures .1)
+returns-2 c = rw (c .before .enum-told2 .given .1) (c .read-query-body .ensures)
 
 returns-3 : tie.Need-returns-3
-returns-3 c = (rw (c .before .enum-told3 .given .1) (c .read-hash-body .ensures .0), c .read-hash-body .ensures .1)
+returns-3 c = rw (c .before .enum-told3 .given .1) (c .read-hash-body .ensures)
 
 returns-4 : tie.Need-returns-4
-returns-4 c = (rw (c .before .enum-told4 .given .1) (c .read-dword-body .ensures .0), c .read-dword-body .ensures .1)
+returns-4 c = rw (c .before .enum-told4 .given .1) (c .read-dword-body .ensures)
 
 returns-5 : tie.Need-returns-5
-returns-5 c = (rw (c .before .enum-told5 .given .1) (c .read-two-dwords .ensures .0), c .read-two-dwords .ensures .1)
+returns-5 c = rw (c .before .enum-told5 .given .1) (c .read-two-dwords .ensures)
 
 returns-6 : tie.Need-returns-6
-returns-6 c = (rw (c .before .enum-told6 .given .1) (c .read-text-body .ensures .0), c .read-text-body .ensures .1)
+returns-6 c = rw (c .before .enum-told6 .given .1) (c .read-text-body .ensures)
 
 returns-7 : tie.Need-returns-7
-returns-7 c = (rw (c .before .enum-told7 .given .1) (c .read-two-texts .ensures .0), c .read-two-texts .ensures .1)
+returns-7 c = rw (c .before .enum-told7 .given .1) (c .read-two-texts .ensures)
 
 returns-8 : tie.Need-returns-8
-returns-8 c = (rw (c .before .enum-told8 .given .1) (c .read-address-body .ensures .0), c .read-address-body .ensures .1)
+returns-8 c = rw (c .before .enum-told8 .given .1) (c .read-address-body .ensures)
 
 returns-9 : tie.Need-returns-9
-returns-9 c = (rw (c .before .enum-told9 .given .1) (c .read-addresses-body .ensures .0), c .read-addresses-body .ensures .1)
+returns-9 c = rw (c .before .enum-told9 .given .1) (c .read-addresses-body .ensures)
 
 returns-10 : tie.Need-returns-10
-returns-10 c = (rw (c .before .enum-told10 .given .1) (c .read-hash-addresses .ensures .0), c .read-hash-addresses .ensures .1)
+returns-10 c = rw (c .before .enum-told10 .given .1) (c .read-hash-addresses .ensures)
 
 returns-11 : tie.Need-returns-11
-returns-11 c = (rw (c .before .enum-told11 .given .1) (c .read-address-dword .ensures .0), c .read-address-dword .ensures .1)
+returns-11 c = rw (c .before .enum-told11 .given .1) (c .read-address-dword .ensures)
 
 returns-12 : tie.Need-returns-12
-returns-12 c = (rw (c .before .enum-told12 .given .1) (c .read-hash-address-tags .ensures .0), c .read-hash-address-tags .ensures .1)
+returns-12 c = rw (c .before .enum-told12 .given .1) (c .read-hash-address-tags .ensures)
 
 returns-13 : tie.Need-returns-13
-returns-13 c = (rw (c .before .enum-told13 .given .1) (c .read-record-body .ensures .0), c .read-record-body .ensures .1)
+returns-13 c = rw (c .before .enum-told13 .given .1) (c .read-record-body .ensures)
 
 returns-14 : tie.Need-returns-14
-returns-14 c = (rw (c .before .enum-told14 .given .1) (c .read-records-body .ensures .0), c .read-records-body .ensures .1)
+returns-14 c = rw (c .before .enum-told14 .given .1) (c .read-records-body .ensures)
 
 returns-15 : tie.Need-returns-15
-returns-15 c = (rw (c .before .enum-told15 .given .1) (c .read-records-flag .ensures .0), c .read-records-flag .ensures .1)
+returns-15 c = rw (c .before .enum-told15 .given .1) (c .read-records-flag .ensures)
 
 returns-16 : tie.Need-returns-16
-returns-16 c = (rw (c .before .enum-told16 .given .1) (c .read-record-address .ensures .0), c .read-record-address .ensures .1)
+returns-16 c = rw (c .before .enum-told16 .given .1) (c .read-record-address .ensures)
 
 returns-17 : tie.Need-returns-17
-returns-17 c = (rw (c .before .enum-told17 .given .1) (c .read-hello .ensures .0), c .read-hello .ensures .1)
+returns-17 c = rw (c .before .enum-told17 .given .1) (c .read-hello .ensures)
 
 returns-18 : tie.Need-returns-18
-returns-18 c = (rw (c .before .enum-told18 .given .1) (c .read-hash-text .ensures .0), c .read-hash-text .ensures .1)
+returns-18 c = rw (c .before .enum-told18 .given .1) (c .read-hash-text .ensures)
 
 returns-19 : tie.Need-returns-19
-returns-19 c = (rw (c .before .enum-told19 .given .1) (c .read-hashset .ensures .0), c .read-hashset .ensures .1)
+returns-19 c = rw (c .before .enum-told19 .given .1) (c .read-hashset .ensures)
 
 returns-20 : tie.Need-returns-20
-returns-20 c = (rw (c .before .enum-told20 .given .1) (c .read-sending-part .ensures .0), c .read-sending-part .ensures .1)
+returns-20 c = rw (c .before .enum-told20 .given .1) (c .read-sending-part .ensures)
 
 returns-21 : tie.Need-returns-21
-returns-21 c = (rw (c .before .enum-told21 .given .1) (c .read-request-parts .ensures .0), c .read-request-parts .ensures .1)
+returns-21 c = rw (c .before .enum-told21 .given .1) (c .read-request-parts .ensures)
 
 returns-22 : tie.Need-returns-22
-returns-22 c = (rw (c .before .enum-told22 .given .1) (c .read-file-status .ensures .0), c .read-file-status .ensures .1)
+returns-22 c = rw (c .before .enum-told22 .given .1) (c .read-file-status .ensures)
 
 returns-23 : tie.Need-returns-23
-returns-23 c = (rw (c .before .enum-told23 .given .1) (c .read-status-request .ensures .0), c .read-status-request .ensures .1)
+returns-23 c = rw (c .before .enum-told23 .given .1) (c .read-status-request .ensures)
 
 returns-24 : tie.Need-returns-24
-returns-24 c = (rw (c .before .enum-told24 .given .1) (c .read-status .ensures .0), c .read-status .ensures .1)
+returns-24 c = rw (c .before .enum-told24 .given .1) (c .read-status .ensures)
 
 pub read-body-spec : {M : Type 1} → statement M
 read-body-spec =

@@ -18,7 +18,7 @@ fault-requires c κs = search needs
 
 returns : tie.Need-returns
 unfolding decodeBody decodeFileStatus
-returns c = (rw (c .fault .ensures, ← c .before .before .before .hash .ensures, c .before .enum-told .given .1) refl, tt)
+returns c = rw (c .fault .ensures, ← c .before .before .before .hash .ensures, c .before .enum-told .given .1) (refl, tt)
 
 word-requires : tie.Need-word-requires
 word-requires c κs = search needs
@@ -35,17 +35,15 @@ fault-requires-2 c κs = search needs
 returns-2 : tie.Need-returns-2
 unfolding decodeBody decodeFileStatus
 returns-2 c =
-    let h = c .before .before .before .before .before in (
-      rw (
-        c .fault2 .ensures,
-        ← h .before .before .hash .ensures,
-        h .h .given .1,
-        ← c .before .before .before .word .ensures,
-        c .before .enum-told2 .given .1,
-      )
-          refl,
-      tt,
+    let h = c .before .before .before .before .before in
+    rw (
+      c .fault2 .ensures,
+      ← h .before .before .hash .ensures,
+      h .h .given .1,
+      ← c .before .before .before .word .ensures,
+      c .before .enum-told2 .given .1,
     )
+    (refl, tt)
 
 read-bits-requires : tie.Need-read-bits-requires
 read-bits-requires c κs = search needs
@@ -63,37 +61,33 @@ returns-3 : tie.Need-returns-3
 unfolding decodeBody decodeFileStatus
 returns-3 c =
     let w = c .before .before .before .before .before in
-    let h = w .before .before .before .before in (
-      rw (
-        c .fault3 .ensures,
-        ← h .before .before .hash .ensures,
-        h .h .given .1,
-        ← w .before .before .word .ensures,
-        w .w .given .1,
-        ← c .before .before .before .read-bits .ensures,
-        c .before .enum-told3 .given .1,
-      )
-          refl,
-      tt,
+    let h = w .before .before .before .before in
+    rw (
+      c .fault3 .ensures,
+      ← h .before .before .hash .ensures,
+      h .h .given .1,
+      ← w .before .before .word .ensures,
+      w .w .given .1,
+      ← c .before .before .before .read-bits .ensures,
+      c .before .enum-told3 .given .1,
     )
+    (refl, tt)
 
 returns-4 : tie.Need-returns-4
 unfolding decodeBody decodeFileStatus
 returns-4 c =
     let b = c .before in
     let w = b .before .before .before .before in
-    let h = w .before .before .before .before in (
-      rw (
-        ← h .before .before .hash .ensures,
-        h .h .given .1,
-        ← w .before .before .word .ensures,
-        w .w .given .1,
-        ← b .before .before .read-bits .ensures,
-        b .b .given .1,
-      )
-          refl,
-      tt,
+    let h = w .before .before .before .before in
+    rw (
+      ← h .before .before .hash .ensures,
+      h .h .given .1,
+      ← w .before .before .word .ensures,
+      w .w .given .1,
+      ← b .before .before .read-bits .ensures,
+      b .b .given .1,
     )
+    (refl, tt)
 
 pub read-file-status-spec : {M : Type 1} → statement M
 read-file-status-spec =

@@ -18,7 +18,7 @@ fault-requires c κs = search needs
 
 returns : tie.Need-returns
 unfolding decodeBody
-returns c = (rw (c .fault .ensures, ← c .before .before .before .hash .ensures, c .before .enum-told .given .1) refl, tt)
+returns c = rw (c .fault .ensures, ← c .before .before .before .hash .ensures, c .before .enum-told .given .1) (refl, tt)
 
 read-address-requires : tie.Need-read-address-requires
 read-address-requires c κs = search needs
@@ -35,17 +35,15 @@ fault-requires-2 c κs = search needs
 returns-2 : tie.Need-returns-2
 unfolding decodeBody
 returns-2 c =
-    let h = c .before .before .before .before .before in (
-      rw (
-        c .fault2 .ensures,
-        ← h .before .before .hash .ensures,
-        h .h .given .1,
-        ← c .before .before .before .read-address .ensures,
-        c .before .enum-told2 .given .1,
-      )
-          refl,
-      tt,
+    let h = c .before .before .before .before .before in
+    rw (
+      c .fault2 .ensures,
+      ← h .before .before .hash .ensures,
+      h .h .given .1,
+      ← c .before .before .before .read-address .ensures,
+      c .before .enum-told2 .given .1,
     )
+    (refl, tt)
 
 read-tags-requires : tie.Need-read-tags-requires
 read-tags-requires c κs = search needs
@@ -63,37 +61,33 @@ returns-3 : tie.Need-returns-3
 unfolding decodeBody
 returns-3 c =
     let a = c .before .before .before .before .before in
-    let h = a .before .before .before .before in (
-      rw (
-        c .fault3 .ensures,
-        ← h .before .before .hash .ensures,
-        h .h .given .1,
-        ← a .before .before .read-address .ensures,
-        a .a .given .1,
-        ← c .before .before .before .read-tags .ensures .0,
-        c .before .enum-told3 .given .1,
-      )
-          refl,
-      tt,
+    let h = a .before .before .before .before in
+    rw (
+      c .fault3 .ensures,
+      ← h .before .before .hash .ensures,
+      h .h .given .1,
+      ← a .before .before .read-address .ensures,
+      a .a .given .1,
+      ← c .before .before .before .read-tags .ensures .0,
+      c .before .enum-told3 .given .1,
     )
+    (refl, tt)
 
 returns-4 : tie.Need-returns-4
 unfolding decodeBody
 returns-4 c =
     let t = c .before in
     let a = t .before .before .before .before in
-    let h = a .before .before .before .before in (
-      rw (
-        ← h .before .before .hash .ensures,
-        h .h .given .1,
-        ← a .before .before .read-address .ensures,
-        a .a .given .1,
-        ← t .before .before .read-tags .ensures .0,
-        t .t .given .1,
-      )
-          refl,
-      rw (t .t .given .1) at (t .before .before .read-tags .ensures .1),
+    let h = a .before .before .before .before in
+    rw (
+      ← h .before .before .hash .ensures,
+      h .h .given .1,
+      ← a .before .before .read-address .ensures,
+      a .a .given .1,
+      ← t .before .before .read-tags .ensures .0,
+      t .t .given .1,
     )
+    (refl, rw (t .t .given .1) at (t .before .before .read-tags .ensures .1))
 
 pub read-hash-address-tags-spec : {M : Type 1} → statement M
 read-hash-address-tags-spec =

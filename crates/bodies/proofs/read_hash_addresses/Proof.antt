@@ -18,7 +18,7 @@ fault-requires c κs = search needs
 
 returns : tie.Need-returns
 unfolding decodeBody
-returns c = (rw (c .fault .ensures, ← c .before .before .before .hash .ensures, c .before .enum-told .given .1) refl, tt)
+returns c = rw (c .fault .ensures, ← c .before .before .before .hash .ensures, c .before .enum-told .given .1) (refl, tt)
 
 read-addresses-requires : tie.Need-read-addresses-requires
 read-addresses-requires c κs = search needs
@@ -35,32 +35,28 @@ fault-requires-2 c κs = search needs
 returns-2 : tie.Need-returns-2
 unfolding decodeBody
 returns-2 c =
-    let h = c .before .before .before .before .before in (
-      rw (
-        c .fault2 .ensures,
-        ← h .before .before .hash .ensures,
-        h .h .given .1,
-        ← c .before .before .before .read-addresses .ensures .0,
-        c .before .enum-told2 .given .1,
-      )
-          refl,
-      tt,
+    let h = c .before .before .before .before .before in
+    rw (
+      c .fault2 .ensures,
+      ← h .before .before .hash .ensures,
+      h .h .given .1,
+      ← c .before .before .before .read-addresses .ensures .0,
+      c .before .enum-told2 .given .1,
     )
+    (refl, tt)
 
 returns-3 : tie.Need-returns-3
 unfolding decodeBody
 returns-3 c =
     let l = c .before in
-    let h = l .before .before .before .before in (
-      rw (
-        ← h .before .before .hash .ensures,
-        h .h .given .1,
-        ← l .before .before .read-addresses .ensures .0,
-        l .l .given .1,
-      )
-          refl,
-      rw (l .l .given .1) at (l .before .before .read-addresses .ensures .1),
+    let h = l .before .before .before .before in
+    rw (
+      ← h .before .before .hash .ensures,
+      h .h .given .1,
+      ← l .before .before .read-addresses .ensures .0,
+      l .l .given .1,
     )
+    (refl, rw (l .l .given .1) at (l .before .before .read-addresses .ensures .1))
 
 pub read-hash-addresses-spec : {M : Type 1} → statement M
 read-hash-addresses-spec =

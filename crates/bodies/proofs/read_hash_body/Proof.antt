@@ -18,11 +18,11 @@ fault-requires c κs = search needs
 
 returns : tie.Need-returns
 unfolding decodeBody
-returns c = (rw (c .fault .ensures, ← c .before .before .before .hash .ensures, c .before .enum-told .given .1) refl, tt)
+returns c = rw (c .fault .ensures, ← c .before .before .before .hash .ensures, c .before .enum-told .given .1) (refl, tt)
 
 returns-2 : tie.Need-returns-2
 unfolding decodeBody
-returns-2 c = (rw (← c .before .before .before .hash .ensures, c .before .h .given .1) refl, tt)
+returns-2 c = rw (← c .before .before .before .hash .ensures, c .before .h .given .1) (refl, tt)
 
 pub read-hash-body-spec : {M : Type 1} → statement M
 read-hash-body-spec =

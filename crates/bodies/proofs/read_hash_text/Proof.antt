@@ -18,7 +18,7 @@ fault-requires c κs = search needs
 
 returns : tie.Need-returns
 unfolding decodeBody
-returns c = (rw (c .fault .ensures, ← c .before .before .before .hash .ensures, c .before .enum-told .given .1) refl, tt)
+returns c = rw (c .fault .ensures, ← c .before .before .before .hash .ensures, c .before .enum-told .given .1) (refl, tt)
 
 string-requires : tie.Need-string-requires
 string-requires c κs = search needs
@@ -35,24 +35,22 @@ fault-requires-2 c κs = search needs
 returns-2 : tie.Need-returns-2
 unfolding decodeBody
 returns-2 c =
-    let h = c .before .before .before .before .before in (
-      rw (
-        c .fault2 .ensures,
-        ← h .before .before .hash .ensures,
-        h .h .given .1,
-        ← c .before .before .before .string .ensures,
-        c .before .enum-told2 .given .1,
-      )
-          refl,
-      tt,
+    let h = c .before .before .before .before .before in
+    rw (
+      c .fault2 .ensures,
+      ← h .before .before .hash .ensures,
+      h .h .given .1,
+      ← c .before .before .before .string .ensures,
+      c .before .enum-told2 .given .1,
     )
+    (refl, tt)
 
 returns-3 : tie.Need-returns-3
 unfolding decodeBody
 returns-3 c =
     let t = c .before in
     let h = t .before .before .before .before in
-    (rw (← h .before .before .hash .ensures, h .h .given .1, ← t .before .before .string .ensures, t .t .given .1) refl, tt)
+    rw (← h .before .before .hash .ensures, h .h .given .1, ← t .before .before .string .ensures, t .t .given .1) (refl, tt)
 
 pub read-hash-text-spec : {M : Type 1} → statement M
 read-hash-text-spec =

@@ -18,7 +18,7 @@ fault-requires c κs = search needs
 
 returns : tie.Need-returns
 unfolding decodeBody
-returns c = (rw (c .fault .ensures, ← c .before .before .before .fixed .ensures, c .before .enum-told .given .1) refl, tt)
+returns c = rw (c .fault .ensures, ← c .before .before .before .fixed .ensures, c .before .enum-told .given .1) (refl, tt)
 
 read-record-requires : tie.Need-read-record-requires
 read-record-requires c κs = search needs
@@ -35,17 +35,15 @@ fault-requires-2 c κs = search needs
 returns-2 : tie.Need-returns-2
 unfolding decodeBody
 returns-2 c =
-    let f = c .before .before .before .before .before in (
-      rw (
-        c .fault2 .ensures,
-        ← f .before .before .fixed .ensures,
-        f .f .given .1,
-        ← c .before .before .before .read-record .ensures .0,
-        c .before .enum-told2 .given .1,
-      )
-          refl,
-      tt,
+    let f = c .before .before .before .before .before in
+    rw (
+      c .fault2 .ensures,
+      ← f .before .before .fixed .ensures,
+      f .f .given .1,
+      ← c .before .before .before .read-record .ensures .0,
+      c .before .enum-told2 .given .1,
     )
+    (refl, tt)
 
 read-address-requires : tie.Need-read-address-requires
 read-address-requires c κs = search needs
@@ -63,37 +61,33 @@ returns-3 : tie.Need-returns-3
 unfolding decodeBody
 returns-3 c =
     let r = c .before .before .before .before .before in
-    let f = r .before .before .before .before in (
-      rw (
-        c .fault3 .ensures,
-        ← f .before .before .fixed .ensures,
-        f .f .given .1,
-        ← r .before .before .read-record .ensures .0,
-        r .r .given .1,
-        ← c .before .before .before .read-address .ensures,
-        c .before .enum-told3 .given .1,
-      )
-          refl,
-      tt,
+    let f = r .before .before .before .before in
+    rw (
+      c .fault3 .ensures,
+      ← f .before .before .fixed .ensures,
+      f .f .given .1,
+      ← r .before .before .read-record .ensures .0,
+      r .r .given .1,
+      ← c .before .before .before .read-address .ensures,
+      c .before .enum-told3 .given .1,
     )
+    (refl, tt)
 
 returns-4 : tie.Need-returns-4
 unfolding decodeBody
 returns-4 c =
     let a = c .before in
     let r = a .before .before .before .before in
-    let f = r .before .before .before .before in (
-      rw (
-        ← f .before .before .fixed .ensures,
-        f .f .given .1,
-        ← r .before .before .read-record .ensures .0,
-        r .r .given .1,
-        ← a .before .before .read-address .ensures,
-        a .a .given .1,
-      )
-          refl,
-      rw (r .r .given .1) at (r .before .before .read-record .ensures .1),
+    let f = r .before .before .before .before in
+    rw (
+      ← f .before .before .fixed .ensures,
+      f .f .given .1,
+      ← r .before .before .read-record .ensures .0,
+      r .r .given .1,
+      ← a .before .before .read-address .ensures,
+      a .a .given .1,
     )
+    (refl, rw (r .r .given .1) at (r .before .before .read-record .ensures .1))
 
 pub read-hello-spec : {M : Type 1} → statement M
 read-hello-spec =

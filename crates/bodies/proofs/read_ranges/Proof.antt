@@ -49,17 +49,13 @@ returns-2 c =
 returns-3 : tie.Need-returns-3
 unfolding decodeRanges
 returns-3 c =
-    let struct-known2 = c .before in
-    let struct-known = struct-known2 .before in
-    let b = struct-known .before .before in
+    let b = c .before .before .before .before in
     let a = b .before .before .before .before in
     rw (
       ← a .before .before .read-triple .ensures,
       a .a .given .1,
       ← b .before .before .read-triple2 .ensures,
       b .b .given .1,
-      struct-known .struct-known .given .1,
-      struct-known2 .struct-known2 .given .1,
       lt-leb _ _ (c .if1 .taken),
     )
     refl
@@ -67,22 +63,14 @@ returns-3 c =
 returns-4 : tie.Need-returns-4
 unfolding decodeRanges
 returns-4 c =
-    let struct-known4 = c .before in
-    let struct-known3 = struct-known4 .before in
-    let struct-known2 = struct-known3 .before .before in
-    let struct-known = struct-known2 .before in
-    let b = struct-known .before .before in
+    let b = c .before .before .before .before .before .before .before in
     let a = b .before .before .before .before in
     rw (
       ← a .before .before .read-triple .ensures,
       a .a .given .1,
       ← b .before .before .read-triple2 .ensures,
       b .b .given .1,
-      struct-known .struct-known .given .1,
-      struct-known2 .struct-known2 .given .1,
-      le-leb _ _ (struct-known3 .before .if1 .left),
-      struct-known3 .struct-known3 .given .1,
-      struct-known4 .struct-known4 .given .1,
+      le-leb _ _ (c .before .before .before .if1 .left),
       lt-leb _ _ (c .if2 .taken),
     )
     refl
@@ -90,27 +78,15 @@ returns-4 c =
 returns-5 : tie.Need-returns-5
 unfolding decodeRanges
 returns-5 c =
-    let struct-known6 = c .before in
-    let struct-known5 = struct-known6 .before in
-    let struct-known4 = struct-known5 .before .before in
-    let struct-known3 = struct-known4 .before in
-    let struct-known2 = struct-known3 .before .before in
-    let struct-known = struct-known2 .before in
-    let b = struct-known .before .before in
+    let b = c .before .before .before .before .before .before .before .before .before .before in
     let a = b .before .before .before .before in
     rw (
       ← a .before .before .read-triple .ensures,
       a .a .given .1,
       ← b .before .before .read-triple2 .ensures,
       b .b .given .1,
-      struct-known .struct-known .given .1,
-      struct-known2 .struct-known2 .given .1,
-      le-leb _ _ (struct-known3 .before .if1 .left),
-      struct-known3 .struct-known3 .given .1,
-      struct-known4 .struct-known4 .given .1,
-      le-leb _ _ (struct-known5 .before .if2 .left),
-      struct-known5 .struct-known5 .given .1,
-      struct-known6 .struct-known6 .given .1,
+      le-leb _ _ (c .before .before .before .before .before .before .if1 .left),
+      le-leb _ _ (c .before .before .before .if2 .left),
       lt-leb _ _ (c .if3 .taken),
     )
     refl
@@ -118,27 +94,15 @@ returns-5 c =
 returns-6 : tie.Need-returns-6
 unfolding decodeRanges
 returns-6 c =
-    let struct-known6 = c .before in
-    let struct-known5 = struct-known6 .before in
-    let struct-known4 = struct-known5 .before .before in
-    let struct-known3 = struct-known4 .before in
-    let struct-known2 = struct-known3 .before .before in
-    let struct-known = struct-known2 .before in
-    let b = struct-known .before .before in
+    let b = c .before .before .before .before .before .before .before .before .before .before in
     let a = b .before .before .before .before in
     rw (
       ← a .before .before .read-triple .ensures,
       a .a .given .1,
       ← b .before .before .read-triple2 .ensures,
       b .b .given .1,
-      struct-known .struct-known .given .1,
-      struct-known2 .struct-known2 .given .1,
-      le-leb _ _ (struct-known3 .before .if1 .left),
-      struct-known3 .struct-known3 .given .1,
-      struct-known4 .struct-known4 .given .1,
-      le-leb _ _ (struct-known5 .before .if2 .left),
-      struct-known5 .struct-known5 .given .1,
-      struct-known6 .struct-known6 .given .1,
+      le-leb _ _ (c .before .before .before .before .before .before .if1 .left),
+      le-leb _ _ (c .before .before .before .if2 .left),
       le-leb _ _ (c .if3 .left),
     )
     refl

@@ -18,18 +18,16 @@ fault-requires c κs = search needs
 
 returns : tie.Need-returns
 unfolding decodeBody
-returns c = (rw (c .fault .ensures, ← c .before .before .before .read-records .ensures .0, c .before .enum-told .given .1) refl, tt)
+returns c = rw (c .fault .ensures, ← c .before .before .before .read-records .ensures .0, c .before .enum-told .given .1) (refl, tt)
 
 returns-2 : tie.Need-returns-2
 unfolding decodeBody
-returns-2 c = (
-  rw (
-    ← c .before .before .before .read-records .ensures .0,
-    c .before .l .given .1,
-  )
-      refl,
-  rw (c .before .l .given .1) at (c .before .before .before .read-records .ensures .1),
-)
+returns-2 c =
+    rw (
+      ← c .before .before .before .read-records .ensures .0,
+      c .before .l .given .1,
+    )
+    (refl, rw (c .before .l .given .1) at (c .before .before .before .read-records .ensures .1))
 
 pub read-records-body-spec : {M : Type 1} → statement M
 read-records-body-spec =

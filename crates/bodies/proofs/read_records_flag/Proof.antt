@@ -18,7 +18,7 @@ fault-requires c κs = search needs
 
 returns : tie.Need-returns
 unfolding decodeBody
-returns c = (rw (c .fault .ensures, ← c .before .before .before .read-records .ensures .0, c .before .enum-told .given .1) refl, tt)
+returns c = rw (c .fault .ensures, ← c .before .before .before .read-records .ensures .0, c .before .enum-told .given .1) (refl, tt)
 
 read-flag-requires : tie.Need-read-flag-requires
 read-flag-requires c κs = search needs
@@ -35,32 +35,28 @@ fault-requires-2 c κs = search needs
 returns-2 : tie.Need-returns-2
 unfolding decodeBody
 returns-2 c =
-    let l = c .before .before .before .before .before in (
-      rw (
-        c .fault2 .ensures,
-        ← l .before .before .read-records .ensures .0,
-        l .l .given .1,
-        ← c .before .before .before .read-flag .ensures,
-        c .before .enum-told2 .given .1,
-      )
-          refl,
-      tt,
+    let l = c .before .before .before .before .before in
+    rw (
+      c .fault2 .ensures,
+      ← l .before .before .read-records .ensures .0,
+      l .l .given .1,
+      ← c .before .before .before .read-flag .ensures,
+      c .before .enum-told2 .given .1,
     )
+    (refl, tt)
 
 returns-3 : tie.Need-returns-3
 unfolding decodeBody
 returns-3 c =
     let b = c .before in
-    let l = b .before .before .before .before in (
-      rw (
-        ← l .before .before .read-records .ensures .0,
-        l .l .given .1,
-        ← b .before .before .read-flag .ensures,
-        b .b .given .1,
-      )
-          refl,
-      rw (l .l .given .1) at (l .before .before .read-records .ensures .1),
+    let l = b .before .before .before .before in
+    rw (
+      ← l .before .before .read-records .ensures .0,
+      l .l .given .1,
+      ← b .before .before .read-flag .ensures,
+      b .b .given .1,
     )
+    (refl, rw (l .l .given .1) at (l .before .before .read-records .ensures .1))
 
 pub read-records-flag-spec : {M : Type 1} → statement M
 read-records-flag-spec =

@@ -18,7 +18,7 @@ fault-requires c κs = search needs
 
 returns : tie.Need-returns
 unfolding decodeBody decodeRequestParts
-returns c = (rw (c .fault .ensures, ← c .before .before .before .hash .ensures, c .before .enum-told .given .1) refl, tt)
+returns c = rw (c .fault .ensures, ← c .before .before .before .hash .ensures, c .before .enum-told .given .1) (refl, tt)
 
 read-ranges-requires : tie.Need-read-ranges-requires
 read-ranges-requires c κs = search needs
@@ -35,24 +35,22 @@ fault-requires-2 c κs = search needs
 returns-2 : tie.Need-returns-2
 unfolding decodeBody decodeRequestParts
 returns-2 c =
-    let h = c .before .before .before .before .before in (
-      rw (
-        c .fault2 .ensures,
-        ← h .before .before .hash .ensures,
-        h .h .given .1,
-        ← c .before .before .before .read-ranges .ensures,
-        c .before .enum-told2 .given .1,
-      )
-          refl,
-      tt,
+    let h = c .before .before .before .before .before in
+    rw (
+      c .fault2 .ensures,
+      ← h .before .before .hash .ensures,
+      h .h .given .1,
+      ← c .before .before .before .read-ranges .ensures,
+      c .before .enum-told2 .given .1,
     )
+    (refl, tt)
 
 returns-3 : tie.Need-returns-3
 unfolding decodeBody decodeRequestParts
 returns-3 c =
     let r = c .before in
     let h = r .before .before .before .before in
-    (rw (← h .before .before .hash .ensures, h .h .given .1, ← r .before .before .read-ranges .ensures, r .r .given .1) refl, tt)
+    rw (← h .before .before .hash .ensures, h .h .given .1, ← r .before .before .read-ranges .ensures, r .r .given .1) (refl, tt)
 
 pub read-request-parts-spec : {M : Type 1} → statement M
 read-request-parts-spec =

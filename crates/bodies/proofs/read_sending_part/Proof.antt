@@ -20,7 +20,7 @@ fault-requires c κs = search needs
 
 returns : tie.Need-returns
 unfolding decodeBody decodeSendingPart
-returns c = (rw (c .fault .ensures, ← c .before .before .before .hash .ensures, c .before .enum-told .given .1) refl, tt)
+returns c = rw (c .fault .ensures, ← c .before .before .before .hash .ensures, c .before .enum-told .given .1) (refl, tt)
 
 read-range-requires : tie.Need-read-range-requires
 read-range-requires c κs = search needs
@@ -37,17 +37,15 @@ fault-requires-2 c κs = search needs
 returns-2 : tie.Need-returns-2
 unfolding decodeBody decodeSendingPart
 returns-2 c =
-    let h = c .before .before .before .before .before in (
-      rw (
-        c .fault2 .ensures,
-        ← h .before .before .hash .ensures,
-        h .h .given .1,
-        ← c .before .before .before .read-range .ensures,
-        c .before .enum-told2 .given .1,
-      )
-          refl,
-      tt,
+    let h = c .before .before .before .before .before in
+    rw (
+      c .fault2 .ensures,
+      ← h .before .before .hash .ensures,
+      h .h .given .1,
+      ← c .before .before .before .read-range .ensures,
+      c .before .enum-told2 .given .1,
     )
+    (refl, tt)
 
 remaining-requires : tie.Need-remaining-requires
 remaining-requires c κs = search needs
@@ -56,18 +54,16 @@ returns-3 : tie.Need-returns-3
 unfolding decodeBody decodeSendingPart decodeTail
 returns-3 c =
     let r = c .before .before in
-    let h = r .before .before .before .before in (
-      rw (
-        ← h .before .before .hash .ensures,
-        h .h .given .1,
-        ← r .before .before .read-range .ensures,
-        r .r .given .1,
-        c .remaining .ensures,
-        to-the-end,
-      )
-          refl,
-      tt,
+    let h = r .before .before .before .before in
+    rw (
+      ← h .before .before .hash .ensures,
+      h .h .given .1,
+      ← r .before .before .read-range .ensures,
+      r .r .given .1,
+      c .remaining .ensures,
+      to-the-end,
     )
+    (refl, tt)
 
 pub read-sending-part-spec : {M : Type 1} → statement M
 read-sending-part-spec =

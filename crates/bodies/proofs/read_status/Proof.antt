@@ -22,30 +22,23 @@ fault-requires c κs = search needs
 
 returns : tie.Need-returns
 unfolding decodeBody
-returns c = (
-  rw (
-    c .fault .ensures,
-    ← c .before .before .before .before .before .remaining .ensures,
-    eq-eqb _ _ (c .before .before .before .before .if1 .taken),
-    ← c .before .before .before .read-triple .ensures,
-    c .before .enum-told .given .1,
-  )
-      refl,
-  tt,
-)
+returns c =
+    let b = c .before .before .before .before in
+    rw (
+      c .fault .ensures,
+      ← b .before .remaining .ensures,
+      eq-eqb _ _ (b .if1 .taken),
+      ← c .before .before .before .read-triple .ensures,
+      c .before .enum-told .given .1,
+    )
+    (refl, tt)
 
 returns-2 : tie.Need-returns-2
 unfolding decodeBody
-returns-2 c = (
-  rw (
-    ← c .before .before .before .before .before .remaining .ensures,
-    eq-eqb _ _ (c .before .before .before .before .if1 .taken),
-    ← c .before .before .before .read-triple .ensures,
-    c .before .p .given .1,
-  )
-      refl,
-  tt,
-)
+returns-2 c =
+    let p = c .before in
+    let b = p .before .before .before in
+    rw (← b .before .remaining .ensures, eq-eqb _ _ (b .if1 .taken), ← p .before .before .read-triple .ensures, p .p .given .1) (refl, tt)
 
 read-extended-status-requires : tie.Need-read-extended-status-requires
 read-extended-status-requires c κs = search needs
@@ -61,30 +54,23 @@ fault-requires-2 c κs = search needs
 
 returns-3 : tie.Need-returns-3
 unfolding decodeBody
-returns-3 c = (
-  rw (
-    c .fault2 .ensures,
-    ← c .before .before .before .before .before .remaining .ensures,
-    ne-eqb _ _ (c .before .before .before .before .if1 .left),
-    ← c .before .before .before .read-extended-status .ensures,
-    c .before .enum-told2 .given .1,
-  )
-      refl,
-  tt,
-)
+returns-3 c =
+    let b = c .before .before .before .before in
+    rw (
+      c .fault2 .ensures,
+      ← b .before .remaining .ensures,
+      ne-eqb _ _ (b .if1 .left),
+      ← c .before .before .before .read-extended-status .ensures,
+      c .before .enum-told2 .given .1,
+    )
+    (refl, tt)
 
 returns-4 : tie.Need-returns-4
 unfolding decodeBody
-returns-4 c = (
-  rw (
-    ← c .before .before .before .before .before .remaining .ensures,
-    ne-eqb _ _ (c .before .before .before .before .if1 .left),
-    ← c .before .before .before .read-extended-status .ensures,
-    c .before .e .given .1,
-  )
-      refl,
-  tt,
-)
+returns-4 c =
+    let e = c .before in
+    let b = e .before .before .before in
+    rw (← b .before .remaining .ensures, ne-eqb _ _ (b .if1 .left), ← e .before .before .read-extended-status .ensures, e .e .given .1) (refl, tt)
 
 pub read-status-spec : {M : Type 1} → statement M
 read-status-spec =

@@ -18,7 +18,7 @@ fault-requires c κs = search needs
 
 returns : tie.Need-returns
 unfolding decodeBody decodeStatusRequest
-returns c = (rw (c .fault .ensures, ← c .before .before .before .dword .ensures, c .before .enum-told .given .1) refl, tt)
+returns c = rw (c .fault .ensures, ← c .before .before .before .dword .ensures, c .before .enum-told .given .1) (refl, tt)
 
 form-of-requires : tie.Need-form-of-requires
 form-of-requires c κs = search needs
@@ -27,7 +27,7 @@ returns-2 : tie.Need-returns-2
 unfolding decodeBody decodeStatusRequest
 returns-2 c =
     let d = c .before .before in
-    (rw (← d .before .before .dword .ensures, d .d .given .1, ← c .form-of .ensures) refl, tt)
+    rw (← d .before .before .dword .ensures, d .d .given .1, ← c .form-of .ensures) (refl, tt)
 
 pub read-status-request-spec : {M : Type 1} → statement M
 read-status-request-spec =

@@ -18,7 +18,7 @@ fault-requires c κs = search needs
 
 returns : tie.Need-returns
 unfolding decodeBody
-returns c = (rw (c .fault .ensures, ← c .before .before .before .dword .ensures, c .before .enum-told .given .1) refl, tt)
+returns c = rw (c .fault .ensures, ← c .before .before .before .dword .ensures, c .before .enum-told .given .1) (refl, tt)
 
 dword-requires-2 : tie.Need-dword-requires-2
 dword-requires-2 c κs = search needs
@@ -35,24 +35,22 @@ fault-requires-2 c κs = search needs
 returns-2 : tie.Need-returns-2
 unfolding decodeBody
 returns-2 c =
-    let a = c .before .before .before .before .before in (
-      rw (
-        c .fault2 .ensures,
-        ← a .before .before .dword .ensures,
-        a .a .given .1,
-        ← c .before .before .before .dword2 .ensures,
-        c .before .enum-told2 .given .1,
-      )
-          refl,
-      tt,
+    let a = c .before .before .before .before .before in
+    rw (
+      c .fault2 .ensures,
+      ← a .before .before .dword .ensures,
+      a .a .given .1,
+      ← c .before .before .before .dword2 .ensures,
+      c .before .enum-told2 .given .1,
     )
+    (refl, tt)
 
 returns-3 : tie.Need-returns-3
 unfolding decodeBody
 returns-3 c =
     let b = c .before in
     let a = b .before .before .before .before in
-    (rw (← a .before .before .dword .ensures, a .a .given .1, ← b .before .before .dword2 .ensures, b .b .given .1) refl, tt)
+    rw (← a .before .before .dword .ensures, a .a .given .1, ← b .before .before .dword2 .ensures, b .b .given .1) (refl, tt)
 
 pub read-two-dwords-spec : {M : Type 1} → statement M
 read-two-dwords-spec =

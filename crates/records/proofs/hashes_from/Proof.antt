@@ -28,10 +28,10 @@ fault-requires c κs = search needs
 
 returns : tie.Need-returns Inv-loop μ-loop
 returns c =
-    let told = c .before .enum-told .given .1 in
     let l = c .before .before .before .before in
-    rw (c .fault .ensures, told)
-    (refuses decodeHash _ _ _ _ _ (l .loop-test .taken) (l .before .loop .inv) (rw told at (c .before .before .before .hash .ensures)))
+    let told = c .before .enum-told .given .1 in
+    let read = rw told at (c .before .before .before .hash .ensures) in
+    rw (c .fault .ensures, told) (refuses decodeHash _ _ _ _ _ (l .loop-test .taken) (l .before .loop .inv) read)
 
 add-i : tie.Need-add-i Inv-loop μ-loop
 add-i c = search needs
@@ -42,7 +42,8 @@ loop-less c = search needs
 loop-again : tie.Need-loop-again Inv-loop μ-loop
 loop-again c =
     let l = c .before .before .before .before in
-    goes-on decodeHash _ _ _ _ _ (l .loop-test .taken) (l .before .loop .inv) (rw (c .before .h .given .1) at (c .before .before .before .hash .ensures))
+    let read = rw (c .before .h .given .1) at (c .before .before .before .hash .ensures) in
+    goes-on decodeHash _ _ _ _ _ (l .loop-test .taken) (l .before .loop .inv) read
 
 returns-2 : tie.Need-returns-2 Inv-loop μ-loop
 returns-2 c = finishes decodeHash _ _ _ _ _ (c .loop-test .left) (c .before .loop .inv)

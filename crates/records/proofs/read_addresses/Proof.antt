@@ -18,7 +18,7 @@ fault-requires c κs = search needs
 
 returns : tie.Need-returns
 unfolding decodeCounted
-returns c = (rw (c .fault .ensures, ← c .before .before .before .byte .ensures, c .before .enum-told .given .1) refl, tt)
+returns c = rw (c .fault .ensures, ← c .before .before .before .byte .ensures, c .before .enum-told .given .1) (refl, tt)
 
 cast-addresses-from : tie.Need-cast-addresses-from
 cast-addresses-from c = search needs
@@ -30,7 +30,7 @@ returns-2 : tie.Need-returns-2
 unfolding decodeCounted
 returns-2 c =
     let b = c .before .before in
-    (rw (← b .before .before .byte .ensures, b .b .given .1) (c .addresses-from .ensures .0), c .addresses-from .ensures .1)
+    rw (← b .before .before .byte .ensures, b .b .given .1) (c .addresses-from .ensures)
 
 pub read-addresses-spec : {M : Type 1} → statement M
 read-addresses-spec =

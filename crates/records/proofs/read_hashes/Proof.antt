@@ -18,7 +18,7 @@ fault-requires c κs = search needs
 
 returns : tie.Need-returns
 unfolding decodeCounted
-returns c = (rw (c .fault .ensures, ← c .before .before .before .word .ensures, c .before .enum-told .given .1) refl, tt)
+returns c = rw (c .fault .ensures, ← c .before .before .before .word .ensures, c .before .enum-told .given .1) (refl, tt)
 
 cast-hashes-from : tie.Need-cast-hashes-from
 cast-hashes-from c = search needs
@@ -30,7 +30,7 @@ returns-2 : tie.Need-returns-2
 unfolding decodeCounted
 returns-2 c =
     let w = c .before .before in
-    (rw (← w .before .before .word .ensures, w .w .given .1) (c .hashes-from .ensures .0), c .hashes-from .ensures .1)
+    rw (← w .before .before .word .ensures, w .w .given .1) (c .hashes-from .ensures)
 
 pub read-hashes-spec : {M : Type 1} → statement M
 read-hashes-spec =

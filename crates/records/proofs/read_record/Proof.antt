@@ -18,7 +18,7 @@ fault-requires c κs = search needs
 
 returns : tie.Need-returns
 unfolding decodeRecord
-returns c = (rw (c .fault .ensures, ← c .before .before .before .hash .ensures, c .before .enum-told .given .1) refl, tt)
+returns c = rw (c .fault .ensures, ← c .before .before .before .hash .ensures, c .before .enum-told .given .1) (refl, tt)
 
 dword-requires : tie.Need-dword-requires
 dword-requires c κs = search needs
@@ -35,17 +35,15 @@ fault-requires-2 c κs = search needs
 returns-2 : tie.Need-returns-2
 unfolding decodeRecord
 returns-2 c =
-    let h = c .before .before .before .before .before in (
-      rw (
-        c .fault2 .ensures,
-        ← h .before .before .hash .ensures,
-        h .h .given .1,
-        ← c .before .before .before .dword .ensures,
-        c .before .enum-told2 .given .1,
-      )
-          refl,
-      tt,
+    let h = c .before .before .before .before .before in
+    rw (
+      c .fault2 .ensures,
+      ← h .before .before .hash .ensures,
+      h .h .given .1,
+      ← c .before .before .before .dword .ensures,
+      c .before .enum-told2 .given .1,
     )
+    (refl, tt)
 
 word-requires : tie.Need-word-requires
 word-requires c κs = search needs
@@ -63,19 +61,17 @@ returns-3 : tie.Need-returns-3
 unfolding decodeRecord
 returns-3 c =
     let d = c .before .before .before .before .before in
-    let h = d .before .before .before .before in (
-      rw (
-        c .fault3 .ensures,
-        ← h .before .before .hash .ensures,
-        h .h .given .1,
-        ← d .before .before .dword .ensures,
-        d .d .given .1,
-        ← c .before .before .before .word .ensures,
-        c .before .enum-told3 .given .1,
-      )
-          refl,
-      tt,
+    let h = d .before .before .before .before in
+    rw (
+      c .fault3 .ensures,
+      ← h .before .before .hash .ensures,
+      h .h .given .1,
+      ← d .before .before .dword .ensures,
+      d .d .given .1,
+      ← c .before .before .before .word .ensures,
+      c .before .enum-told3 .given .1,
     )
+    (refl, tt)
 
 read-tags-requires : tie.Need-read-tags-requires
 read-tags-requires c κs = search needs
@@ -94,21 +90,19 @@ unfolding decodeRecord
 returns-4 c =
     let w = c .before .before .before .before .before in
     let d = w .before .before .before .before in
-    let h = d .before .before .before .before in (
-      rw (
-        c .fault4 .ensures,
-        ← h .before .before .hash .ensures,
-        h .h .given .1,
-        ← d .before .before .dword .ensures,
-        d .d .given .1,
-        ← w .before .before .word .ensures,
-        w .w .given .1,
-        ← c .before .before .before .read-tags .ensures .0,
-        c .before .enum-told4 .given .1,
-      )
-          refl,
-      tt,
+    let h = d .before .before .before .before in
+    rw (
+      c .fault4 .ensures,
+      ← h .before .before .hash .ensures,
+      h .h .given .1,
+      ← d .before .before .dword .ensures,
+      d .d .given .1,
+      ← w .before .before .word .ensures,
+      w .w .given .1,
+      ← c .before .before .before .read-tags .ensures .0,
+      c .before .enum-told4 .given .1,
     )
+    (refl, tt)
 
 returns-5 : tie.Need-returns-5
 unfolding decodeRecord
@@ -116,20 +110,18 @@ returns-5 c =
     let t = c .before in
     let w = t .before .before .before .before in
     let d = w .before .before .before .before in
-    let h = d .before .before .before .before in (
-      rw (
-        ← h .before .before .hash .ensures,
-        h .h .given .1,
-        ← d .before .before .dword .ensures,
-        d .d .given .1,
-        ← w .before .before .word .ensures,
-        w .w .given .1,
-        ← t .before .before .read-tags .ensures .0,
-        t .t .given .1,
-      )
-          refl,
-      rw (t .t .given .1) at (t .before .before .read-tags .ensures .1),
+    let h = d .before .before .before .before in
+    rw (
+      ← h .before .before .hash .ensures,
+      h .h .given .1,
+      ← d .before .before .dword .ensures,
+      d .d .given .1,
+      ← w .before .before .word .ensures,
+      w .w .given .1,
+      ← t .before .before .read-tags .ensures .0,
+      t .t .given .1,
     )
+    (refl, rw (t .t .given .1) at (t .before .before .read-tags .ensures .1))
 
 pub read-record-spec : {M : Type 1} → statement M
 read-record-spec =

@@ -18,7 +18,7 @@ fault-requires c κs = search needs
 
 returns : tie.Need-returns
 unfolding decodeCounted
-returns c = (rw (c .fault .ensures, ← c .before .before .before .dword .ensures, c .before .enum-told .given .1) refl, tt)
+returns c = rw (c .fault .ensures, ← c .before .before .before .dword .ensures, c .before .enum-told .given .1) (refl, tt)
 
 records-from-requires : tie.Need-records-from-requires
 records-from-requires c κs = search needs
@@ -27,7 +27,7 @@ returns-2 : tie.Need-returns-2
 unfolding decodeCounted
 returns-2 c =
     let d = c .before .before in
-    (rw (← d .before .before .dword .ensures, d .d .given .1) (c .records-from .ensures .0), c .records-from .ensures .1)
+    rw (← d .before .before .dword .ensures, d .d .given .1) (c .records-from .ensures)
 
 pub read-records-spec : {M : Type 1} → statement M
 read-records-spec =

@@ -25,10 +25,10 @@ returns-2 : tie.Need-returns-2
 returns-2 c = rw (c .before .before .before .number .given .1, c .enum-told2 .given .1) refl
 
 returns-3 : tie.Need-returns-3
-returns-3 c = search needs
+returns-3 c = rw (c .before .before .before .number .given .1, c .enum-told3 .given .1) refl
 
 returns-4 : tie.Need-returns-4
-returns-4 c = search needs
+returns-4 c = rw (c .before .before .before .number .given .1, c .enum-told4 .given .1) refl
 
 pub join-spec : {M : Type 1} → statement M
 join-spec =

@@ -1,0 +1,4 @@
+pub mod Laws
+pub mod Writes
+pub mod Pieces
+pub mod Leaves

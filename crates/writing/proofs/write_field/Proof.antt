@@ -1,0 +1,72 @@
+use mathlib.Core.Path.{_∙_, sym}
+use native.Mathlib.Omega.{arith}
+use denote.Ref.{now}
+use lib.ListN.{length}
+use Rattle.format.specs.Messages.{field}
+use Rattle.format.specs.Layout.{encodeQuery}
+use Rattle.writing.specs.Writers.{writeField}
+use Rattle.writing.proofs.Pieces.{field-size, field-fits, faulty, roomless, written}
+use borrow.Author.Needs.{needs}
+use Rattle.writing.proofs.write_field.Statement.{statement}
+use Rattle.writing.proofs.write_field.Tie as tie
+
+field-number-requires : tie.Need-field-number-requires
+field-number-requires c κs = search needs
+
+refused-requires : tie.Need-refused-requires
+refused-requires c κs = search needs
+
+returns : tie.Need-returns
+unfolding writeField
+returns c =
+    let a = c .before .before .before .before .before .before .args in
+    rw (c .refused .ensures) (faulty _ _ (c .before .before .field-number .ensures) (encodeQuery (field (now (a .text)) (now (a .name)))) _ (c .before .if1 .taken))
+
+add-if2 : tie.Need-add-if2
+add-if2 c = search needs
+
+add-if2-2 : tie.Need-add-if2-2
+add-if2-2 c = 
+    let a = c .before .before .before .before .before .args in
+    let h = field-fits (length (now (a .text))) (length (now (a .name))) (sym (c .before .field-number .ensures) ∙ c .if1 .left) in
+    record { fits = omega (arith, h .1 .1) }
+
+refused-requires-2 : tie.Need-refused-requires-2
+refused-requires-2 c κs = search needs
+
+returns-2 : tie.Need-returns-2
+unfolding writeField
+returns-2 c = 
+    let a = c .before .before .before .before .before .before .before .args in
+    rw (c .refused2 .ensures) (roomless _ _ (c .before .before .before .field-number .ensures) (encodeQuery (field (now (a .text)) (now (a .name)))) _ (c .before .before .if1 .left) _ (field-size (now (a .text)) (now (a .name))) (c .before .if2 .taken))
+
+put-field-requires : tie.Need-put-field-requires
+put-field-requires c κs = 
+    let a = c .before .before .before .before .before .before .before .args in
+    let h = field-fits (length (now (a .text))) (length (now (a .name))) (sym (c .before .before .before .field-number .ensures) ∙ c .before .before .if1 .left) in
+    (h .0, h .1 .0, c .before .if2 .left)
+
+same-length : tie.Need-same-length
+same-length c = search needs
+
+returns-3 : tie.Need-returns-3
+unfolding writeField
+returns-3 c = 
+    let a = c .before .before .before .before .before .before .before .before .before .before .args in
+    let put = c .before .before .put-field .ensures in
+    rw (put .0, put .1) (written _ _ (c .before .before .before .before .before .before .field-number .ensures) (encodeQuery (field (now (a .text)) (now (a .name)))) (now (a .out)) (c .before .before .before .before .before .if1 .left) _ (field-size (now (a .text)) (now (a .name))) (c .before .before .before .before .if2 .left))
+
+pub write-field-spec : {M : Type 1} → statement M
+write-field-spec =
+    tie.close
+    (tie.spec
+    field-number-requires
+    refused-requires
+    returns
+    add-if2
+    add-if2-2
+    refused-requires-2
+    returns-2
+    put-field-requires
+    same-length
+    returns-3)

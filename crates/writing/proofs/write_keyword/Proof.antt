@@ -1,0 +1,65 @@
+use mathlib.Core.Path.{_∙_, sym}
+use native.Mathlib.Omega.{arith}
+use denote.Ref.{now}
+use lib.ListN.{length}
+use Rattle.format.specs.Messages.{keyword}
+use Rattle.format.specs.Layout.{encodeQuery}
+use Rattle.writing.specs.Writers.{writeKeyword}
+use Rattle.writing.proofs.Pieces.{keyword-size, keyword-fits, faulty, roomless, written}
+use borrow.Author.Needs.{needs}
+use Rattle.writing.proofs.write_keyword.Statement.{statement}
+use Rattle.writing.proofs.write_keyword.Tie as tie
+
+keyword-number-requires : tie.Need-keyword-number-requires
+keyword-number-requires c κs = search needs
+
+refused-requires : tie.Need-refused-requires
+refused-requires c κs = search needs
+
+returns : tie.Need-returns
+unfolding writeKeyword
+returns c =
+    let a = c .before .before .before .before .before .args in
+    rw (c .refused .ensures) (faulty _ _ (c .before .before .keyword-number .ensures) (encodeQuery (keyword (now (a .text)))) _ (c .before .if1 .taken))
+
+add-if2 : tie.Need-add-if2
+add-if2 c = search needs
+
+refused-requires-2 : tie.Need-refused-requires-2
+refused-requires-2 c κs = search needs
+
+returns-2 : tie.Need-returns-2
+unfolding writeKeyword
+returns-2 c = 
+    let a = c .before .before .before .before .before .before .args in
+    rw (c .refused2 .ensures) (roomless _ _ (c .before .before .before .keyword-number .ensures) (encodeQuery (keyword (now (a .text)))) _ (c .before .before .if1 .left) _ (keyword-size (now (a .text))) (c .before .if2 .taken))
+
+put-keyword-requires : tie.Need-put-keyword-requires
+put-keyword-requires c κs = 
+    let a = c .before .before .before .before .before .before .args in
+    let h = keyword-fits (length (now (a .text))) (sym (c .before .before .before .keyword-number .ensures) ∙ c .before .before .if1 .left) in
+    (h .0, c .before .if2 .left)
+
+same-length : tie.Need-same-length
+same-length c = search needs
+
+returns-3 : tie.Need-returns-3
+unfolding writeKeyword
+returns-3 c = 
+    let a = c .before .before .before .before .before .before .before .before .before .args in
+    let put = c .before .before .put-keyword .ensures in
+    rw (put .0, put .1) (written _ _ (c .before .before .before .before .before .before .keyword-number .ensures) (encodeQuery (keyword (now (a .text)))) (now (a .out)) (c .before .before .before .before .before .if1 .left) _ (keyword-size (now (a .text))) (c .before .before .before .before .if2 .left))
+
+pub write-keyword-spec : {M : Type 1} → statement M
+write-keyword-spec =
+    tie.close
+    (tie.spec
+    keyword-number-requires
+    refused-requires
+    returns
+    add-if2
+    refused-requires-2
+    returns-2
+    put-keyword-requires
+    same-length
+    returns-3)

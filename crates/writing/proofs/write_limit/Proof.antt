@@ -1,0 +1,66 @@
+use mathlib.Core.Path.{_∙_, sym}
+use native.Mathlib.Omega.{arith}
+use denote.Ref.{now}
+use lib.ListN.{length}
+use Rattle.format.specs.Messages.{limit}
+use Rattle.format.specs.Layout.{encodeQuery}
+use Rattle.query.specs.Meaning.{boundOf}
+use Rattle.writing.specs.Writers.{writeLimit}
+use Rattle.writing.proofs.Pieces.{limit-size, limit-fits, faulty, roomless, written}
+use borrow.Author.Needs.{needs}
+use Rattle.writing.proofs.write_limit.Statement.{statement}
+use Rattle.writing.proofs.write_limit.Tie as tie
+
+limit-number-requires : tie.Need-limit-number-requires
+limit-number-requires c κs = search needs
+
+refused-requires : tie.Need-refused-requires
+refused-requires c κs = search needs
+
+returns : tie.Need-returns
+unfolding writeLimit
+returns c =
+    let a = c .before .before .before .before .before .args in
+    rw (c .refused .ensures) (faulty _ _ (c .before .before .limit-number .ensures) (encodeQuery (limit (a .value) (boundOf (a .bound)) (now (a .name)))) _ (c .before .if1 .taken))
+
+add-if2 : tie.Need-add-if2
+add-if2 c = search needs
+
+refused-requires-2 : tie.Need-refused-requires-2
+refused-requires-2 c κs = search needs
+
+returns-2 : tie.Need-returns-2
+unfolding writeLimit
+returns-2 c = 
+    let a = c .before .before .before .before .before .before .args in
+    rw (c .refused2 .ensures) (roomless _ _ (c .before .before .before .limit-number .ensures) (encodeQuery (limit (a .value) (boundOf (a .bound)) (now (a .name)))) _ (c .before .before .if1 .left) _ (limit-size (a .value) (boundOf (a .bound)) (now (a .name))) (c .before .if2 .taken))
+
+put-limit-requires : tie.Need-put-limit-requires
+put-limit-requires c κs = 
+    let a = c .before .before .before .before .before .before .args in
+    let h = limit-fits (length (now (a .name))) (sym (c .before .before .before .limit-number .ensures) ∙ c .before .before .if1 .left) in
+    (h .0, c .before .if2 .left)
+
+same-length : tie.Need-same-length
+same-length c = search needs
+
+returns-3 : tie.Need-returns-3
+unfolding writeLimit
+returns-3 c = 
+    let a = c .before .before .before .before .before .before .before .before .before .args in
+    let put = c .before .before .put-limit .ensures in
+    rw (put .0, put .1) (written _ _ (c .before .before .before .before .before .before .limit-number .ensures) (encodeQuery (limit (a .value) (boundOf (a .bound)) (now (a .name)))) (now (a .out)) (c .before .before .before .before .before .if1 .left) _ (limit-size (a .value) (boundOf (a .bound)) (now (a .name))) (c .before .before .before .before .if2 .left))
+
+pub write-limit-spec : {M : Type 1} → statement M
+write-limit-spec =
+    tie.close
+    (tie.spec
+    limit-number-requires
+    refused-requires
+    returns
+    add-if2
+    refused-requires-2
+    returns-2
+    put-limit-requires
+    same-length
+    returns-3)

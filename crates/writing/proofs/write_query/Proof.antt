@@ -1,0 +1,90 @@
+use mathlib.Core.Path.{_≡_, refl, sym, _∙_}
+use native.Mathlib.Omega.{arith}
+use denote.Ref.{now}
+use Rattle.wire.proofs.Replies.{slice-bytes}
+use Rattle.writing.proofs.Laws.{query-copies, query-refused, over-ceiling, no-room, wrote}
+use borrow.Author.Needs.{needs}
+use Rattle.writing.proofs.write_query.Statement.{statement}
+use Rattle.writing.proofs.write_query.Tie as tie
+
+read-query-requires : tie.Need-read-query-requires
+read-query-requires c κs = search needs
+
+enum-known-e : tie.Need-enum-known-e
+enum-known-e c = search needs
+
+enum-told : tie.Need-enum-told
+enum-told c = search needs
+
+fault-requires : tie.Need-fault-requires
+fault-requires c κs = search needs
+
+number-requires : tie.Need-number-requires
+number-requires c κs = search needs
+
+returns : tie.Need-returns
+returns c = 
+    let b = c .before .before .before .before in
+    let told = c .before .before .enum-told .given .1 in
+    let read = rw told at (b .read-query .ensures .0) in
+    rw (c .number .ensures, c .before .fault .ensures, told) (query-refused (now (b .before .before .before .args .src)) (b .before .before .shared-slice-known .given) (b .before .before .before .args .q) _ read)
+
+sub-n : tie.Need-sub-n
+sub-n c = 
+    let b = c .before .before .before in
+    let read = rw (c .before .e .given .1) at (b .read-query .ensures .0) in
+    query-copies (now (b .before .before .before .args .src)) (b .before .before .shared-slice-known .given) (b .before .before .before .args .q) read .order
+
+returns-2 : tie.Need-returns-2
+returns-2 c = 
+    let b = c .before .before .before .before in
+    let read = rw (c .before .before .e .given .1) at (b .read-query .ensures .0) in
+    let q = query-copies (now (b .before .before .before .args .src)) (b .before .before .shared-slice-known .given) (b .before .before .before .args .q) read in
+    over-ceiling q _ (omega (arith, c .if1 .taken))
+
+returns-3 : tie.Need-returns-3
+returns-3 c = 
+    let b = c .before .before .before .before .before in
+    let read = rw (c .before .before .before .e .given .1) at (b .read-query .ensures .0) in
+    let q = query-copies (now (b .before .before .before .args .src)) (b .before .before .shared-slice-known .given) (b .before .before .before .args .q) read in
+    no-room q _ (omega (arith, c .before .if1 .left)) (omega (arith, c .if2 .taken))
+
+bytes-at-requires : tie.Need-bytes-at-requires
+bytes-at-requires c κs = search needs
+
+copy-requires : tie.Need-copy-requires
+copy-requires c κs = 
+    let b = c .before .before .before .before .before .before .before in
+    let read = rw (c .before .before .before .before .before .e .given .1) at (b .read-query .ensures .0) in
+    let q = query-copies (now (b .before .before .before .args .src)) (b .before .before .shared-slice-known .given) (b .before .before .before .args .q) read in
+    rw (c .before .bytes-at .ensures, q .size) (c .before .before .if2 .left)
+
+same-length : tie.Need-same-length
+same-length c = search needs
+
+returns-4 : tie.Need-returns-4
+returns-4 c = 
+    let k = c .before .before .before .before .before in
+    let b = k .before .before .before .before .before in
+    let read = rw (k .before .before .before .e .given .1) at (b .read-query .ensures .0) in
+    let q = query-copies (now (b .before .before .before .args .src)) (b .before .before .shared-slice-known .given) (b .before .before .before .args .q) read in
+    rw (c .before .before .copy .ensures)
+    (wrote q _ _ _ (omega arith) (c .before .before .before .before .bytes-at .ensures) (omega (arith, k .before .if1 .left)) (omega (arith, k .if2 .left)))
+
+pub write-query-spec : {M : Type 1} → statement M
+write-query-spec =
+    tie.close
+    (tie.spec
+    read-query-requires
+    enum-known-e
+    enum-told
+    fault-requires
+    number-requires
+    returns
+    sub-n
+    returns-2
+    returns-3
+    bytes-at-requires
+    copy-requires
+    same-length
+    returns-4)

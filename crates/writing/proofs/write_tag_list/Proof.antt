@@ -1,0 +1,100 @@
+use mathlib.Core.Path.{refl}
+use native.Mathlib.Omega.{arith}
+use denote.Ref.{now}
+use Rattle.writing.proofs.Laws.{list-copies, list-refused, over-ceiling, no-room, wrote}
+use borrow.Author.Needs.{needs}
+use Rattle.writing.proofs.write_tag_list.Statement.{statement}
+use Rattle.writing.proofs.write_tag_list.Tie as tie
+
+tags-end-requires : tie.Need-tags-end-requires
+tags-end-requires c κs = search needs
+
+enum-known-e : tie.Need-enum-known-e
+enum-known-e c = search needs
+
+enum-told : tie.Need-enum-told
+enum-told c = search needs
+
+fault-requires : tie.Need-fault-requires
+fault-requires c κs = search needs
+
+number-requires : tie.Need-number-requires
+number-requires c κs = search needs
+
+returns : tie.Need-returns
+returns c = 
+    let b = c .before .before .before .before in
+    let a = b .before .before .before .args in
+    let told = c .before .before .enum-told .given .1 in
+    let read = rw told at (b .tags-end .ensures) in
+    rw (c .number .ensures, c .before .fault .ensures, told) (list-refused (now (a .src)) (b .before .before .shared-slice-known .given) (a .tags) _ read)
+
+sub-n : tie.Need-sub-n
+sub-n c = 
+    let b = c .before .before .before in
+    let a = b .before .before .before .args in
+    let read = rw (c .before .e .given .1) at (b .tags-end .ensures) in
+    list-copies (now (a .src)) (b .before .before .shared-slice-known .given) (a .tags) read .order
+
+returns-2 : tie.Need-returns-2
+returns-2 c = 
+    let b = c .before .before .before .before in
+    let read = rw (c .before .before .e .given .1) at (b .tags-end .ensures) in
+    let a = b .before .before .before .args in
+    let l = list-copies (now (a .src)) (b .before .before .shared-slice-known .given) (a .tags) read in
+    over-ceiling l _ (omega (arith, c .if1 .taken))
+
+add-if2 : tie.Need-add-if2
+add-if2 c = search needs
+
+returns-3 : tie.Need-returns-3
+returns-3 c = 
+    let b = c .before .before .before .before .before in
+    let read = rw (c .before .before .before .e .given .1) at (b .tags-end .ensures) in
+    let a = b .before .before .before .args in
+    let l = list-copies (now (a .src)) (b .before .before .shared-slice-known .given) (a .tags) read in
+    no-room l _ (omega (arith, c .before .if1 .left)) (omega (arith, c .if2 .taken))
+
+bytes-at-requires : tie.Need-bytes-at-requires
+bytes-at-requires c κs = search needs
+
+put-list-requires : tie.Need-put-list-requires
+put-list-requires c κs = 
+    let b = c .before .before .before .before .before .before .before in
+    let read = rw (c .before .before .before .before .before .e .given .1) at (b .tags-end .ensures) in
+    let a = b .before .before .before .args in
+    let l = list-copies (now (a .src)) (b .before .before .shared-slice-known .given) (a .tags) read in
+    rw (c .before .bytes-at .ensures, l .size) (c .before .before .if2 .left)
+
+same-length : tie.Need-same-length
+same-length c = search needs
+
+returns-4 : tie.Need-returns-4
+returns-4 c = 
+    let k = c .before .before .before .before .before in
+    let b = k .before .before .before .before .before in
+    let read = rw (k .before .before .before .e .given .1) at (b .tags-end .ensures) in
+    let a = b .before .before .before .args in
+    let l = list-copies (now (a .src)) (b .before .before .shared-slice-known .given) (a .tags) read in
+    let bytes = c .before .before .before .before .bytes-at .ensures in
+    rw (c .before .before .put-list .ensures .0, c .before .before .put-list .ensures .1)
+    (wrote l _ _ _ (rw (bytes, l .size) refl) bytes (omega (arith, k .before .if1 .left)) (omega (arith, k .if2 .left)))
+
+pub write-tag-list-spec : {M : Type 1} → statement M
+write-tag-list-spec =
+    tie.close
+    (tie.spec
+    tags-end-requires
+    enum-known-e
+    enum-told
+    fault-requires
+    number-requires
+    returns
+    sub-n
+    returns-2
+    add-if2
+    returns-3
+    bytes-at-requires
+    put-list-requires
+    same-length
+    returns-4)

@@ -1,0 +1,287 @@
+// The writers of the lone tag list and the lone query.
+//
+// Each writer is lent the output and answers with the number of the papers, 0 for an accepted write, and with how many bytes it
+// wrote at the front of the output. Everything is checked and the size is known before the first store, so a refusal leaves the
+// output as it was. The order is that of the papers: 6 for what a count field cannot hold, then the number that the reader would
+// give for the finished bytes, and 10, the room, last.
+//
+// specs/Writers.antt says what each writer does; proofs/Writes.antt shows that this is a write of the format.
+ghost use mathlib.Core.Path.{_≡_};
+ghost use mathlib.Core.List.{_++_};
+ghost use Prim.Native.Nat.{_+_, _≤_, _<_};
+ghost use lib.ListN.{length};
+ghost use Rattle.format.specs.Layout.{dword};
+ghost use Rattle.format.specs.Decoding.{decodeMany, ends};
+ghost use Rattle.format.specs.Order.{decodeTag};
+ghost use Rattle.format.specs.Writing.{overwritten};
+ghost use Rattle.wire.specs.Meaning.{doneMeaning};
+ghost use Rattle.format.specs.Layout.{encodeQuery};
+ghost use Rattle.format.specs.Messages.{keyword, field, limit};
+ghost use Rattle.query.specs.Meaning.{boundOf};
+ghost use Rattle.writing.specs.Writers.{answered, refusedBy, writeTagList, writeQuery, writeKeyword, writeField, writeLimit};
+ghost use Rattle.writing.specs.Writers.{nameNumber, keywordNumber, fieldNumber, limitNumber, boundByte};
+use query::Bound;
+use query::Query;
+use query::QueryStep;
+use tags::TagStep;
+use wire::Cursor;
+use wire::DoneStep;
+use wire::Items;
+
+// 0 and how many bytes were written, or the number of a refusal and 0.
+pub struct WriteAnswer {
+    pub number: u8,
+    pub length: usize,
+}
+
+// The place behind `count` tags, each of which is read.
+fn tags_end(s: &[u8], first: Cursor, count: u32) -> DoneStep
+    ensures { λ r. ⌜ doneMeaning r ≡ ends (decodeMany count decodeTag (now (s .entry)) (first .at)) ⌝ }
+{
+    let mut next = first;
+    let mut i: u32 = 0;
+    while i < count {
+        let t = tags::read_tag(s, next);
+        let TagStep::Got(_, after) = t else {
+            return DoneStep::Refused(t.fault());
+        };
+        next = after;
+        i += 1;
+    }
+    DoneStep::Got(next)
+}
+
+// A count, and behind it the bytes of that many items. The answer is how many bytes were written.
+fn put_list(out: &mut [u8], count: u32, items: &[u8]) -> usize
+    requires { ⌜ 4 + length (now items) ≤ length (now out) ⌝ }
+    ensures written { λ r. ⌜ r ≡ 4 + length (now (items .entry)) ⌝ }
+    ensures output { λ r. ⌜ now (out .exit) ≡ overwritten (dword count ++ now (items .entry)) (now (out .entry)) ⌝ }
+{
+    let n = items.len();
+    put::put_dword(out, count);
+    put::copy(&mut out[4..], items);
+    4 + n
+}
+
+// The lone tag list of the tags that lie at a place of `src`, as the readers hand it out. They are read again, and their bytes are
+// copied as they lie there. A place where no such tags lie is no message: it is refused first, with the number of its own reading.
+pub fn write_tag_list(src: &[u8], tags: Items, out: &mut [u8]) -> WriteAnswer
+    ensures { λ r. ⌜ answered r (now (out .exit)) ≡ writeTagList (now (src .entry)) tags (now (out .entry)) ⌝ }
+{
+    let at = tags.at;
+    let count = tags.count;
+    let e = tags_end(src, Cursor { at }, count);
+    let DoneStep::Got(next) = e else {
+        return WriteAnswer {
+            number: e.fault().number(),
+            length: 0,
+        };
+    };
+    let end = next.at;
+    let n = end - at;
+    if 65532 < n {
+        return WriteAnswer {
+            number: 6,
+            length: 0,
+        };
+    }
+    if out.len() < 4 + n {
+        return WriteAnswer {
+            number: 10,
+            length: 0,
+        };
+    }
+    let items = wire::bytes_at(src, at, n);
+    let wrote = put_list(out, count, items);
+    WriteAnswer {
+        number: 0,
+        length: wrote,
+    }
+}
+
+// The lone query that lies at a place of `src`, as the readers hand it out. It is read again, and its bytes are copied.
+pub fn write_query(src: &[u8], q: Query, out: &mut [u8]) -> WriteAnswer
+    ensures { λ r. ⌜ answered r (now (out .exit)) ≡ writeQuery (now (src .entry)) q (now (out .entry)) ⌝ }
+{
+    let at = q.at;
+    let e = query::read_query(src, Cursor { at });
+    let QueryStep::Got(_, next) = e else {
+        return WriteAnswer {
+            number: e.fault().number(),
+            length: 0,
+        };
+    };
+    let end = next.at;
+    let n = end - at;
+    if 65536 < n {
+        return WriteAnswer {
+            number: 6,
+            length: 0,
+        };
+    }
+    if out.len() < n {
+        return WriteAnswer {
+            number: 10,
+            length: 0,
+        };
+    }
+    let bytes = wire::bytes_at(src, at, n);
+    put::copy(out, bytes);
+    WriteAnswer {
+        number: 0,
+        length: n,
+    }
+}
+
+// The numbers for pieces that have these lengths, in the order of the papers; the room comes last and is looked at by the writers.
+
+fn name_number(n: usize) -> u8
+    ensures { λ r. ⌜ r ≡ nameNumber n ⌝ }
+{
+    if n == 0 {
+        return 5;
+    }
+    if n <= 255 { 0 } else { 6 }
+}
+
+fn keyword_number(text: usize) -> u8
+    ensures { λ r. ⌜ r ≡ keywordNumber text ⌝ }
+{
+    if 65535 < text {
+        return 6;
+    }
+    if 65536 < 3 + text { 6 } else { 0 }
+}
+
+fn field_number(text: usize, name: usize) -> u8
+    ensures { λ r. ⌜ r ≡ fieldNumber text name ⌝ }
+{
+    if 65535 < text {
+        return 6;
+    }
+    if 65535 < name {
+        return 6;
+    }
+    if 65536 < 5 + text + name {
+        return 6;
+    }
+    name_number(name)
+}
+
+fn limit_number(name: usize) -> u8
+    ensures { λ r. ⌜ r ≡ limitNumber name ⌝ }
+{
+    if 65535 < name {
+        return 6;
+    }
+    if 65536 < 8 + name {
+        return 6;
+    }
+    name_number(name)
+}
+
+fn refused(number: u8) -> WriteAnswer
+    ensures { λ r. ⌜ r ≡ refusedBy number ⌝ }
+{
+    WriteAnswer { number, length: 0 }
+}
+
+// The pieces of a query, at the front of what is lent; each answers with how many bytes it wrote.
+
+fn put_keyword(out: &mut [u8], text: &[u8]) -> usize
+    requires { ⌜ (length (now text) < 65536) × (3 + length (now text) ≤ length (now out)) ⌝ }
+    ensures written { λ r. ⌜ r ≡ 3 + length (now (text .entry)) ⌝ }
+    ensures output { λ r. ⌜ now (out .exit) ≡ overwritten (encodeQuery (keyword (now (text .entry)))) (now (out .entry)) ⌝ }
+{
+    put::put_byte(out, 1);
+    let wrote = put::put_string(&mut out[1..], text);
+    1 + wrote
+}
+
+fn put_field(out: &mut [u8], text: &[u8], name: &[u8]) -> usize
+    requires { ⌜ (length (now text) < 65536) × (length (now name) < 65536) × (5 + length (now text) + length (now name) ≤ length (now out)) ⌝ }
+    ensures written { λ r. ⌜ r ≡ 5 + length (now (text .entry)) + length (now (name .entry)) ⌝ }
+    ensures output { λ r. ⌜ now (out .exit) ≡ overwritten (encodeQuery (field (now (text .entry)) (now (name .entry)))) (now (out .entry)) ⌝ }
+{
+    put::put_byte(out, 2);
+    let a = put::put_string(&mut out[1..], text);
+    let at = 1 + a;
+    let b = put::put_string(&mut out[at..], name);
+    at + b
+}
+
+fn bound_byte(bound: Bound) -> u8
+    ensures { λ r. ⌜ r ≡ boundByte bound ⌝ }
+{
+    match bound {
+        Bound::AtLeast => 1,
+        Bound::AtMost => 2,
+    }
+}
+
+fn put_limit(out: &mut [u8], value: u32, bound: Bound, name: &[u8]) -> usize
+    requires { ⌜ (length (now name) < 65536) × (8 + length (now name) ≤ length (now out)) ⌝ }
+    ensures written { λ r. ⌜ r ≡ 8 + length (now (name .entry)) ⌝ }
+    ensures output { λ r. ⌜ now (out .exit) ≡ overwritten (encodeQuery (limit value (boundOf bound) (now (name .entry)))) (now (out .entry)) ⌝ }
+{
+    let code = bound_byte(bound);
+    put::put_byte(out, 3);
+    put::put_dword(&mut out[1..], value);
+    put::put_byte(&mut out[5..], code);
+    let wrote = put::put_string(&mut out[6..], name);
+    6 + wrote
+}
+
+// A lone query that is a keyword.
+pub fn write_keyword(text: &[u8], out: &mut [u8]) -> WriteAnswer
+    ensures { λ r. ⌜ answered r (now (out .exit)) ≡ writeKeyword (now (text .entry)) (now (out .entry)) ⌝ }
+{
+    let number = keyword_number(text.len());
+    if number != 0 {
+        return refused(number);
+    }
+    if out.len() < 3 + text.len() {
+        return refused(10);
+    }
+    let wrote = put_keyword(out, text);
+    WriteAnswer {
+        number: 0,
+        length: wrote,
+    }
+}
+
+// A lone query that is a field: a text and the name of the tag that must equal it.
+pub fn write_field(text: &[u8], name: &[u8], out: &mut [u8]) -> WriteAnswer
+    ensures { λ r. ⌜ answered r (now (out .exit)) ≡ writeField (now (text .entry)) (now (name .entry)) (now (out .entry)) ⌝ }
+{
+    let number = field_number(text.len(), name.len());
+    if number != 0 {
+        return refused(number);
+    }
+    if out.len() < 5 + text.len() + name.len() {
+        return refused(10);
+    }
+    let wrote = put_field(out, text, name);
+    WriteAnswer {
+        number: 0,
+        length: wrote,
+    }
+}
+
+// A lone query that is a limit: a number, whether it is the least or the most, and the name of the tag that must keep to it.
+pub fn write_limit(value: u32, bound: Bound, name: &[u8], out: &mut [u8]) -> WriteAnswer
+    ensures { λ r. ⌜ answered r (now (out .exit)) ≡ writeLimit value (boundOf bound) (now (name .entry)) (now (out .entry)) ⌝ }
+{
+    let number = limit_number(name.len());
+    if number != 0 {
+        return refused(number);
+    }
+    if out.len() < 8 + name.len() {
+        return refused(10);
+    }
+    let wrote = put_limit(out, value, bound, name);
+    WriteAnswer {
+        number: 0,
+        length: wrote,
+    }
+}
