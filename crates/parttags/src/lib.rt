@@ -167,6 +167,7 @@ fn find_size(s: &[u8], tags: Items) -> TagsVerdict
     while i < count {
         let t = read_tag(s, next);
         let TagStep::Got(tag, after) = t else {
+            // Never taken: the list was read before.
             return TagsVerdict::Violates(Rule::SizeTag);
         };
         let number = size_in(s, tag);
@@ -476,6 +477,7 @@ fn scan_tags(s: &[u8], tags: Items, size: u32) -> Scanned
     while i < count {
         let t = read_tag(s, next);
         let TagStep::Got(tag, after) = t else {
+            // Never taken: the list was read before.
             return Scanned {
                 verdict: Verdict::Violates(Rule::Order),
                 pairs,

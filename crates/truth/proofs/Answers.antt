@@ -8,7 +8,8 @@ use lib.ListN.{length}
 use lib.Dec.{leb, eqb}
 use Rattle.format.specs.Tables.{pick}
 use Rattle.format.specs.Messages.{Query, Tag, loneQuery, loneTags}
-use Rattle.format.specs.Decoding.{rest, bytesCeiling, Fault, fault, Outcome, refused, got, Answer, refusal, accepted, finish, Reply, refusedWith, message, reply}
+use Rattle.format.specs.Decoding.{rest, bytesCeiling, Fault, fault, Outcome, refused, got}
+use Rattle.format.specs.Decoding.{Answer, refusal, accepted, finish, Reply, refusedWith, message, reply}
 use Rattle.format.specs.Order.{decodeQueryIn, decodeQuery}
 use Rattle.format.specs.MetOrder.{decode}
 use Rattle.format.specs.Truth.{holds, onTags, onQuery, truth}
@@ -19,7 +20,8 @@ use Rattle.truth.specs.Meaning.{truths}
 no-reply : {A P : Type 0} {n : ℕ} {m : A} → _≡_ {A = Reply A} (refusedWith n) (message m) → P
 no-reply e = let z : _≡_ {A = ℕ} 0 1 = cc in absurd (omega arith)
 
-on-refused-query : (a : Answer Query) (b : Answer (List Tag)) {n : ℕ} → refusedWith n ≡ reply a → record { number = n; holds = false } ≡ onQuery a b
+on-refused-query : (a : Answer Query) (b : Answer (List Tag)) {n : ℕ} →
+    refusedWith n ≡ reply a → record { number = n; holds = false } ≡ onQuery a b
 on-refused-query (refusal f) b e = cc
 on-refused-query (accepted q) b e = no-reply e
 
@@ -31,7 +33,8 @@ on-refused-tags : (q : Query) (b : Answer (List Tag)) {n : ℕ} → refusedWith 
 on-refused-tags q (refusal f) e = cc
 on-refused-tags q (accepted l) e = no-reply e
 
-on-accepted-tags : (q : Query) (b : Answer (List Tag)) {l : List Tag} → message l ≡ reply b → record { number = 0; holds = holds q l } ≡ onTags q b
+on-accepted-tags : (q : Query) (b : Answer (List Tag)) {l : List Tag} →
+    message l ≡ reply b → record { number = 0; holds = holds q l } ≡ onTags q b
 on-accepted-tags q (refusal f) e = no-reply (sym e)
 on-accepted-tags q (accepted l) e = ap (λ l. record { number = 0; holds = holds q l }) cc
 

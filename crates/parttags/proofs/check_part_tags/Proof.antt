@@ -53,10 +53,9 @@ returns-2 c =
     let tags = itemsIn decodeTag s (a .tags) in
     let found = rw (c .before .before .before .before .before .before .found .given .1) at (f .find-size .ensures) in
     let pairs = c .before .before .before .before .scan-tags .result .pairs in
-    let scanned = rw (c .before .enum-told2 .given .1) at (c .before .before .before .before .scan-tags .ensures .0) in (
-      rw (← found, ← scanned) refl,
-      c .record-of .ensures ∙ ap (recordOf _) (sym (gaps-of-pairs s (pairs .count) (pairs .pairs)) ∙ gaps-found _ tags (pairsOf s pairs) (sym scanned)),
-    )
+    let scanned = rw (c .before .enum-told2 .given .1) at (c .before .before .before .before .scan-tags .ensures .0) in
+    let gaps = sym (gaps-of-pairs s (pairs .count) (pairs .pairs)) ∙ gaps-found _ tags (pairsOf s pairs) (sym scanned) in
+    (rw (← found, ← scanned) refl, c .record-of .ensures ∙ ap (recordOf _) gaps)
 
 returns-3 : tie.Need-returns-3
 unfolding checkPartTags

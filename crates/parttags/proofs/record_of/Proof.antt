@@ -1,6 +1,7 @@
 -- The loop: the record holds the gaps of the first `filled` pairs, and 0 in the other places.
 use Prim.Native.Nat.{_≤_, _-_}
 use mathlib.Core.Path.{_≡_, refl, _∙_}
+use Rattle.format.specs.Rules.{gapLimit}
 use Rattle.gaps.specs.declared.GapRecord.{GapRecord}
 use Rattle.parttags.specs.Steps.{firstGaps}
 use Rattle.parttags.proofs.GapTags.{placesOf, places-next, places-record}
@@ -15,7 +16,7 @@ Inv-loop size pairs count made₀ filled₀ made filled =
     × (_≡_ {A = GapRecord} made (record { size = size; count = pairs .count; gaps = placesOf filled (pairs .pairs) }))
 
 abbrev μ-loop : tie.MeasureT-loop
-μ-loop size pairs count made₀ filled₀ made filled = pairs .count - filled
+μ-loop size pairs count made₀ filled₀ made filled = gapLimit - filled
 
 none-missing-requires : tie.Need-none-missing-requires Inv-loop μ-loop
 none-missing-requires c κs = search needs

@@ -1,0 +1,2 @@
+pub mod AsKind
+pub mod Lines
