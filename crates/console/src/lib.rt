@@ -1,4 +1,6 @@
-// What the programs share: reading a descriptor until a buffer is full, and the line for some bytes.
+// What the programs share: reading a descriptor until a buffer is full, and printing the line for some bytes.
+//
+// No contract can say what is read or written, so these say how much was read at most, and those that print say nothing.
 use libc::STDOUT_FILENO;
 use reader::Summary;
 ghost use Prim.Native.Nat.{_≤_};
