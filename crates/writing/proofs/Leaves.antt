@@ -1,20 +1,20 @@
 -- What the reader says of the bytes of a leaf whose name is too short or too long, and the number of each leaf.
 use Prim.Native.Nat.{ℕ, suc, _+_, _≤_, _<_}
-use mathlib.Core.Path.{_≡_, refl, sym, ap, _∙_, subst}
+use mathlib.Core.Path.{_≡_, refl, sym, _∙_}
 use mathlib.Core.Bool.{Bool, true, false}
 use mathlib.Core.List.{List, [], _∷_, _++_, append-assoc, append-nil}
 use native.Mathlib.Omega.{arith}
 use lib.ListN.{length, drop}
 use lib.Dec.{eqb, leb}
-use borrow.Author.Tests.{eqb-false, eqb-true, eq-eqb, le-leb, leb-false, leb-true, lt-leb, ne-eqb}
+use borrow.Author.Tests.{eqb-false, le-leb, leb-false, leb-true}
 use Rattle.format.specs.Tables.{pick}
-use Rattle.format.specs.Messages.{Bound, Kind, Message, Query, atLeast, atMost, field, keyword, limit, loneQuery}
-use Rattle.format.specs.Layout.{boundCode, byte, dword, encode, encodeName, encodeQuery, encodeString, word}
+use Rattle.format.specs.Messages.{Bound, Query, atLeast, atMost, field, keyword, limit, loneQuery}
+use Rattle.format.specs.Layout.{boundCode, byte, dword, encodeName, encodeQuery, encodeString, word}
 use Rattle.format.specs.Rules.{Bytes, Dword, ValidLeaves, depth, packetCeiling}
-use Rattle.format.specs.Decoding.{Rule, andThen, choice, fault, got, nameCeiling, refusal, refused, violates}
-use Rattle.format.specs.Order.{QueryCase, bounds, caseCode, checkNameLength, decodeCase, decodeCode, decodeName, decodeQuery, decodeQueryIn, decodeString, isField, isJoin, isKeyword, isLimit, queryCases}
+use Rattle.format.specs.Decoding.{Rule, andThen, choice, fault, nameCeiling, refusal, refused, violates}
+use Rattle.format.specs.Order.{bounds, caseCode, checkNameLength, decodeCase, decodeCode, decodeName, decodeQuery, decodeQueryIn, isField, isJoin, isKeyword, isLimit, queryCases}
 use Rattle.format.specs.MetOrder.{decode}
-use Rattle.format.specs.Writing.{CountsFit, Judged, QueryFits, overflows, refusedFor}
+use Rattle.format.specs.Writing.{Judged, QueryFits, overflows, refusedFor}
 use Rattle.format.proofs.Codec.{Codec, anywhere, behind, codec-dword, codec-table, codec-word, fits}
 use Rattle.format.proofs.Items.{codec-string}
 use Rattle.format.proofs.Writing.{ceiling-judged, valid-judged}
@@ -34,7 +34,7 @@ codec-bound : Codec anywhere (decodeCode bounds) (λ b. byte (boundCode b)) (λ 
 codec-bound = codec-table boundCode (atLeast ∷ atMost ∷ []) (elim [ atLeast ↦ (refl, omega arith) | atMost ↦ (refl, omega arith) ])
 
 -- A name that breaks its rule, wherever it stands.
-name-refused : (rule : Rule) (s : List ℕ) (at : ℕ) (n rest : List ℕ) → length n < 65536 → checkNameLength (length n) ≡ violates rule →
+pub name-refused : (rule : Rule) (s : List ℕ) (at : ℕ) (n rest : List ℕ) → length n < 65536 → checkNameLength (length n) ≡ violates rule →
     drop at s ≡ encodeName n ++ rest → at ≤ length s → decodeName s at ≡ refused (fault rule at 2)
 unfolding decodeName encodeName
 name-refused rule s at n rest few v e i =
@@ -122,26 +122,26 @@ unfolding keywordNumber QueryFits ValidLeaves depth
 keyword-judged t hb =
     let q = keyword t in
     count-judged q (length t) _ (λ fit. fit) (λ few.
-      rw (← keyword-size t)
-      (ceiling-judged loneQuery q 0 few (λ within. valid-judged loneQuery q (record { content = ((few, hb), omega arith); few = within }))))
+    rw (← keyword-size t)
+    (ceiling-judged loneQuery q 0 few (λ within. valid-judged loneQuery q (record { content = ((few, hb), omega arith); few = within }))))
 
 pub field-judged : (t n : List ℕ) → Bytes t → Bytes n → Judged loneQuery (field t n) (fieldNumber (length t) (length n))
 unfolding fieldNumber QueryFits ValidLeaves depth
 field-judged t n ht hn =
     let q = field t n in
     count-judged q (length t) _ (λ fit. fit .0) (λ short.
-      count-judged q (length n) _ (λ fit. fit .1) (λ few.
-        rw (← field-size t n)
-        (ceiling-judged loneQuery q _ (short, few) (λ within.
-          name-judged q (length n) _ (short, few) (λ rule v. field-refused rule n few v t ht short within) (λ some most.
-            valid-judged loneQuery q (record { content = (((short, ht), record { some = some; few = most; bytes = hn }), omega arith); few = within }))))))
+    count-judged q (length n) _ (λ fit. fit .1) (λ few.
+    rw (← field-size t n)
+    (ceiling-judged loneQuery q _ (short, few) (λ within.
+    name-judged q (length n) _ (short, few) (λ rule v. field-refused rule n few v t ht short within) (λ some most.
+    valid-judged loneQuery q (record { content = (((short, ht), record { some = some; few = most; bytes = hn }), omega arith); few = within }))))))
 
 pub limit-judged : (v : ℕ) (b : Bound) (n : List ℕ) → Dword v → Bytes n → Judged loneQuery (limit v b n) (limitNumber (length n))
 unfolding limitNumber QueryFits ValidLeaves depth
 limit-judged v b n small hn =
     let q = limit v b n in
     count-judged q (length n) _ (λ fit. fit) (λ few.
-      rw (← limit-size v b n)
-      (ceiling-judged loneQuery q _ few (λ within.
-        name-judged q (length n) _ few (λ rule bad. limit-refused rule n few bad v b small within) (λ some most.
-          valid-judged loneQuery q (record { content = ((small, record { some = some; few = most; bytes = hn }), omega arith); few = within })))))
+    rw (← limit-size v b n)
+    (ceiling-judged loneQuery q _ few (λ within.
+    name-judged q (length n) _ few (λ rule bad. limit-refused rule n few bad v b small within) (λ some most.
+    valid-judged loneQuery q (record { content = ((small, record { some = some; few = most; bytes = hn }), omega arith); few = within })))))

@@ -2,3 +2,5 @@ pub mod Laws
 pub mod Writes
 pub mod Pieces
 pub mod Leaves
+pub mod Joins
+pub mod TagPieces

@@ -1,18 +1,18 @@
 -- Pieces of a query: how many bytes they have, what a number of 0 says of their lengths, and the answer once the number is known.
 use Prim.Native.Nat.{ℕ, _+_, _≤_, _<_}
-use mathlib.Core.Path.{_≡_, refl, sym, ap, _∙_}
+use mathlib.Core.Path.{_≡_, refl, ap, _∙_}
 use mathlib.Core.Bool.{Bool, true, false}
 use mathlib.Core.List.{List, _++_}
 use native.Mathlib.Omega.{arith}
 use lib.ListN.{length, length-append}
-use lib.Dec.{eqb, leb}
-use borrow.Author.Tests.{eq-eqb, eqb-false, le-leb, leb-true, lt-leb, ne-eqb}
+use lib.Dec.{leb}
+use borrow.Author.Tests.{eq-eqb, le-leb, leb-true, lt-leb, ne-eqb}
 use Rattle.format.specs.Tables.{pick}
 use Rattle.format.specs.Messages.{Bound, field, keyword, limit}
 use Rattle.format.specs.Layout.{boundCode, byte, dword, encodeName, encodeQuery, encodeString, word}
 use Rattle.format.specs.Writing.{overwritten, unwritten}
 use Rattle.format.proofs.Codec.{length-littleEndian}
-use Rattle.writing.specs.Writers.{ceilingNumber, countNumber, fieldNumber, keywordNumber, limitNumber, nameNumber, writeChecked}
+use Rattle.writing.specs.Writers.{ceilingNumber, countNumber, fieldNumber, keywordNumber, limitNumber, writeChecked}
 
 -- Sizes.
 pub length-string : (t : List ℕ) → length (encodeString t) ≡ 2 + length t
@@ -24,7 +24,7 @@ pub name-string : (t : List ℕ) → encodeName t ≡ encodeString t
 unfolding encodeName encodeString
 name-string t = refl
 
-length-name : (t : List ℕ) → length (encodeName t) ≡ 2 + length t
+pub length-name : (t : List ℕ) → length (encodeName t) ≡ 2 + length t
 length-name t = ap length (name-string t) ∙ length-string t
 
 pub keyword-size : (t : List ℕ) → length (encodeQuery (keyword t)) ≡ 3 + length t

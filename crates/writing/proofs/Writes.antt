@@ -1,13 +1,13 @@
 -- Each writer's definition is a write of the format, where its pieces are a message.
-use Prim.Native.Nat.{ℕ, _≤_}
-use mathlib.Core.Path.{_≡_, refl, sym, ap, _∙_}
+use Prim.Native.Nat.{ℕ}
+use mathlib.Core.Path.{_≡_, refl, ap}
 use mathlib.Core.List.{List}
 use native.Mathlib.Omega.{arith}
 use lib.ListN.{length}
 use borrow.Author.Tests.{le-leb}
-use Rattle.format.specs.Messages.{Bound, Query, Tag, field, keyword, limit, loneQuery, loneTags}
-use Rattle.format.specs.Layout.{encodeQuery, encodeTags}
-use Rattle.format.specs.Rules.{Bytes, Dword, ValidTags, packetCeiling}
+use Rattle.format.specs.Messages.{Bound, Operator, Query, Tag, field, join, keyword, limit, loneQuery, loneTags}
+use Rattle.format.specs.Layout.{encodeQuery}
+use Rattle.format.specs.Rules.{Bytes, Dword, depth, ValidTags, packetCeiling}
 use Rattle.format.specs.Decoding.{accepted, decodeMany, got}
 use Rattle.format.specs.Order.{decodeQuery, decodeTag}
 use Rattle.format.specs.MetOrder.{decode}
@@ -17,7 +17,8 @@ use Rattle.format.proofs.Acceptance.{accepts}
 use Rattle.format.proofs.Writing.{ceiling-writes, judged-writes, lies, many-lies, query-fits, query-needed, tag-needed, tags-fit}
 use Rattle.wire.specs.declared.Items.{Items}
 use Rattle.query.specs.declared.Query as place
-use Rattle.writing.specs.Writers.{fieldNumber, keywordNumber, limitNumber, writeField, writeFound, writeKeyword, writeLimit, writeQuery, writeTagList, writeWithin}
+use Rattle.writing.specs.Writers.{fieldNumber, joinNumber, keywordNumber, limitNumber, writeField, writeJoin, writeKeyword, writeLimit, writeQuery, writeTagList}
+use Rattle.writing.proofs.Joins.{join-judged}
 use Rattle.writing.proofs.Leaves.{field-judged, keyword-judged, limit-judged}
 
 module _ (s : List ℕ) (hb : Bytes s) (output : List ℕ) where
@@ -63,3 +64,12 @@ module _ (output : List ℕ) where
   pub limit-writes : (v : ℕ) (b : Bound) (n : List ℕ) → Dword v → Bytes n → Writes loneQuery (limit v b n) output (writeLimit v b n output)
   unfolding writeLimit
   limit-writes v b n hv hn = judged-writes loneQuery (limit v b n) output (limitNumber (length n)) (limit-judged v b n hv hn)
+
+  pub join-writes : (o : Operator) (a b : List ℕ) → Bytes a → Bytes b → {q r : Query} → decode loneQuery a ≡ accepted q → decode loneQuery b ≡ accepted r →
+      Writes loneQuery (join o q r) output (writeJoin o a b output)
+  unfolding writeJoin
+  join-writes o a b ha hb {q} {r} d e =
+      let m = join o q r in
+      rw (d, e)
+      (judged-writes loneQuery m output (joinNumber (length (encodeQuery m)) (depth m))
+      (join-judged o q r (accepts loneQuery a ha q .0 d .1) (accepts loneQuery b hb r .0 e .1)))

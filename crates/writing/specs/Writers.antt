@@ -1,20 +1,24 @@
 -- What each writer does: its number, how many bytes it wrote, and the output afterwards.
 use Prim.Native.Nat.{ℕ, _+_}
+use mathlib.Core.Path.{_≡_}
 use mathlib.Core.List.{List}
 use lib.ListN.{length}
 use lib.Dec.{eqb, leb}
 use Rattle.format.specs.Tables.{pick}
 use Rattle.format.specs.Messages as messages
-use Rattle.format.specs.Messages.{field, keyword, limit}
-use Rattle.format.specs.Layout.{boundCode, encodeQuery, encodeTags}
-use Rattle.format.specs.Rules.{nameLimit, packetCeiling}
-use Rattle.format.specs.Decoding.{Outcome, refused, got, decodeMany, number}
-use Rattle.format.specs.Order.{decodeQuery, decodeTag}
-use Rattle.format.specs.Writing.{Written, unwritten, writtenInto}
+use Rattle.format.specs.Messages.{Tag, dwordType, field, floatType, hashType, join, keyword, limit, loneQuery, stringType}
+use Rattle.format.specs.Layout.{boundCode, encodeQuery, encodeTag, encodeTags, operatorCode}
+use Rattle.format.specs.Rules.{depth, depthLimit, nameLimit, packetCeiling}
+use Rattle.format.specs.Decoding.{Answer, Fault, Outcome, accepted, decodeMany, got, number, refusal, refused}
+use Rattle.format.specs.Order.{decodeHash, decodeQuery, decodeTag}
+use Rattle.format.specs.MetOrder.{decode}
+use Rattle.format.specs.Writing.{TagFits, Written, unwritten, writtenInto}
 use Rattle.wire.specs.declared.Items.{Items}
 use Rattle.query.specs.declared.Query.{Query}
 use Rattle.query.specs.declared.Bound.{Bound}
-use Rattle.query.specs.Meaning.{boundOf}
+use Rattle.query.specs.declared.Operator.{Operator}
+use Rattle.query.specs.declared.QueryAnswer.{QueryAnswer}
+use Rattle.query.specs.Meaning.{boundOf, operatorOf}
 use Rattle.writing.specs.declared.WriteAnswer.{WriteAnswer}
 
 -- An answer, together with the output that it leaves.
@@ -76,3 +80,53 @@ writeField text name output = writeChecked (fieldNumber (length text) (length na
 
 unfoldable pub writeLimit : ℕ → messages.Bound → List ℕ → List ℕ → Written
 writeLimit value bound name output = writeChecked (limitNumber (length name)) (encodeQuery (limit value bound name)) output
+
+-- A join is checked by its size and its depth.
+unfoldable pub joinNumber : ℕ → ℕ → ℕ
+joinNumber size deep = ceilingNumber size (pick (leb deep depthLimit) 0 6)
+
+-- A side that is no lone query has its own number, the left one first.
+abbrev pub writeSides : messages.Operator → Answer messages.Query → Answer messages.Query → List ℕ → Written
+writeSides o (refusal f) b output = unwritten (number (f .rule)) output
+writeSides o (accepted q) (refusal f) output = unwritten (number (f .rule)) output
+writeSides o (accepted q) (accepted r) output =
+    writeChecked (joinNumber (length (encodeQuery (join o q r))) (depth (join o q r))) (encodeQuery (join o q r)) output
+
+unfoldable pub writeJoin : messages.Operator → List ℕ → List ℕ → List ℕ → Written
+writeJoin o left right output = writeSides o (decode loneQuery left) (decode loneQuery right) output
+
+abbrev pub operatorByte : Operator → ℕ
+operatorByte o = operatorCode (operatorOf o)
+
+abbrev pub answerNumber : QueryAnswer → ℕ
+answerNumber (QueryAnswer.Accepted q) = 0
+answerNumber (QueryAnswer.Refused n) = n
+
+-- A single tag is no message of its own and has no byte ceiling: 6 for a name or a text that its count field cannot hold, then what the
+-- reader says of the name.
+unfoldable pub tagNumber : ℕ → ℕ → ℕ
+tagNumber name text = countNumber name (countNumber text (nameNumber name))
+
+unfoldable pub writeTextTag : List ℕ → List ℕ → List ℕ → Written
+writeTextTag name text output =
+    writeChecked (tagNumber (length name) (length text)) (encodeTag (record { name = name; value = (stringType, text) })) output
+
+unfoldable pub writeDwordTag : List ℕ → ℕ → List ℕ → Written
+writeDwordTag name value output = writeChecked (tagNumber (length name) 0) (encodeTag (record { name = name; value = (dwordType, value) })) output
+
+unfoldable pub writeFloatTag : List ℕ → ℕ → List ℕ → Written
+writeFloatTag name bits output = writeChecked (tagNumber (length name) 0) (encodeTag (record { name = name; value = (floatType, bits) })) output
+
+-- A hash is 16 bytes of the lent source. Where they are not there, the number is that of their own reading.
+abbrev pub writeHash : List ℕ → Outcome (List ℕ) → List ℕ → Written
+writeHash name (refused f) output = unwritten (number (f .rule)) output
+writeHash name (got h next) output = writeChecked (tagNumber (length name) 0) (encodeTag (record { name = name; value = (hashType, h) })) output
+
+unfoldable pub writeHashTag : List ℕ → List ℕ → ℕ → List ℕ → Written
+writeHashTag name s at output = writeHash name (decodeHash s at) output
+
+-- The number for a single tag before the room is looked at, in the order that 01 has for messages.
+pub data TagJudged (t : Tag) : ℕ → Type 0 where
+  overflows : (TagFits t → ⊥) → TagJudged t 6
+  refusedFor : TagFits t → (f : Fault) → decodeTag (encodeTag t) 0 ≡ refused f → TagJudged t (number (f .rule))
+  fine : TagFits t → decodeTag (encodeTag t) 0 ≡ got t (length (encodeTag t)) → TagJudged t 0

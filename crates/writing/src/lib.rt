@@ -1,4 +1,5 @@
-// The writers of the lone tag list and the lone query.
+// The writers of the lone tag list and the lone query: what lies at a place of the lent bytes, queries from their pieces, and
+// single tags, of which a caller composes a list.
 //
 // Each writer is lent the output and answers with the number of the papers, 0 for an accepted write, and with how many bytes it
 // wrote at the front of the output. Everything is checked and the size is known before the first store, so a refusal leaves the
@@ -8,30 +9,40 @@
 // specs/Writers.antt says what each writer does; proofs/Writes.antt shows that this is a write of the format.
 ghost use mathlib.Core.Path.{_≡_};
 ghost use mathlib.Core.List.{_++_};
-ghost use Prim.Native.Nat.{_+_, _≤_, _<_};
+ghost use Prim.Native.Nat.{suc, max, _+_, _≤_, _<_};
 ghost use lib.ListN.{length};
-ghost use Rattle.format.specs.Layout.{dword};
+ghost use Rattle.format.specs.Messages.{keyword, field, limit};
+ghost use Rattle.format.specs.Layout.{byte, dword, encodeName, encodeQuery, encodeString};
 ghost use Rattle.format.specs.Decoding.{decodeMany, ends};
 ghost use Rattle.format.specs.Order.{decodeTag};
 ghost use Rattle.format.specs.Writing.{overwritten};
 ghost use Rattle.wire.specs.Meaning.{doneMeaning};
-ghost use Rattle.format.specs.Layout.{encodeQuery};
-ghost use Rattle.format.specs.Messages.{keyword, field, limit};
-ghost use Rattle.query.specs.Meaning.{boundOf};
-ghost use Rattle.writing.specs.Writers.{answered, refusedBy, writeTagList, writeQuery, writeKeyword, writeField, writeLimit};
-ghost use Rattle.writing.specs.Writers.{nameNumber, keywordNumber, fieldNumber, limitNumber, boundByte};
+ghost use Rattle.query.specs.Meaning.{boundOf, operatorOf};
+ghost use Rattle.writing.specs.Writers.{answered, refusedBy, boundByte, operatorByte, answerNumber};
+ghost use Rattle.writing.specs.Writers.{nameNumber, keywordNumber, fieldNumber, limitNumber, joinNumber, tagNumber};
+ghost use Rattle.writing.specs.Writers.{writeTagList, writeQuery, writeKeyword, writeField, writeLimit, writeJoin};
+ghost use Rattle.writing.specs.Writers.{writeTextTag, writeDwordTag, writeFloatTag, writeHashTag};
 use query::Bound;
+use query::Operator;
 use query::Query;
+use query::QueryAnswer;
 use query::QueryStep;
 use tags::TagStep;
 use wire::Cursor;
 use wire::DoneStep;
+use wire::HashStep;
 use wire::Items;
 
 // 0 and how many bytes were written, or the number of a refusal and 0.
 pub struct WriteAnswer {
     pub number: u8,
     pub length: usize,
+}
+
+fn refused(number: u8) -> WriteAnswer
+    ensures { λ r. ⌜ r ≡ refusedBy number ⌝ }
+{
+    WriteAnswer { number, length: 0 }
 }
 
 // The place behind `count` tags, each of which is read.
@@ -72,24 +83,15 @@ pub fn write_tag_list(src: &[u8], tags: Items, out: &mut [u8]) -> WriteAnswer
     let count = tags.count;
     let e = tags_end(src, Cursor { at }, count);
     let DoneStep::Got(next) = e else {
-        return WriteAnswer {
-            number: e.fault().number(),
-            length: 0,
-        };
+        return refused(e.fault().number());
     };
     let end = next.at;
     let n = end - at;
     if 65532 < n {
-        return WriteAnswer {
-            number: 6,
-            length: 0,
-        };
+        return refused(6);
     }
     if out.len() < 4 + n {
-        return WriteAnswer {
-            number: 10,
-            length: 0,
-        };
+        return refused(10);
     }
     let items = wire::bytes_at(src, at, n);
     let wrote = put_list(out, count, items);
@@ -106,24 +108,15 @@ pub fn write_query(src: &[u8], q: Query, out: &mut [u8]) -> WriteAnswer
     let at = q.at;
     let e = query::read_query(src, Cursor { at });
     let QueryStep::Got(_, next) = e else {
-        return WriteAnswer {
-            number: e.fault().number(),
-            length: 0,
-        };
+        return refused(e.fault().number());
     };
     let end = next.at;
     let n = end - at;
     if 65536 < n {
-        return WriteAnswer {
-            number: 6,
-            length: 0,
-        };
+        return refused(6);
     }
     if out.len() < n {
-        return WriteAnswer {
-            number: 10,
-            length: 0,
-        };
+        return refused(10);
     }
     let bytes = wire::bytes_at(src, at, n);
     put::copy(out, bytes);
@@ -178,12 +171,6 @@ fn limit_number(name: usize) -> u8
         return 6;
     }
     name_number(name)
-}
-
-fn refused(number: u8) -> WriteAnswer
-    ensures { λ r. ⌜ r ≡ refusedBy number ⌝ }
-{
-    WriteAnswer { number, length: 0 }
 }
 
 // The pieces of a query, at the front of what is lent; each answers with how many bytes it wrote.
@@ -280,6 +267,217 @@ pub fn write_limit(value: u32, bound: Bound, name: &[u8], out: &mut [u8]) -> Wri
         return refused(10);
     }
     let wrote = put_limit(out, value, bound, name);
+    WriteAnswer {
+        number: 0,
+        length: wrote,
+    }
+}
+
+fn operator_byte(operator: Operator) -> u8
+    ensures { λ r. ⌜ r ≡ operatorByte operator ⌝ }
+{
+    match operator {
+        Operator::And => 0,
+        Operator::Or => 1,
+        Operator::AndNot => 2,
+    }
+}
+
+// The number of an answer, 0 for an accepted query.
+fn answer_number(a: QueryAnswer) -> u8
+    ensures { λ r. ⌜ r ≡ answerNumber a ⌝ }
+{
+    match a {
+        QueryAnswer::Accepted(_) => 0,
+        QueryAnswer::Refused(n) => n,
+    }
+}
+
+// The number for a join of two queries that have these sizes and depths.
+fn join_number(left: usize, right: usize, left_depth: usize, right_depth: usize) -> u8
+    ensures { λ r. ⌜ r ≡ joinNumber (2 + left + right) (suc (max «left_depth» «right_depth»)) ⌝ }
+{
+    if 65534 < left {
+        return 6;
+    }
+    if 65534 - left < right {
+        return 6;
+    }
+    if 23 < left_depth {
+        return 6;
+    }
+    if 23 < right_depth { 6 } else { 0 }
+}
+
+fn put_join(out: &mut [u8], operator: Operator, left: &[u8], right: &[u8]) -> usize
+    requires { ⌜ 2 + length (now left) + length (now right) ≤ length (now out) ⌝ }
+    ensures written { λ r. ⌜ r ≡ 2 + length (now (left .entry)) + length (now (right .entry)) ⌝ }
+    ensures output { λ r. ⌜ now (out .exit) ≡
+        overwritten (byte 0 ++ (byte (operatorByte operator) ++ (now (left .entry) ++ now (right .entry)))) (now (out .entry)) ⌝ }
+{
+    let code = operator_byte(operator);
+    put::put_byte(out, 0);
+    put::put_byte(&mut out[1..], code);
+    put::copy(&mut out[2..], left);
+    let at = 2 + left.len();
+    put::copy(&mut out[at..], right);
+    at + right.len()
+}
+
+// A lone query that joins two lone queries, given as their bytes. A side that is no lone query is refused with its own number, the
+// left one first; then the join is checked like any other query.
+pub fn write_join(operator: Operator, left: &[u8], right: &[u8], out: &mut [u8]) -> WriteAnswer
+    ensures { λ r. ⌜ answered r (now (out .exit)) ≡ writeJoin (operatorOf operator) (now (left .entry)) (now (right .entry)) (now (out .entry)) ⌝ }
+{
+    let a = query::read_lone_query(left);
+    let QueryAnswer::Accepted(q) = a else {
+        return refused(answer_number(a));
+    };
+    let b = query::read_lone_query(right);
+    let QueryAnswer::Accepted(r) = b else {
+        return refused(answer_number(b));
+    };
+    let number = join_number(left.len(), right.len(), q.depth, r.depth);
+    if number != 0 {
+        return refused(number);
+    }
+    if out.len() < 2 + left.len() + right.len() {
+        return refused(10);
+    }
+    let wrote = put_join(out, operator, left, right);
+    WriteAnswer {
+        number: 0,
+        length: wrote,
+    }
+}
+
+// Single tags, for lists that a caller composes. A tag alone has no byte ceiling.
+
+fn tag_number(name: usize, text: usize) -> u8
+    ensures { λ r. ⌜ r ≡ tagNumber name text ⌝ }
+{
+    if 65535 < name {
+        return 6;
+    }
+    if 65535 < text {
+        return 6;
+    }
+    name_number(name)
+}
+
+// The type and the name of a tag.
+fn put_tag_head(out: &mut [u8], code: u8, name: &[u8]) -> usize
+    requires { ⌜ (length (now name) < 65536) × (3 + length (now name) ≤ length (now out)) ⌝ }
+    ensures written { λ r. ⌜ r ≡ 3 + length (now (name .entry)) ⌝ }
+    ensures output { λ r. ⌜ now (out .exit) ≡ overwritten (byte code ++ encodeName (now (name .entry))) (now (out .entry)) ⌝ }
+{
+    put::put_byte(out, code);
+    let wrote = put::put_string(&mut out[1..], name);
+    1 + wrote
+}
+
+fn put_number_tag(out: &mut [u8], code: u8, name: &[u8], value: u32) -> usize
+    requires { ⌜ (length (now name) < 65536) × (7 + length (now name) ≤ length (now out)) ⌝ }
+    ensures written { λ r. ⌜ r ≡ 7 + length (now (name .entry)) ⌝ }
+    ensures output { λ r. ⌜ now (out .exit) ≡ overwritten (byte code ++ (encodeName (now (name .entry)) ++ dword value)) (now (out .entry)) ⌝ }
+{
+    let at = put_tag_head(out, code, name);
+    put::put_dword(&mut out[at..], value);
+    at + 4
+}
+
+fn put_text_tag(out: &mut [u8], name: &[u8], text: &[u8]) -> usize
+    requires { ⌜ (length (now name) < 65536) × (length (now text) < 65536) × (5 + length (now name) + length (now text) ≤ length (now out)) ⌝ }
+    ensures written { λ r. ⌜ r ≡ 5 + length (now (name .entry)) + length (now (text .entry)) ⌝ }
+    ensures output { λ r. ⌜ now (out .exit) ≡ overwritten (byte 2 ++ (encodeName (now (name .entry)) ++ encodeString (now (text .entry)))) (now (out .entry)) ⌝ }
+{
+    let at = put_tag_head(out, 2, name);
+    let wrote = put::put_string(&mut out[at..], text);
+    at + wrote
+}
+
+// A String tag.
+pub fn write_text_tag(name: &[u8], text: &[u8], out: &mut [u8]) -> WriteAnswer
+    ensures { λ r. ⌜ answered r (now (out .exit)) ≡ writeTextTag (now (name .entry)) (now (text .entry)) (now (out .entry)) ⌝ }
+{
+    let number = tag_number(name.len(), text.len());
+    if number != 0 {
+        return refused(number);
+    }
+    if out.len() < 5 + name.len() + text.len() {
+        return refused(10);
+    }
+    let wrote = put_text_tag(out, name, text);
+    WriteAnswer {
+        number: 0,
+        length: wrote,
+    }
+}
+
+// A DWORD tag.
+pub fn write_dword_tag(name: &[u8], value: u32, out: &mut [u8]) -> WriteAnswer
+    ensures { λ r. ⌜ answered r (now (out .exit)) ≡ writeDwordTag (now (name .entry)) value (now (out .entry)) ⌝ }
+{
+    let number = tag_number(name.len(), 0);
+    if number != 0 {
+        return refused(number);
+    }
+    if out.len() < 7 + name.len() {
+        return refused(10);
+    }
+    let wrote = put_number_tag(out, 3, name, value);
+    WriteAnswer {
+        number: 0,
+        length: wrote,
+    }
+}
+
+// A FLOAT tag, given as its bits.
+pub fn write_float_tag(name: &[u8], bits: u32, out: &mut [u8]) -> WriteAnswer
+    ensures { λ r. ⌜ answered r (now (out .exit)) ≡ writeFloatTag (now (name .entry)) bits (now (out .entry)) ⌝ }
+{
+    let number = tag_number(name.len(), 0);
+    if number != 0 {
+        return refused(number);
+    }
+    if out.len() < 7 + name.len() {
+        return refused(10);
+    }
+    let wrote = put_number_tag(out, 4, name, bits);
+    WriteAnswer {
+        number: 0,
+        length: wrote,
+    }
+}
+
+fn put_hash_tag(out: &mut [u8], name: &[u8], hash: &[u8]) -> usize
+    requires { ⌜ (length (now name) < 65536) × (length (now hash) ≡ 16) × (19 + length (now name) ≤ length (now out)) ⌝ }
+    ensures written { λ r. ⌜ r ≡ 19 + length (now (name .entry)) ⌝ }
+    ensures output { λ r. ⌜ now (out .exit) ≡ overwritten (byte 1 ++ (encodeName (now (name .entry)) ++ now (hash .entry))) (now (out .entry)) ⌝ }
+{
+    let at = put_tag_head(out, 1, name);
+    put::copy(&mut out[at..], hash);
+    at + 16
+}
+
+// A HASH tag. The hash is the 16 bytes at a place of `src`; where they are not, the number is that of their own reading.
+pub fn write_hash_tag(name: &[u8], src: &[u8], at: usize, out: &mut [u8]) -> WriteAnswer
+    ensures { λ r. ⌜ answered r (now (out .exit)) ≡ writeHashTag (now (name .entry)) (now (src .entry)) at (now (out .entry)) ⌝ }
+{
+    let c = Cursor { at };
+    let h = c.hash(src);
+    let HashStep::Got(place, _) = h else {
+        return refused(h.fault().number());
+    };
+    let number = tag_number(name.len(), 0);
+    if number != 0 {
+        return refused(number);
+    }
+    if out.len() < 19 + name.len() {
+        return refused(10);
+    }
+    let hash = wire::bytes_at(src, place, 16);
+    let wrote = put_hash_tag(out, name, hash);
     WriteAnswer {
         number: 0,
         length: wrote,

@@ -28,8 +28,9 @@ name-number-requires c κs = search needs
 
 returns-4 : tie.Need-returns-4
 unfolding fieldNumber
-returns-4 c = 
-    rw (le-leb _ _ (c .before .before .before .if1 .left), le-leb _ _ (c .before .before .if2 .left), le-leb _ _ (c .before .if3 .left)) (c .name-number .ensures)
+returns-4 c =
+    rw (le-leb _ _ (c .before .before .before .if1 .left), le-leb _ _ (c .before .before .if2 .left), le-leb _ _ (c .before .if3 .left))
+    (c .name-number .ensures)
 
 pub field-number-spec : {M : Type 1} → statement M
 field-number-spec =

@@ -1,10 +1,10 @@
-use mathlib.Core.Path.{_≡_, sym, ap}
+use mathlib.Core.Path.{_≡_}
 use mathlib.Core.List.{_++_, append-assoc}
 use Prim.Native.Nat.{_+_}
 use native.Mathlib.Omega.{arith}
 use denote.Ref.{now}
 use lib.ListN.{length, length-append}
-use Rattle.format.specs.Layout.{byte, encodeName, encodeQuery, encodeString}
+use Rattle.format.specs.Layout.{byte, encodeQuery, encodeString}
 use Rattle.format.proofs.Codec.{length-littleEndian}
 use Rattle.put.proofs.Laws.{after}
 use Rattle.writing.proofs.Pieces.{length-string, name-string}
@@ -50,14 +50,17 @@ same-length c = search needs
 
 returns : tie.Need-returns
 unfolding encodeQuery
-returns c = 
-    let a = c .before .before .before .before .before .before .before .before .before .before .before .before .before .before .before .args in
+returns c =
+    let b4 = c .before .before .before .before in
+    let b8 = b4 .before .before .before .before in
+    let b12 = b8 .before .before .before .before in
+    let a = b12 .before .before .before .args in
     let t = encodeString (now (a .text)) in
     let n = encodeString (now (a .name)) in
-    let text = c .before .before .before .before .before .before .put-string .ensures in
+    let text = b4 .before .before .put-string .ensures in
     let name = c .before .before .put-string2 .ensures in
-    let first = after (byte 2) t _ _ _ 1 (length-littleEndian 1 2) (c .before .before .before .before .before .before .before .before .before .before .put-byte .ensures) (text .1) in
-    let at : length (byte 2 ++ t) ≡ 1 + c .before .before .before .before .before .before .put-string .result =
+    let first = after (byte 2) t _ _ _ 1 (length-littleEndian 1 2) (b8 .before .before .put-byte .ensures) (text .1) in
+    let at : length (byte 2 ++ t) ≡ 1 + b4 .before .before .put-string .result =
     omega (arith, length-append (byte 2) t, length-littleEndian 1 2, length-string (now (a .text)), text .0) in
     (omega (arith, text .0, name .0), rw (name-string, ← append-assoc (byte 2) t n) (after (byte 2 ++ t) n _ _ _ _ at first (name .1)))
 

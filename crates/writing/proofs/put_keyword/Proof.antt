@@ -30,10 +30,12 @@ same-length c = search needs
 
 returns : tie.Need-returns
 unfolding encodeQuery
-returns c = 
-    let t = now (c .before .before .before .before .before .before .before .before .before .before .args .text) in
+returns c =
+    let b4 = c .before .before .before .before in
+    let b8 = b4 .before .before .before .before in
+    let t = now (b8 .before .before .args .text) in
     let text = c .before .before .put-string .ensures in
-    (omega (arith, text .0), after (byte 1) (encodeString t) _ _ _ 1 (length-littleEndian 1 1) (c .before .before .before .before .before .before .put-byte .ensures) (text .1))
+    (omega (arith, text .0), after (byte 1) (encodeString t) _ _ _ 1 (length-littleEndian 1 1) (b4 .before .before .put-byte .ensures) (text .1))
 
 pub put-keyword-spec : {M : Type 1} → statement M
 put-keyword-spec =

@@ -62,15 +62,19 @@ same-length c = search needs
 
 returns : tie.Need-returns
 unfolding encodeQuery
-returns c = 
-    let a = c .before .before .before .before .before .before .before .before .before .before .before .before .before .before .before .before .before .before .before .args in
+returns c =
+    let b4 = c .before .before .before .before in
+    let b8 = b4 .before .before .before .before in
+    let b12 = b8 .before .before .before .before in
+    let b16 = b12 .before .before .before .before in
+    let a = b16 .before .before .before .args in
     let v = dword (a .value) in
     let b = byte (boundByte (a .bound)) in
     let n = encodeString (now (a .name)) in
     let name = c .before .before .put-string .ensures in
-    let first = after (byte 3) v _ _ _ 1 (length-littleEndian 1 3) (c .before .before .before .before .before .before .before .before .before .before .before .before .before .before .put-byte .ensures) (c .before .before .before .before .before .before .before .before .before .before .put-dword .ensures) in
+    let first = after (byte 3) v _ _ _ 1 (length-littleEndian 1 3) (b12 .before .before .put-byte .ensures) (b8 .before .before .put-dword .ensures) in
     let five : length (byte 3 ++ v) ≡ 5 = omega (arith, length-append (byte 3) v, length-littleEndian 1 3, length-littleEndian 4 (a .value)) in
-    let code = rw (c .before .before .before .before .before .before .before .before .before .before .before .before .before .before .before .before .bound-byte .ensures) at (c .before .before .before .before .before .before .put-byte2 .ensures) in
+    let code = rw (b16 .bound-byte .ensures) at (b4 .before .before .put-byte2 .ensures) in
     let second = after (byte 3 ++ v) b _ _ _ 5 five first code in
     let six : length ((byte 3 ++ v) ++ b) ≡ 6 = omega (arith, length-append (byte 3 ++ v) b, five, length-littleEndian 1 (boundByte (a .bound))) in
     let third = after ((byte 3 ++ v) ++ b) n _ _ _ 6 six second (name .1) in

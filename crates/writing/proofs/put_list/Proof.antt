@@ -29,7 +29,7 @@ same-length : tie.Need-same-length
 same-length c = search needs
 
 returns : tie.Need-returns
-returns c = 
+returns c =
     let a = c .before .before .before .before .before .before .before .before .before .before .args in
     let counted = c .before .before .before .before .before .before .put-dword .ensures in
     (refl, after (dword (a .count)) (now (a .items)) _ _ _ 4 (length-littleEndian 4 (a .count)) counted (c .before .before .copy .ensures))

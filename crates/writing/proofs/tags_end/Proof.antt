@@ -34,13 +34,14 @@ fault-requires c κs = search needs
 
 returns : tie.Need-returns Inv-loop μ-loop
 unfolding ends
-returns c = 
-    let l = c .before .before .before .before .before in
+returns c =
+    let b4 = c .before .before .before .before in
+    let l = b4 .before in
     let told = c .before .enum-told .given .1 in
     let read = rw told at (c .before .before .before .read-tag .ensures) in
     let a = l .before .before .args in
     let all = decodeMany (a .count) decodeTag (now (a .s)) (a .first .at) in
-    rw (c .fault .ensures, told) (ap ends (loop-stop decodeTag _ all _ _ _ (c .before .before .before .before .loop-test .taken) (l .loop .inv .1) read))
+    rw (c .fault .ensures, told) (ap ends (loop-stop decodeTag _ all _ _ _ (b4 .loop-test .taken) (l .loop .inv .1) read))
 
 add-i : tie.Need-add-i Inv-loop μ-loop
 add-i c = search needs
@@ -49,7 +50,7 @@ loop-less : tie.Need-loop-less Inv-loop μ-loop
 loop-less c = search needs
 
 loop-again : tie.Need-loop-again Inv-loop μ-loop
-loop-again c = 
+loop-again c =
     let l = c .before .before .before .before .before in
     let read = rw (c .before .t .given .1) at (c .before .before .before .read-tag .ensures) in
     (omega arith, loop-step decodeTag _ _ _ _ _ (c .before .before .before .before .loop-test .taken) (l .loop .inv .1) read)

@@ -20,13 +20,14 @@ returns : tie.Need-returns
 unfolding writeField
 returns c =
     let a = c .before .before .before .before .before .before .args in
-    rw (c .refused .ensures) (faulty _ _ (c .before .before .field-number .ensures) (encodeQuery (field (now (a .text)) (now (a .name)))) _ (c .before .if1 .taken))
+    rw (c .refused .ensures)
+    (faulty _ _ (c .before .before .field-number .ensures) (encodeQuery (field (now (a .text)) (now (a .name)))) _ (c .before .if1 .taken))
 
 add-if2 : tie.Need-add-if2
 add-if2 c = search needs
 
 add-if2-2 : tie.Need-add-if2-2
-add-if2-2 c = 
+add-if2-2 c =
     let a = c .before .before .before .before .before .args in
     let h = field-fits (length (now (a .text))) (length (now (a .name))) (sym (c .before .field-number .ensures) ∙ c .if1 .left) in
     record { fits = omega (arith, h .1 .1) }
@@ -36,13 +37,18 @@ refused-requires-2 c κs = search needs
 
 returns-2 : tie.Need-returns-2
 unfolding writeField
-returns-2 c = 
-    let a = c .before .before .before .before .before .before .before .args in
-    rw (c .refused2 .ensures) (roomless _ _ (c .before .before .before .field-number .ensures) (encodeQuery (field (now (a .text)) (now (a .name)))) _ (c .before .before .if1 .left) _ (field-size (now (a .text)) (now (a .name))) (c .before .if2 .taken))
+returns-2 c =
+    let b4 = c .before .before .before .before in
+    let a = b4 .before .before .before .args in
+    let bytes = encodeQuery (field (now (a .text)) (now (a .name))) in
+    let sized = field-size (now (a .text)) (now (a .name)) in
+    rw (c .refused2 .ensures)
+    (roomless _ _ (c .before .before .before .field-number .ensures) bytes _ (c .before .before .if1 .left) _ sized (c .before .if2 .taken))
 
 put-field-requires : tie.Need-put-field-requires
-put-field-requires c κs = 
-    let a = c .before .before .before .before .before .before .before .args in
+put-field-requires c κs =
+    let b4 = c .before .before .before .before in
+    let a = b4 .before .before .before .args in
     let h = field-fits (length (now (a .text))) (length (now (a .name))) (sym (c .before .before .before .field-number .ensures) ∙ c .before .before .if1 .left) in
     (h .0, h .1 .0, c .before .if2 .left)
 
@@ -51,10 +57,15 @@ same-length c = search needs
 
 returns-3 : tie.Need-returns-3
 unfolding writeField
-returns-3 c = 
-    let a = c .before .before .before .before .before .before .before .before .before .before .args in
+returns-3 c =
+    let b4 = c .before .before .before .before in
+    let b8 = b4 .before .before .before .before in
+    let a = b8 .before .before .args in
     let put = c .before .before .put-field .ensures in
-    rw (put .0, put .1) (written _ _ (c .before .before .before .before .before .before .field-number .ensures) (encodeQuery (field (now (a .text)) (now (a .name)))) (now (a .out)) (c .before .before .before .before .before .if1 .left) _ (field-size (now (a .text)) (now (a .name))) (c .before .before .before .before .if2 .left))
+    let bytes = encodeQuery (field (now (a .text)) (now (a .name))) in
+    let sized = field-size (now (a .text)) (now (a .name)) in
+    rw (put .0, put .1)
+    (written _ _ (b4 .before .before .field-number .ensures) bytes (now (a .out)) (b4 .before .if1 .left) _ sized (b4 .if2 .left))
 
 pub write-field-spec : {M : Type 1} → statement M
 write-field-spec =

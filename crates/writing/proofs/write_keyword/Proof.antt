@@ -1,5 +1,4 @@
 use mathlib.Core.Path.{_∙_, sym}
-use native.Mathlib.Omega.{arith}
 use denote.Ref.{now}
 use lib.ListN.{length}
 use Rattle.format.specs.Messages.{keyword}
@@ -20,7 +19,8 @@ returns : tie.Need-returns
 unfolding writeKeyword
 returns c =
     let a = c .before .before .before .before .before .args in
-    rw (c .refused .ensures) (faulty _ _ (c .before .before .keyword-number .ensures) (encodeQuery (keyword (now (a .text)))) _ (c .before .if1 .taken))
+    rw (c .refused .ensures)
+    (faulty _ _ (c .before .before .keyword-number .ensures) (encodeQuery (keyword (now (a .text)))) _ (c .before .if1 .taken))
 
 add-if2 : tie.Need-add-if2
 add-if2 c = search needs
@@ -30,12 +30,16 @@ refused-requires-2 c κs = search needs
 
 returns-2 : tie.Need-returns-2
 unfolding writeKeyword
-returns-2 c = 
-    let a = c .before .before .before .before .before .before .args in
-    rw (c .refused2 .ensures) (roomless _ _ (c .before .before .before .keyword-number .ensures) (encodeQuery (keyword (now (a .text)))) _ (c .before .before .if1 .left) _ (keyword-size (now (a .text))) (c .before .if2 .taken))
+returns-2 c =
+    let b4 = c .before .before .before .before in
+    let a = b4 .before .before .args in
+    let bytes = encodeQuery (keyword (now (a .text))) in
+    let sized = keyword-size (now (a .text)) in
+    rw (c .refused2 .ensures)
+    (roomless _ _ (c .before .before .before .keyword-number .ensures) bytes _ (c .before .before .if1 .left) _ sized (c .before .if2 .taken))
 
 put-keyword-requires : tie.Need-put-keyword-requires
-put-keyword-requires c κs = 
+put-keyword-requires c κs =
     let a = c .before .before .before .before .before .before .args in
     let h = keyword-fits (length (now (a .text))) (sym (c .before .before .before .keyword-number .ensures) ∙ c .before .before .if1 .left) in
     (h .0, c .before .if2 .left)
@@ -45,10 +49,15 @@ same-length c = search needs
 
 returns-3 : tie.Need-returns-3
 unfolding writeKeyword
-returns-3 c = 
-    let a = c .before .before .before .before .before .before .before .before .before .args in
+returns-3 c =
+    let b4 = c .before .before .before .before in
+    let b8 = b4 .before .before .before .before in
+    let a = b8 .before .args in
     let put = c .before .before .put-keyword .ensures in
-    rw (put .0, put .1) (written _ _ (c .before .before .before .before .before .before .keyword-number .ensures) (encodeQuery (keyword (now (a .text)))) (now (a .out)) (c .before .before .before .before .before .if1 .left) _ (keyword-size (now (a .text))) (c .before .before .before .before .if2 .left))
+    let bytes = encodeQuery (keyword (now (a .text))) in
+    let sized = keyword-size (now (a .text)) in
+    rw (put .0, put .1)
+    (written _ _ (b4 .before .before .keyword-number .ensures) bytes (now (a .out)) (b4 .before .if1 .left) _ sized (b4 .if2 .left))
 
 pub write-keyword-spec : {M : Type 1} → statement M
 write-keyword-spec =

@@ -1,5 +1,4 @@
 use mathlib.Core.Path.{_∙_, sym}
-use native.Mathlib.Omega.{arith}
 use denote.Ref.{now}
 use lib.ListN.{length}
 use Rattle.format.specs.Messages.{limit}
@@ -20,8 +19,11 @@ refused-requires c κs = search needs
 returns : tie.Need-returns
 unfolding writeLimit
 returns c =
-    let a = c .before .before .before .before .before .args in
-    rw (c .refused .ensures) (faulty _ _ (c .before .before .limit-number .ensures) (encodeQuery (limit (a .value) (boundOf (a .bound)) (now (a .name)))) _ (c .before .if1 .taken))
+    let b4 = c .before .before .before .before in
+    let a = b4 .before .args in
+    let bytes = encodeQuery (limit (a .value) (boundOf (a .bound)) (now (a .name))) in
+    rw (c .refused .ensures)
+    (faulty _ _ (c .before .before .limit-number .ensures) bytes _ (c .before .if1 .taken))
 
 add-if2 : tie.Need-add-if2
 add-if2 c = search needs
@@ -31,12 +33,16 @@ refused-requires-2 c κs = search needs
 
 returns-2 : tie.Need-returns-2
 unfolding writeLimit
-returns-2 c = 
-    let a = c .before .before .before .before .before .before .args in
-    rw (c .refused2 .ensures) (roomless _ _ (c .before .before .before .limit-number .ensures) (encodeQuery (limit (a .value) (boundOf (a .bound)) (now (a .name)))) _ (c .before .before .if1 .left) _ (limit-size (a .value) (boundOf (a .bound)) (now (a .name))) (c .before .if2 .taken))
+returns-2 c =
+    let b4 = c .before .before .before .before in
+    let a = b4 .before .before .args in
+    let bytes = encodeQuery (limit (a .value) (boundOf (a .bound)) (now (a .name))) in
+    let sized = limit-size (a .value) (boundOf (a .bound)) (now (a .name)) in
+    rw (c .refused2 .ensures)
+    (roomless _ _ (c .before .before .before .limit-number .ensures) bytes _ (c .before .before .if1 .left) _ sized (c .before .if2 .taken))
 
 put-limit-requires : tie.Need-put-limit-requires
-put-limit-requires c κs = 
+put-limit-requires c κs =
     let a = c .before .before .before .before .before .before .args in
     let h = limit-fits (length (now (a .name))) (sym (c .before .before .before .limit-number .ensures) ∙ c .before .before .if1 .left) in
     (h .0, c .before .if2 .left)
@@ -46,10 +52,15 @@ same-length c = search needs
 
 returns-3 : tie.Need-returns-3
 unfolding writeLimit
-returns-3 c = 
-    let a = c .before .before .before .before .before .before .before .before .before .args in
+returns-3 c =
+    let b4 = c .before .before .before .before in
+    let b8 = b4 .before .before .before .before in
+    let a = b8 .before .args in
     let put = c .before .before .put-limit .ensures in
-    rw (put .0, put .1) (written _ _ (c .before .before .before .before .before .before .limit-number .ensures) (encodeQuery (limit (a .value) (boundOf (a .bound)) (now (a .name)))) (now (a .out)) (c .before .before .before .before .before .if1 .left) _ (limit-size (a .value) (boundOf (a .bound)) (now (a .name))) (c .before .before .before .before .if2 .left))
+    let bytes = encodeQuery (limit (a .value) (boundOf (a .bound)) (now (a .name))) in
+    let sized = limit-size (a .value) (boundOf (a .bound)) (now (a .name)) in
+    rw (put .0, put .1)
+    (written _ _ (b4 .before .before .limit-number .ensures) bytes (now (a .out)) (b4 .before .if1 .left) _ sized (b4 .if2 .left))
 
 pub write-limit-spec : {M : Type 1} → statement M
 write-limit-spec =

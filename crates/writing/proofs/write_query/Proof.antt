@@ -1,7 +1,5 @@
-use mathlib.Core.Path.{_≡_, refl, sym, _∙_}
 use native.Mathlib.Omega.{arith}
 use denote.Ref.{now}
-use Rattle.wire.proofs.Replies.{slice-bytes}
 use Rattle.writing.proofs.Laws.{query-copies, query-refused, over-ceiling, no-room, wrote}
 use borrow.Author.Needs.{needs}
 use Rattle.writing.proofs.write_query.Statement.{statement}
@@ -22,54 +20,75 @@ fault-requires c κs = search needs
 number-requires : tie.Need-number-requires
 number-requires c κs = search needs
 
+refused-requires : tie.Need-refused-requires
+refused-requires c κs = search needs
+
 returns : tie.Need-returns
-returns c = 
-    let b = c .before .before .before .before in
-    let told = c .before .before .enum-told .given .1 in
+returns c =
+    let b4 = c .before .before .before .before in
+    let b = b4 .before in
+    let a = b .before .before .before .args in
+    let told = c .before .before .before .enum-told .given .1 in
     let read = rw told at (b .read-query .ensures .0) in
-    rw (c .number .ensures, c .before .fault .ensures, told) (query-refused (now (b .before .before .before .args .src)) (b .before .before .shared-slice-known .given) (b .before .before .before .args .q) _ read)
+    rw (c .refused .ensures, c .before .number .ensures, c .before .before .fault .ensures, told)
+    (query-refused (now (a .src)) (b .before .before .shared-slice-known .given) (a .q) _ read)
 
 sub-n : tie.Need-sub-n
-sub-n c = 
+sub-n c =
     let b = c .before .before .before in
+    let a = b .before .before .before .args in
     let read = rw (c .before .e .given .1) at (b .read-query .ensures .0) in
-    query-copies (now (b .before .before .before .args .src)) (b .before .before .shared-slice-known .given) (b .before .before .before .args .q) read .order
+    query-copies (now (a .src)) (b .before .before .shared-slice-known .given) (a .q) read .order
+
+refused-requires-2 : tie.Need-refused-requires-2
+refused-requires-2 c κs = search needs
 
 returns-2 : tie.Need-returns-2
-returns-2 c = 
-    let b = c .before .before .before .before in
-    let read = rw (c .before .before .e .given .1) at (b .read-query .ensures .0) in
-    let q = query-copies (now (b .before .before .before .args .src)) (b .before .before .shared-slice-known .given) (b .before .before .before .args .q) read in
-    over-ceiling q _ (omega (arith, c .if1 .taken))
+returns-2 c =
+    let b4 = c .before .before .before .before in
+    let b = b4 .before in
+    let a = b .before .before .before .args in
+    let read = rw (c .before .before .before .e .given .1) at (b .read-query .ensures .0) in
+    let q = query-copies (now (a .src)) (b .before .before .shared-slice-known .given) (a .q) read in
+    rw (c .refused2 .ensures) (over-ceiling q _ (omega (arith, c .before .if1 .taken)))
+
+refused-requires-3 : tie.Need-refused-requires-3
+refused-requires-3 c κs = search needs
 
 returns-3 : tie.Need-returns-3
-returns-3 c = 
-    let b = c .before .before .before .before .before in
-    let read = rw (c .before .before .before .e .given .1) at (b .read-query .ensures .0) in
-    let q = query-copies (now (b .before .before .before .args .src)) (b .before .before .shared-slice-known .given) (b .before .before .before .args .q) read in
-    no-room q _ (omega (arith, c .before .if1 .left)) (omega (arith, c .if2 .taken))
+returns-3 c =
+    let b4 = c .before .before .before .before in
+    let b = b4 .before .before in
+    let a = b .before .before .before .args in
+    let read = rw (b4 .e .given .1) at (b .read-query .ensures .0) in
+    let q = query-copies (now (a .src)) (b .before .before .shared-slice-known .given) (a .q) read in
+    rw (c .refused3 .ensures) (no-room q _ (omega (arith, c .before .before .if1 .left)) (omega (arith, c .before .if2 .taken)))
 
 bytes-at-requires : tie.Need-bytes-at-requires
 bytes-at-requires c κs = search needs
 
 copy-requires : tie.Need-copy-requires
-copy-requires c κs = 
-    let b = c .before .before .before .before .before .before .before in
-    let read = rw (c .before .before .before .before .before .e .given .1) at (b .read-query .ensures .0) in
-    let q = query-copies (now (b .before .before .before .args .src)) (b .before .before .shared-slice-known .given) (b .before .before .before .args .q) read in
+copy-requires c κs =
+    let b4 = c .before .before .before .before in
+    let b = b4 .before .before .before in
+    let a = b .before .before .before .args in
+    let read = rw (b4 .before .e .given .1) at (b .read-query .ensures .0) in
+    let q = query-copies (now (a .src)) (b .before .before .shared-slice-known .given) (a .q) read in
     rw (c .before .bytes-at .ensures, q .size) (c .before .before .if2 .left)
 
 same-length : tie.Need-same-length
 same-length c = search needs
 
 returns-4 : tie.Need-returns-4
-returns-4 c = 
-    let k = c .before .before .before .before .before in
+returns-4 c =
+    let b4 = c .before .before .before .before in
+    let k = b4 .before in
     let b = k .before .before .before .before .before in
+    let a = b .before .before .before .args in
     let read = rw (k .before .before .before .e .given .1) at (b .read-query .ensures .0) in
-    let q = query-copies (now (b .before .before .before .args .src)) (b .before .before .shared-slice-known .given) (b .before .before .before .args .q) read in
+    let q = query-copies (now (a .src)) (b .before .before .shared-slice-known .given) (a .q) read in
     rw (c .before .before .copy .ensures)
-    (wrote q _ _ _ (omega arith) (c .before .before .before .before .bytes-at .ensures) (omega (arith, k .before .if1 .left)) (omega (arith, k .if2 .left)))
+    (wrote q _ _ _ (omega arith) (b4 .bytes-at .ensures) (omega (arith, k .before .if1 .left)) (omega (arith, k .if2 .left)))
 
 pub write-query-spec : {M : Type 1} → statement M
 write-query-spec =
@@ -80,10 +99,10 @@ write-query-spec =
     enum-told
     fault-requires
     number-requires
-    returns
+    refused-requires returns
     sub-n
-    returns-2
-    returns-3
+    refused-requires-2 returns-2
+    refused-requires-3 returns-3
     bytes-at-requires
     copy-requires
     same-length

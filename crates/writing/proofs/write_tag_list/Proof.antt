@@ -21,45 +21,56 @@ fault-requires c κs = search needs
 number-requires : tie.Need-number-requires
 number-requires c κs = search needs
 
+refused-requires : tie.Need-refused-requires
+refused-requires c κs = search needs
+
 returns : tie.Need-returns
-returns c = 
-    let b = c .before .before .before .before in
+returns c =
+    let b4 = c .before .before .before .before in
+    let b = b4 .before in
     let a = b .before .before .before .args in
-    let told = c .before .before .enum-told .given .1 in
+    let told = c .before .before .before .enum-told .given .1 in
     let read = rw told at (b .tags-end .ensures) in
-    rw (c .number .ensures, c .before .fault .ensures, told) (list-refused (now (a .src)) (b .before .before .shared-slice-known .given) (a .tags) _ read)
+    rw (c .refused .ensures, c .before .number .ensures, c .before .before .fault .ensures, told)
+    (list-refused (now (a .src)) (b .before .before .shared-slice-known .given) (a .tags) _ read)
 
 sub-n : tie.Need-sub-n
-sub-n c = 
+sub-n c =
     let b = c .before .before .before in
     let a = b .before .before .before .args in
     let read = rw (c .before .e .given .1) at (b .tags-end .ensures) in
     list-copies (now (a .src)) (b .before .before .shared-slice-known .given) (a .tags) read .order
 
+refused-requires-2 : tie.Need-refused-requires-2
+refused-requires-2 c κs = search needs
+
 returns-2 : tie.Need-returns-2
-returns-2 c = 
-    let b = c .before .before .before .before in
-    let read = rw (c .before .before .e .given .1) at (b .tags-end .ensures) in
-    let a = b .before .before .before .args in
-    let l = list-copies (now (a .src)) (b .before .before .shared-slice-known .given) (a .tags) read in
-    over-ceiling l _ (omega (arith, c .if1 .taken))
-
-add-if2 : tie.Need-add-if2
-add-if2 c = search needs
-
-returns-3 : tie.Need-returns-3
-returns-3 c = 
+returns-2 c =
     let b = c .before .before .before .before .before in
     let read = rw (c .before .before .before .e .given .1) at (b .tags-end .ensures) in
     let a = b .before .before .before .args in
     let l = list-copies (now (a .src)) (b .before .before .shared-slice-known .given) (a .tags) read in
-    no-room l _ (omega (arith, c .before .if1 .left)) (omega (arith, c .if2 .taken))
+    rw (c .refused2 .ensures) (over-ceiling l _ (omega (arith, c .before .if1 .taken)))
+
+add-if2 : tie.Need-add-if2
+add-if2 c = search needs
+
+refused-requires-3 : tie.Need-refused-requires-3
+refused-requires-3 c κs = search needs
+
+returns-3 : tie.Need-returns-3
+returns-3 c =
+    let b = c .before .before .before .before .before .before in
+    let read = rw (c .before .before .before .before .e .given .1) at (b .tags-end .ensures) in
+    let a = b .before .before .before .args in
+    let l = list-copies (now (a .src)) (b .before .before .shared-slice-known .given) (a .tags) read in
+    rw (c .refused3 .ensures) (no-room l _ (omega (arith, c .before .before .if1 .left)) (omega (arith, c .before .if2 .taken)))
 
 bytes-at-requires : tie.Need-bytes-at-requires
 bytes-at-requires c κs = search needs
 
 put-list-requires : tie.Need-put-list-requires
-put-list-requires c κs = 
+put-list-requires c κs =
     let b = c .before .before .before .before .before .before .before in
     let read = rw (c .before .before .before .before .before .e .given .1) at (b .tags-end .ensures) in
     let a = b .before .before .before .args in
@@ -70,7 +81,7 @@ same-length : tie.Need-same-length
 same-length c = search needs
 
 returns-4 : tie.Need-returns-4
-returns-4 c = 
+returns-4 c =
     let k = c .before .before .before .before .before in
     let b = k .before .before .before .before .before in
     let read = rw (k .before .before .before .e .given .1) at (b .tags-end .ensures) in
@@ -89,11 +100,11 @@ write-tag-list-spec =
     enum-told
     fault-requires
     number-requires
-    returns
+    refused-requires returns
     sub-n
-    returns-2
+    refused-requires-2 returns-2
     add-if2
-    returns-3
+    refused-requires-3 returns-3
     bytes-at-requires
     put-list-requires
     same-length
