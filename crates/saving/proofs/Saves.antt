@@ -9,11 +9,13 @@ use Rattle.format.specs.Writing.{unwritten}
 use Rattle.format.specs.Saving.{save, savedAfter, savedOver}
 
 module _ (stored opened new output : List ℕ) where
-  after-refused : (a : Answer PartMet) (n : ℕ) → refusedWith n ≡ reply a → savedAfter a stored opened new output ≡ unwritten n output
+  after-refused : (a : Answer PartMet) (n : ℕ) → refusedWith n ≡ reply a →
+      savedAfter a stored opened new output ≡ unwritten n output
   after-refused (refusal f) n e = cc
   after-refused (accepted m) n e = cc
 
-  after-accepted : (a : Answer PartMet) (m : PartMet) → message m ≡ reply a → savedAfter a stored opened new output ≡ savedOver stored opened new output
+  after-accepted : (a : Answer PartMet) (m : PartMet) → message m ≡ reply a →
+      savedAfter a stored opened new output ≡ savedOver stored opened new output
   after-accepted (refusal f) m e = cc
   after-accepted (accepted m) n e = refl
 
@@ -21,6 +23,7 @@ module _ (stored opened new output : List ℕ) where
   unfolding save
   save-refused n e = after-refused (decode partMet new) n e
 
-  pub save-accepted : (m : PartMet) → message m ≡ reply (decode partMet new) → save stored opened new output ≡ savedOver stored opened new output
+  pub save-accepted : (m : PartMet) → message m ≡ reply (decode partMet new) →
+      save stored opened new output ≡ savedOver stored opened new output
   unfolding save
   save-accepted m e = after-accepted (decode partMet new) m e

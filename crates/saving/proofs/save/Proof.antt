@@ -30,17 +30,20 @@ refused-requires-2 c κs = search needs
 
 returns-2 : tie.Need-returns-2
 returns-2 c =
-    let read = rw (c .before .before .before .enum-told .given .1) at (c .before .before .before .before .before .read-part-met .ensures .0) in
-    rw (c .refused2 .ensures, save-accepted _ _ _ _ _ read, ← c .before .before .same .ensures, not-true (c .before .before .same .result) (c .before .if1 .taken)) refl
+    let s = c .before .before in
+    let read = rw (s .before .enum-told .given .1) at (s .before .before .before .read-part-met .ensures .0) in
+    let differ = not-true (s .same .result) (c .before .if1 .taken) in
+    rw (c .refused2 .ensures, save-accepted _ _ _ _ _ read, ← s .same .ensures, differ) refl
 
 refused-requires-3 : tie.Need-refused-requires-3
 refused-requires-3 c κs = search needs
 
 returns-3 : tie.Need-returns-3
 returns-3 c =
-    let read = rw (c .before .before .before .before .enum-told .given .1) at (c .before .before .before .before .before .before .read-part-met .ensures .0) in
-    let equal = not-false (c .before .before .before .same .result) (c .before .before .if1 .left) in
-    rw (c .refused3 .ensures, save-accepted _ _ _ _ _ read, ← c .before .before .before .same .ensures, equal, lt-leb _ _ (c .before .if2 .taken)) refl
+    let s = c .before .before .before in
+    let read = rw (s .before .enum-told .given .1) at (s .before .before .before .read-part-met .ensures .0) in
+    let equal = not-false (s .same .result) (c .before .before .if1 .left) in
+    rw (c .refused3 .ensures, save-accepted _ _ _ _ _ read, ← s .same .ensures, equal, lt-leb _ _ (c .before .if2 .taken)) refl
 
 copy-requires : tie.Need-copy-requires
 copy-requires c κs = search needs
@@ -50,9 +53,11 @@ same-length c = search needs
 
 returns-4 : tie.Need-returns-4
 returns-4 c =
-    let read = rw (c .before .before .before .before .before .before .before .enum-told .given .1) at (c .before .before .before .before .before .before .before .before .before .read-part-met .ensures .0) in
-    let equal = not-false (c .before .before .before .before .before .before .same .result) (c .before .before .before .before .before .if1 .left) in
-    rw (save-accepted _ _ _ _ _ read, ← c .before .before .before .before .before .before .same .ensures, equal, le-leb _ _ (c .before .before .before .before .if2 .left), ← c .before .before .copy .ensures) refl
+    let s = c .before .before .before .before .before .before in
+    let read = rw (s .before .enum-told .given .1) at (s .before .before .before .read-part-met .ensures .0) in
+    let equal = not-false (s .same .result) (c .before .before .before .before .before .if1 .left) in
+    let room = le-leb _ _ (c .before .before .before .before .if2 .left) in
+    rw (save-accepted _ _ _ _ _ read, ← s .same .ensures, equal, room, ← c .before .before .copy .ensures) refl
 
 pub save-spec : {M : Type 1} → statement M
 save-spec =
