@@ -2,6 +2,8 @@
 use gaps::GapRecord;
 use gaps::all_missing;
 use gaps::mark;
+use met::block_count;
+use met::part_count;
 use query::QueryAnswer;
 use query::read_lone_query;
 
@@ -436,11 +438,25 @@ fn show_gap(g: GapRecord, i: usize) {
     }
 }
 
+// How many part hashes and block hashes a file of a size has.
+fn show_size(size: u32) {
+    io::write_all(1, b"size ");
+    io::print_decimal(1, size as u64);
+    io::write_all(1, b": parts ");
+    io::print_decimal(1, part_count(size) as u64);
+    say(b", blocks ", block_count(size) as u64);
+}
+
 fn main() {
     show_query(&FILTER_AUDIO);
     show_query(&FILTER_TEXT);
     show_query(&DEPTH_24);
     show_query(&DEPTH_25);
+    show_size(0);
+    show_size(972800);
+    show_size(9728000);
+    show_size(9728001);
+    show_size(4294967295);
     let whole = all_missing(100);
     let halves = show_mark(whole, 40, 60);
     show_gap(halves, 0);
