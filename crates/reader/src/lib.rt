@@ -82,7 +82,9 @@ fn from_part(a: PartAnswer) -> Answer
     }
 }
 
-// What the bytes of a kind are: demand 3.
+// What the bytes of a kind are. The clauses: the answer is the format's (`meaning`); each list lies where the answer says
+// (`placed`); a message is the answer exactly when it is valid and the bytes are its encoding (`demand3`). That no bytes are
+// those of two valid messages of one kind is a law of the format alone: `unambiguous` in its proofs/Acceptance.antt.
 pub fn read(kind: Kind, s: &[u8]) -> Answer
     ensures meaning { λ r. ⌜ answerIn (kindOf kind) (now (s .entry)) r ≡ some (reply (decode (kindOf kind) (now (s .entry)))) ⌝ }
     ensures placed { λ r. ⌜ AnswerPlaced (now (s .entry)) r ⌝ }
