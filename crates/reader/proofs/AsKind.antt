@@ -9,6 +9,7 @@ use Rattle.format.specs.Layout.{encode}
 use Rattle.format.specs.Rules.{Valid}
 use Rattle.format.specs.Decoding.{Reply, message, reply}
 use Rattle.format.specs.MetOrder.{decode}
+use Rattle.format.proofs.Acceptance.{unambiguous}
 use Rattle.packets.specs.declared.PacketAnswer.{PacketAnswer}
 use Rattle.packets.specs.Meaning.{packetReply, PacketPlaced}
 use Rattle.met.specs.declared.KnownAnswer.{KnownAnswer}
@@ -19,11 +20,13 @@ use Rattle.met.specs.Meaning.{KnownAnswerPlaced, ServerAnswerPlaced, PartAnswer
 use Rattle.reader.specs.Meaning.{packetAnswer, knownAnswer, serverAnswer, partAnswer, AnswerPlaced}
 use Rattle.reader.specs.Meaning.{fromPacket, fromKnown, fromServer, fromPart}
 
--- the three clauses of `read`, from those of the reader of a kind, whose reply the answer stands for
+-- the four clauses of `read`, from those of the reader of a kind, whose reply the answer stands for
 pub as-kind : (k : Kind) (s : List ℕ) {x : Option (Reply (Message k))} {r : Reply (Message k)} {Placed : Type 0} →
     x ≡ some r → r ≡ reply (decode k s) → Placed → ((m : Message k) → (r ≡ message m) ↔ ((s ≡ encode k m) × Valid k m)) →
-    (x ≡ some (reply (decode k s))) × (Placed × ((m : Message k) → (x ≡ some (message m)) ↔ ((s ≡ encode k m) × Valid k m)))
-as-kind k s p e placed exact = (p ∙ ap some e, (placed, λ m. (λ q. exact m .0 (cc), λ v. p ∙ ap some (exact m .1 v))))
+    (x ≡ some (reply (decode k s))) × (Placed × (
+    ((m : Message k) → (x ≡ some (message m)) ↔ ((s ≡ encode k m) × Valid k m)) ×
+    ((m n : Message k) → Valid k m → Valid k n → encode k m ≡ encode k n → m ≡ n)))
+as-kind k s p e placed exact = (p ∙ ap some e, (placed, (λ m. (λ q. exact m .0 (cc), λ v. p ∙ ap some (exact m .1 v)), unambiguous k)))
 
 module _ (s : List ℕ) where
   pub packet-is : (a : PacketAnswer) → packetAnswer s (fromPacket a) ≡ some (packetReply s a)

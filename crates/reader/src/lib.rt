@@ -83,13 +83,15 @@ fn from_part(a: PartAnswer) -> Answer
 }
 
 // What the bytes of a kind are. The clauses: the answer is the format's (`meaning`); each list lies where the answer says
-// (`placed`); a message is the answer exactly when it is valid and the bytes are its encoding (`demand3`). That no bytes are
-// those of two valid messages of one kind is a law of the format alone: `unambiguous` in its proofs/Acceptance.antt.
+// (`placed`); a message is the answer exactly when it is valid and the bytes are its encoding (`demand3`); and beside that,
+// no bytes are those of two valid messages of one kind (`unambiguous`, a law of the format alone).
 pub fn read(kind: Kind, s: &[u8]) -> Answer
     ensures meaning { λ r. ⌜ answerIn (kindOf kind) (now (s .entry)) r ≡ some (reply (decode (kindOf kind) (now (s .entry)))) ⌝ }
     ensures placed { λ r. ⌜ AnswerPlaced (now (s .entry)) r ⌝ }
     ensures demand3 { λ r. ⌜ ((m : messages.Message (kindOf kind)) →
         (answerIn (kindOf kind) (now (s .entry)) r ≡ some (message m)) ↔ ((now (s .entry) ≡ encode (kindOf kind) m) × Valid (kindOf kind) m)) ⌝ }
+    ensures unambiguous { λ r. ⌜ ((m n : messages.Message (kindOf kind)) →
+        Valid (kindOf kind) m → Valid (kindOf kind) n → encode (kindOf kind) m ≡ encode (kindOf kind) n → m ≡ n) ⌝ }
 {
     match kind {
         Kind::ServerLink => from_packet(read_packet(s, Link::Server)),
