@@ -153,7 +153,7 @@ pub fn read_file_entry(s: &[u8], c: Cursor) -> FileEntryStep
 }
 
 // n entries one after the other: every entry is read, and none is kept.
-fn file_entries_from(s: &[u8], first: Cursor, n: u32) -> ItemsStep
+pub fn file_entries_from(s: &[u8], first: Cursor, n: u32) -> ItemsStep
     ensures meaning { λ r. ⌜ itemsMeaning decodeFileEntry (now (s .entry)) r
         ≡ decodeMany n decodeFileEntry (now (s .entry)) (first .at) ⌝ }
     ensures placed { λ r. ⌜ ItemsStepPlaced decodeFileEntry (now (s .entry)) r ⌝ }
@@ -299,7 +299,7 @@ pub fn read_server_entry(s: &[u8], c: Cursor) -> ServerEntryStep
 }
 
 // n entries one after the other: every entry is read, and none is kept.
-fn server_entries_from(s: &[u8], first: Cursor, n: u32) -> ItemsStep
+pub fn server_entries_from(s: &[u8], first: Cursor, n: u32) -> ItemsStep
     ensures meaning { λ r. ⌜ itemsMeaning decodeServerEntry (now (s .entry)) r
         ≡ decodeMany n decodeServerEntry (now (s .entry)) (first .at) ⌝ }
     ensures placed { λ r. ⌜ ItemsStepPlaced decodeServerEntry (now (s .entry)) r ⌝ }
@@ -416,7 +416,7 @@ pub fn read_server_met(s: &[u8]) -> ServerAnswer
 // part.met
 
 // Block hashes: runs of 8 bytes, with no count before them.
-fn block_hashes_from(s: &[u8], first: Cursor, n: u32) -> ItemsStep
+pub fn block_hashes_from(s: &[u8], first: Cursor, n: u32) -> ItemsStep
     ensures meaning { λ r. ⌜ itemsMeaning (decodeRun 8) (now (s .entry)) r ≡ decodeMany n (decodeRun 8) (now (s .entry)) (first .at) ⌝ }
     ensures placed { λ r. ⌜ ItemsStepPlaced (decodeRun 8) (now (s .entry)) r ⌝ }
 {

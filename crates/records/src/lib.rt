@@ -109,7 +109,7 @@ pub fn read_record(s: &[u8], c: Cursor) -> RecordStep
 }
 
 // n items one after the other. A count that is too high ends at the first missing item.
-fn addresses_from(s: &[u8], first: Cursor, n: u32) -> ItemsStep
+pub fn addresses_from(s: &[u8], first: Cursor, n: u32) -> ItemsStep
     ensures meaning { λ r. ⌜ itemsMeaning decodeAddress (now (s .entry)) r ≡ decodeMany n decodeAddress (now (s .entry)) (first .at) ⌝ }
     ensures placed { λ r. ⌜ ItemsStepPlaced decodeAddress (now (s .entry)) r ⌝ }
 {
@@ -133,7 +133,7 @@ fn addresses_from(s: &[u8], first: Cursor, n: u32) -> ItemsStep
     )
 }
 
-fn records_from(s: &[u8], first: Cursor, n: u32) -> ItemsStep
+pub fn records_from(s: &[u8], first: Cursor, n: u32) -> ItemsStep
     ensures meaning { λ r. ⌜ itemsMeaning decodeRecord (now (s .entry)) r ≡ decodeMany n decodeRecord (now (s .entry)) (first .at) ⌝ }
     ensures placed { λ r. ⌜ ItemsStepPlaced decodeRecord (now (s .entry)) r ⌝ }
 {

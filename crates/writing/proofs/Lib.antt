@@ -1,4 +1,5 @@
 pub mod Laws
+pub mod RoundTrip
 pub mod Writes
 pub mod Pieces
 pub mod Leaves

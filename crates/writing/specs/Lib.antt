@@ -1,1 +1,3 @@
 pub mod Writers
+pub mod There
+pub mod RoundTrip

@@ -39,14 +39,14 @@ pub struct WriteAnswer {
     pub length: usize,
 }
 
-fn refused(number: u8) -> WriteAnswer
+pub fn refused(number: u8) -> WriteAnswer
     ensures { λ r. ⌜ r ≡ refusedBy number ⌝ }
 {
     WriteAnswer { number, length: 0 }
 }
 
 // The place behind `count` tags, each of which is read.
-fn tags_end(s: &[u8], first: Cursor, count: u32) -> DoneStep
+pub fn tags_end(s: &[u8], first: Cursor, count: u32) -> DoneStep
     ensures { λ r. ⌜ doneMeaning r ≡ ends (decodeMany count decodeTag (now (s .entry)) (first .at)) ⌝ }
 {
     let mut next = first;
