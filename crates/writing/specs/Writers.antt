@@ -1,13 +1,13 @@
 -- What each writer does: its number, how many bytes it wrote, and the output afterwards.
 use Prim.Native.Nat.{ℕ, _+_}
 use mathlib.Core.Path.{_≡_}
-use mathlib.Core.List.{List}
+use mathlib.Core.List.{List, []}
 use lib.ListN.{length}
 use lib.Dec.{eqb, leb}
 use Rattle.format.specs.Tables.{pick}
 use Rattle.format.specs.Messages as messages
 use Rattle.format.specs.Messages.{Tag, dwordType, field, floatType, hashType, join, keyword, limit, loneQuery, stringType}
-use Rattle.format.specs.Layout.{boundCode, encodeQuery, encodeTag, encodeTags, operatorCode}
+use Rattle.format.specs.Layout.{boundCode, encodeName, encodeQuery, encodeString, encodeTag, encodeTags, operatorCode}
 use Rattle.format.specs.Rules.{depth, depthLimit, nameLimit, packetCeiling}
 use Rattle.format.specs.Decoding.{Answer, Fault, Outcome, accepted, decodeMany, got, number, refusal, refused}
 use Rattle.format.specs.Order.{decodeHash, decodeQuery, decodeTag}
@@ -92,6 +92,17 @@ writeSides o (accepted q) (refusal f) output = unwritten (number (f .rule)) outp
 writeSides o (accepted q) (accepted r) output =
     writeChecked (joinNumber (length (encodeQuery (join o q r))) (depth (join o q r))) (encodeQuery (join o q r)) output
 
+-- The sides of a join, and the query that they are the sides of: read as its places are.
+abbrev pub sidesThere : Answer messages.Query → Answer messages.Query → Outcome (Unit {0})
+sidesThere (refusal f) b = refused f
+sidesThere (accepted q) (refusal f) = refused f
+sidesThere (accepted q) (accepted r) = got tt 0
+
+abbrev pub joinOf : messages.Operator → Answer messages.Query → Answer messages.Query → messages.Query
+joinOf o (accepted q) (accepted r) = join o q r
+joinOf o (accepted q) (refusal f) = keyword []
+joinOf o (refusal f) b = keyword []
+
 unfoldable pub writeJoin : messages.Operator → List ℕ → List ℕ → List ℕ → Written
 writeJoin o left right output = writeSides o (decode loneQuery left) (decode loneQuery right) output
 
@@ -106,6 +117,13 @@ answerNumber (QueryAnswer.Refused n) = n
 -- reader says of the name.
 unfoldable pub tagNumber : ℕ → ℕ → ℕ
 tagNumber name text = countNumber name (countNumber text (nameNumber name))
+
+-- A String and a name by themselves.
+unfoldable pub writeString : List ℕ → List ℕ → Written
+writeString text output = writeChecked (countNumber (length text) 0) (encodeString text) output
+
+unfoldable pub writeName : List ℕ → List ℕ → Written
+writeName name output = writeChecked (tagNumber (length name) 0) (encodeName name) output
 
 unfoldable pub writeTextTag : List ℕ → List ℕ → List ℕ → Written
 writeTextTag name text output =

@@ -11,17 +11,20 @@ ghost use mathlib.Core.Path.{_≡_};
 ghost use mathlib.Core.List.{_++_};
 ghost use Prim.Native.Nat.{suc, max, _+_, _≤_, _<_};
 ghost use lib.ListN.{length};
-ghost use Rattle.format.specs.Messages.{keyword, field, limit};
+ghost use Rattle.format.specs.Messages.{keyword, field, limit, loneQuery, loneTags};
 ghost use Rattle.format.specs.Layout.{byte, dword, encodeName, encodeQuery, encodeString};
-ghost use Rattle.format.specs.Decoding.{decodeMany, ends};
-ghost use Rattle.format.specs.Order.{decodeTag};
+ghost use Rattle.format.specs.Decoding.{decodeMany, ends, got};
+ghost use Rattle.format.specs.Order.{decodeQuery, decodeTag};
+ghost use Rattle.format.specs.MetOrder.{decode};
 ghost use Rattle.format.specs.Writing.{overwritten};
-ghost use Rattle.wire.specs.Meaning.{doneMeaning};
-ghost use Rattle.query.specs.Meaning.{boundOf, operatorOf};
-ghost use Rattle.writing.specs.Writers.{answered, refusedBy, boundByte, operatorByte, answerNumber};
-ghost use Rattle.writing.specs.Writers.{nameNumber, keywordNumber, fieldNumber, limitNumber, joinNumber, tagNumber};
+ghost use Rattle.wire.specs.Meaning.{doneMeaning, itemsIn};
+ghost use Rattle.query.specs.Meaning.{boundOf, operatorOf, queryIn};
+ghost use Rattle.writing.specs.RoundTrip.{RoundTrip};
+ghost use Rattle.writing.specs.There.{itemsThere};
+ghost use Rattle.writing.specs.Writers.{answered, joinOf, refusedBy, sidesThere, boundByte, operatorByte, answerNumber};
+ghost use Rattle.writing.specs.Writers.{countNumber, nameNumber, keywordNumber, fieldNumber, limitNumber, joinNumber, tagNumber};
 ghost use Rattle.writing.specs.Writers.{writeTagList, writeQuery, writeKeyword, writeField, writeLimit, writeJoin};
-ghost use Rattle.writing.specs.Writers.{writeTextTag, writeDwordTag, writeFloatTag, writeHashTag};
+ghost use Rattle.writing.specs.Writers.{writeString, writeName, writeTextTag, writeDwordTag, writeFloatTag, writeHashTag};
 use query::Bound;
 use query::Operator;
 use query::Query;
@@ -77,7 +80,9 @@ fn put_list(out: &mut [u8], count: u32, items: &[u8]) -> usize
 // The lone tag list of the tags that lie at a place of `src`, as the readers hand it out. They are read again, and their bytes are
 // copied as they lie there. A place where no such tags lie is no message: it is refused first, with the number of its own reading.
 pub fn write_tag_list(src: &[u8], tags: Items, out: &mut [u8]) -> WriteAnswer
-    ensures { λ r. ⌜ answered r (now (out .exit)) ≡ writeTagList (now (src .entry)) tags (now (out .entry)) ⌝ }
+    ensures writes { λ r. ⌜ answered r (now (out .exit)) ≡ writeTagList (now (src .entry)) tags (now (out .entry)) ⌝ }
+    ensures round { λ r. ⌜ RoundTrip loneTags (itemsThere decodeTag (now (src .entry)) tags) (itemsIn decodeTag (now (src .entry)) tags)
+        (now (out .entry)) (answered r (now (out .exit))) ⌝ }
 {
     let at = tags.at;
     let count = tags.count;
@@ -103,7 +108,9 @@ pub fn write_tag_list(src: &[u8], tags: Items, out: &mut [u8]) -> WriteAnswer
 
 // The lone query that lies at a place of `src`, as the readers hand it out. It is read again, and its bytes are copied.
 pub fn write_query(src: &[u8], q: Query, out: &mut [u8]) -> WriteAnswer
-    ensures { λ r. ⌜ answered r (now (out .exit)) ≡ writeQuery (now (src .entry)) q (now (out .entry)) ⌝ }
+    ensures writes { λ r. ⌜ answered r (now (out .exit)) ≡ writeQuery (now (src .entry)) q (now (out .entry)) ⌝ }
+    ensures round { λ r. ⌜ RoundTrip loneQuery (ends (decodeQuery (now (src .entry)) (q .at))) (queryIn (now (src .entry)) q)
+        (now (out .entry)) (answered r (now (out .exit))) ⌝ }
 {
     let at = q.at;
     let e = query::read_query(src, Cursor { at });
@@ -221,7 +228,9 @@ fn put_limit(out: &mut [u8], value: u32, bound: Bound, name: &[u8]) -> usize
 
 // A lone query that is a keyword.
 pub fn write_keyword(text: &[u8], out: &mut [u8]) -> WriteAnswer
-    ensures { λ r. ⌜ answered r (now (out .exit)) ≡ writeKeyword (now (text .entry)) (now (out .entry)) ⌝ }
+    ensures writes { λ r. ⌜ answered r (now (out .exit)) ≡ writeKeyword (now (text .entry)) (now (out .entry)) ⌝ }
+    ensures round { λ r. ⌜ RoundTrip loneQuery (got tt 0) (keyword (now (text .entry)))
+        (now (out .entry)) (answered r (now (out .exit))) ⌝ }
 {
     let number = keyword_number(text.len());
     if number != 0 {
@@ -239,7 +248,9 @@ pub fn write_keyword(text: &[u8], out: &mut [u8]) -> WriteAnswer
 
 // A lone query that is a field: a text and the name of the tag that must equal it.
 pub fn write_field(text: &[u8], name: &[u8], out: &mut [u8]) -> WriteAnswer
-    ensures { λ r. ⌜ answered r (now (out .exit)) ≡ writeField (now (text .entry)) (now (name .entry)) (now (out .entry)) ⌝ }
+    ensures writes { λ r. ⌜ answered r (now (out .exit)) ≡ writeField (now (text .entry)) (now (name .entry)) (now (out .entry)) ⌝ }
+    ensures round { λ r. ⌜ RoundTrip loneQuery (got tt 0) (field (now (text .entry)) (now (name .entry)))
+        (now (out .entry)) (answered r (now (out .exit))) ⌝ }
 {
     let number = field_number(text.len(), name.len());
     if number != 0 {
@@ -257,7 +268,9 @@ pub fn write_field(text: &[u8], name: &[u8], out: &mut [u8]) -> WriteAnswer
 
 // A lone query that is a limit: a number, whether it is the least or the most, and the name of the tag that must keep to it.
 pub fn write_limit(value: u32, bound: Bound, name: &[u8], out: &mut [u8]) -> WriteAnswer
-    ensures { λ r. ⌜ answered r (now (out .exit)) ≡ writeLimit value (boundOf bound) (now (name .entry)) (now (out .entry)) ⌝ }
+    ensures writes { λ r. ⌜ answered r (now (out .exit)) ≡ writeLimit value (boundOf bound) (now (name .entry)) (now (out .entry)) ⌝ }
+    ensures round { λ r. ⌜ RoundTrip loneQuery (got tt 0) (limit value (boundOf bound) (now (name .entry)))
+        (now (out .entry)) (answered r (now (out .exit))) ⌝ }
 {
     let number = limit_number(name.len());
     if number != 0 {
@@ -327,7 +340,10 @@ fn put_join(out: &mut [u8], operator: Operator, left: &[u8], right: &[u8]) -> us
 // A lone query that joins two lone queries, given as their bytes. A side that is no lone query is refused with its own number, the
 // left one first; then the join is checked like any other query.
 pub fn write_join(operator: Operator, left: &[u8], right: &[u8], out: &mut [u8]) -> WriteAnswer
-    ensures { λ r. ⌜ answered r (now (out .exit)) ≡ writeJoin (operatorOf operator) (now (left .entry)) (now (right .entry)) (now (out .entry)) ⌝ }
+    ensures writes { λ r. ⌜ answered r (now (out .exit)) ≡ writeJoin (operatorOf operator) (now (left .entry)) (now (right .entry)) (now (out .entry)) ⌝ }
+    ensures round { λ r. ⌜ RoundTrip loneQuery (sidesThere (decode loneQuery (now (left .entry))) (decode loneQuery (now (right .entry))))
+        (joinOf (operatorOf operator) (decode loneQuery (now (left .entry))) (decode loneQuery (now (right .entry))))
+        (now (out .entry)) (answered r (now (out .exit))) ⌝ }
 {
     let a = query::read_lone_query(left);
     let QueryAnswer::Accepted(q) = a else {
@@ -351,7 +367,13 @@ pub fn write_join(operator: Operator, left: &[u8], right: &[u8], out: &mut [u8])
     }
 }
 
-// Single tags, for lists that a caller composes. A tag alone has no byte ceiling.
+// Strings, names and single tags, for lists that a caller composes. They have no byte ceiling.
+
+fn string_number(text: usize) -> u8
+    ensures { λ r. ⌜ r ≡ countNumber text 0 ⌝ }
+{
+    if 65535 < text { 6 } else { 0 }
+}
 
 fn tag_number(name: usize, text: usize) -> u8
     ensures { λ r. ⌜ r ≡ tagNumber name text ⌝ }
@@ -363,6 +385,42 @@ fn tag_number(name: usize, text: usize) -> u8
         return 6;
     }
     name_number(name)
+}
+
+// A String: the WORD of its length and its bytes.
+pub fn write_string(text: &[u8], out: &mut [u8]) -> WriteAnswer
+    ensures { λ r. ⌜ answered r (now (out .exit)) ≡ writeString (now (text .entry)) (now (out .entry)) ⌝ }
+{
+    let number = string_number(text.len());
+    if number != 0 {
+        return refused(number);
+    }
+    if out.len() < 2 + text.len() {
+        return refused(10);
+    }
+    let wrote = put::put_string(out, text);
+    WriteAnswer {
+        number: 0,
+        length: wrote,
+    }
+}
+
+// A name: laid out as a String, of 1 to 255 bytes.
+pub fn write_name(name: &[u8], out: &mut [u8]) -> WriteAnswer
+    ensures { λ r. ⌜ answered r (now (out .exit)) ≡ writeName (now (name .entry)) (now (out .entry)) ⌝ }
+{
+    let number = tag_number(name.len(), 0);
+    if number != 0 {
+        return refused(number);
+    }
+    if out.len() < 2 + name.len() {
+        return refused(10);
+    }
+    let wrote = put::put_string(out, name);
+    WriteAnswer {
+        number: 0,
+        length: wrote,
+    }
 }
 
 // The type and the name of a tag.

@@ -6,6 +6,8 @@ use Rattle.format.specs.Messages.{field}
 use Rattle.format.specs.Layout.{encodeQuery}
 use Rattle.writing.specs.Writers.{writeField}
 use Rattle.writing.proofs.Pieces.{field-size, field-fits, faulty, roomless, written}
+use Rattle.wire.proofs.Replies.{slice-bytes}
+use Rattle.writing.proofs.Writes.{field-round}
 use borrow.Author.Needs.{needs}
 use Rattle.writing.proofs.write_field.Statement.{statement}
 use Rattle.writing.proofs.write_field.Tie as tie
@@ -20,8 +22,9 @@ returns : tie.Need-returns
 unfolding writeField
 returns c =
     let a = c .before .before .before .before .before .before .args in
-    rw (c .refused .ensures)
-    (faulty _ _ (c .before .before .field-number .ensures) (encodeQuery (field (now (a .text)) (now (a .name)))) _ (c .before .if1 .taken))
+    field-round _ (now (a .text)) (now (a .name)) (slice-bytes (now (a .text)) (c .before .before .before .before .before .shared-slice-known .given)) (slice-bytes (now (a .name)) (c .before .before .before .before .shared-slice-known2 .given))
+    (rw (c .refused .ensures)
+    (faulty _ _ (c .before .before .field-number .ensures) (encodeQuery (field (now (a .text)) (now (a .name)))) _ (c .before .if1 .taken)))
 
 add-if2 : tie.Need-add-if2
 add-if2 c = search needs
@@ -42,8 +45,9 @@ returns-2 c =
     let a = b4 .before .before .before .args in
     let bytes = encodeQuery (field (now (a .text)) (now (a .name))) in
     let sized = field-size (now (a .text)) (now (a .name)) in
-    rw (c .refused2 .ensures)
-    (roomless _ _ (c .before .before .before .field-number .ensures) bytes _ (c .before .before .if1 .left) _ sized (c .before .if2 .taken))
+    field-round _ (now (a .text)) (now (a .name)) (slice-bytes (now (a .text)) (b4 .before .before .shared-slice-known .given)) (slice-bytes (now (a .name)) (b4 .before .shared-slice-known2 .given))
+    (rw (c .refused2 .ensures)
+    (roomless _ _ (c .before .before .before .field-number .ensures) bytes _ (c .before .before .if1 .left) _ sized (c .before .if2 .taken)))
 
 put-field-requires : tie.Need-put-field-requires
 put-field-requires c κs =
@@ -64,8 +68,9 @@ returns-3 c =
     let put = c .before .before .put-field .ensures in
     let bytes = encodeQuery (field (now (a .text)) (now (a .name))) in
     let sized = field-size (now (a .text)) (now (a .name)) in
-    rw (put .0, put .1)
-    (written _ _ (b4 .before .before .field-number .ensures) bytes (now (a .out)) (b4 .before .if1 .left) _ sized (b4 .if2 .left))
+    field-round _ (now (a .text)) (now (a .name)) (slice-bytes (now (a .text)) (b8 .before .shared-slice-known .given)) (slice-bytes (now (a .name)) (b8 .shared-slice-known2 .given))
+    (rw (put .0, put .1)
+    (written _ _ (b4 .before .before .field-number .ensures) bytes (now (a .out)) (b4 .before .if1 .left) _ sized (b4 .if2 .left)))
 
 pub write-field-spec : {M : Type 1} → statement M
 write-field-spec =

@@ -6,6 +6,8 @@ use lib.ListN.{length}
 use Rattle.query.specs.Meaning.{operatorOf}
 use Rattle.writing.proofs.Pieces.{faulty, roomless, written}
 use Rattle.writing.proofs.Joins.{join-fits, join-size, joined, joins, left-refused, right-refused, side}
+use Rattle.wire.proofs.Replies.{slice-bytes}
+use Rattle.writing.proofs.Writes.{join-round}
 use borrow.Author.Needs.{needs}
 use Rattle.writing.proofs.write_join.Statement.{statement}
 use Rattle.writing.proofs.write_join.Tie as tie
@@ -32,8 +34,9 @@ returns c =
     let a = first .before .before .before .before .args in
     let told = c .before .before .enum-told .given .1 in
     let x = rw told at (first .read-lone-query .ensures) in
-    rw (c .refused .ensures, c .before .answer-number .ensures, told)
-    (left-refused (operatorOf (a .operator)) (now (a .left)) (now (a .right)) _ (x .0))
+    join-round _ (operatorOf (a .operator)) (now (a .left)) (now (a .right)) (slice-bytes (now (a .left)) (first .before .before .before .shared-slice-known .given)) (slice-bytes (now (a .right)) (first .before .before .shared-slice-known2 .given))
+    (rw (c .refused .ensures, c .before .answer-number .ensures, told)
+    (left-refused (operatorOf (a .operator)) (now (a .left)) (now (a .right)) _ (x .0)))
 
 read-lone-query-requires-2 : tie.Need-read-lone-query-requires-2
 read-lone-query-requires-2 c κs = search needs
@@ -60,8 +63,9 @@ returns-2 c =
     let left = side (now (a .left)) (first .before .before .before .shared-slice-known .given) (b4 .before .before .a .given .0 .0) (x .0) (x .1 .0) in
     let told = c .before .before .enum-told2 .given .1 in
     let y = rw told at (b4 .read-lone-query2 .ensures) in
-    rw (c .refused2 .ensures, c .before .answer-number2 .ensures, told)
-    (right-refused (operatorOf (a .operator)) (now (a .left)) (now (a .right)) _ left (y .0))
+    join-round _ (operatorOf (a .operator)) (now (a .left)) (now (a .right)) (slice-bytes (now (a .left)) (first .before .before .before .shared-slice-known .given)) (slice-bytes (now (a .right)) (first .before .before .shared-slice-known2 .given))
+    (rw (c .refused2 .ensures, c .before .answer-number2 .ensures, told)
+    (right-refused (operatorOf (a .operator)) (now (a .left)) (now (a .right)) _ left (y .0)))
 
 join-number-requires : tie.Need-join-number-requires
 join-number-requires c κs = search needs
@@ -81,9 +85,10 @@ returns-3 c =
     let right = side (now (a .right)) (first .before .before .shared-slice-known2 .given) (b4 .b .given .0 .0) (y .0) (y .1 .0) in
     let j = joins (operatorOf (a .operator)) (now (a .left)) (now (a .right)) (now (a .out)) left right in
     let bytes = joined (operatorOf (a .operator)) (now (a .left)) (now (a .right)) (now (a .out)) in
-    rw (c .refused3 .ensures)
+    join-round _ (operatorOf (a .operator)) (now (a .left)) (now (a .right)) (slice-bytes (now (a .left)) (first .before .before .before .shared-slice-known .given)) (slice-bytes (now (a .right)) (first .before .before .shared-slice-known2 .given))
+    (rw (c .refused3 .ensures)
     (faulty _ _ (c .before .before .join-number .ensures) bytes _ (c .before .if1 .taken))
-    ∙ sym j
+    ∙ sym j)
 
 add-if2 : tie.Need-add-if2
 add-if2 c = search needs
@@ -110,9 +115,10 @@ returns-4 c =
     let j = joins (operatorOf (a .operator)) (now (a .left)) (now (a .right)) (now (a .out)) left right in
     let bytes = joined (operatorOf (a .operator)) (now (a .left)) (now (a .right)) (now (a .out)) in
     let sized = join-size (operatorOf (a .operator)) (now (a .left)) (now (a .right)) (now (a .out)) in
-    rw (c .refused4 .ensures)
+    join-round _ (operatorOf (a .operator)) (now (a .left)) (now (a .right)) (slice-bytes (now (a .left)) (first .before .before .before .shared-slice-known .given)) (slice-bytes (now (a .right)) (first .before .before .shared-slice-known2 .given))
+    (rw (c .refused4 .ensures)
     (roomless _ _ (c .before .before .before .join-number .ensures) bytes _ (c .before .before .if1 .left) _ sized (c .before .if2 .taken))
-    ∙ sym j
+    ∙ sym j)
 
 put-join-requires : tie.Need-put-join-requires
 put-join-requires c κs = search needs
@@ -135,9 +141,10 @@ returns-5 c =
     let put = c .before .before .put-join .ensures in
     let bytes = joined (operatorOf (a .operator)) (now (a .left)) (now (a .right)) (now (a .out)) in
     let sized = join-size (operatorOf (a .operator)) (now (a .left)) (now (a .right)) (now (a .out)) in
-    rw (put .0, put .1)
+    join-round _ (operatorOf (a .operator)) (now (a .left)) (now (a .right)) (slice-bytes (now (a .left)) (first .before .before .before .shared-slice-known .given)) (slice-bytes (now (a .right)) (first .before .before .shared-slice-known2 .given))
+    (rw (put .0, put .1)
     (written _ _ (b4 .before .before .join-number .ensures) bytes (now (a .out)) (b4 .before .if1 .left) _ sized (b4 .if2 .left))
-    ∙ sym j
+    ∙ sym j)
 
 pub write-join-spec : {M : Type 1} → statement M
 write-join-spec =

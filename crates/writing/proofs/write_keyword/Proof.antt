@@ -5,6 +5,8 @@ use Rattle.format.specs.Messages.{keyword}
 use Rattle.format.specs.Layout.{encodeQuery}
 use Rattle.writing.specs.Writers.{writeKeyword}
 use Rattle.writing.proofs.Pieces.{keyword-size, keyword-fits, faulty, roomless, written}
+use Rattle.wire.proofs.Replies.{slice-bytes}
+use Rattle.writing.proofs.Writes.{keyword-round}
 use borrow.Author.Needs.{needs}
 use Rattle.writing.proofs.write_keyword.Statement.{statement}
 use Rattle.writing.proofs.write_keyword.Tie as tie
@@ -19,8 +21,9 @@ returns : tie.Need-returns
 unfolding writeKeyword
 returns c =
     let a = c .before .before .before .before .before .args in
-    rw (c .refused .ensures)
-    (faulty _ _ (c .before .before .keyword-number .ensures) (encodeQuery (keyword (now (a .text)))) _ (c .before .if1 .taken))
+    keyword-round _ (now (a .text)) (slice-bytes (now (a .text)) (c .before .before .before .before .shared-slice-known .given))
+    (rw (c .refused .ensures)
+    (faulty _ _ (c .before .before .keyword-number .ensures) (encodeQuery (keyword (now (a .text)))) _ (c .before .if1 .taken)))
 
 add-if2 : tie.Need-add-if2
 add-if2 c = search needs
@@ -35,8 +38,9 @@ returns-2 c =
     let a = b4 .before .before .args in
     let bytes = encodeQuery (keyword (now (a .text))) in
     let sized = keyword-size (now (a .text)) in
-    rw (c .refused2 .ensures)
-    (roomless _ _ (c .before .before .before .keyword-number .ensures) bytes _ (c .before .before .if1 .left) _ sized (c .before .if2 .taken))
+    keyword-round _ (now (a .text)) (slice-bytes (now (a .text)) (b4 .before .shared-slice-known .given))
+    (rw (c .refused2 .ensures)
+    (roomless _ _ (c .before .before .before .keyword-number .ensures) bytes _ (c .before .before .if1 .left) _ sized (c .before .if2 .taken)))
 
 put-keyword-requires : tie.Need-put-keyword-requires
 put-keyword-requires c κs =
@@ -56,8 +60,9 @@ returns-3 c =
     let put = c .before .before .put-keyword .ensures in
     let bytes = encodeQuery (keyword (now (a .text))) in
     let sized = keyword-size (now (a .text)) in
-    rw (put .0, put .1)
-    (written _ _ (b4 .before .before .keyword-number .ensures) bytes (now (a .out)) (b4 .before .if1 .left) _ sized (b4 .if2 .left))
+    keyword-round _ (now (a .text)) (slice-bytes (now (a .text)) (b8 .shared-slice-known .given))
+    (rw (put .0, put .1)
+    (written _ _ (b4 .before .before .keyword-number .ensures) bytes (now (a .out)) (b4 .before .if1 .left) _ sized (b4 .if2 .left)))
 
 pub write-keyword-spec : {M : Type 1} → statement M
 write-keyword-spec =

@@ -1,3 +1,4 @@
+use native.Mathlib.Omega.{arith}
 use mathlib.Core.Path.{_∙_, sym}
 use denote.Ref.{now}
 use lib.ListN.{length}
@@ -6,6 +7,8 @@ use Rattle.format.specs.Layout.{encodeQuery}
 use Rattle.query.specs.Meaning.{boundOf}
 use Rattle.writing.specs.Writers.{writeLimit}
 use Rattle.writing.proofs.Pieces.{limit-size, limit-fits, faulty, roomless, written}
+use Rattle.wire.proofs.Replies.{slice-bytes}
+use Rattle.writing.proofs.Writes.{limit-round}
 use borrow.Author.Needs.{needs}
 use Rattle.writing.proofs.write_limit.Statement.{statement}
 use Rattle.writing.proofs.write_limit.Tie as tie
@@ -22,8 +25,9 @@ returns c =
     let b4 = c .before .before .before .before in
     let a = b4 .before .args in
     let bytes = encodeQuery (limit (a .value) (boundOf (a .bound)) (now (a .name))) in
-    rw (c .refused .ensures)
-    (faulty _ _ (c .before .before .limit-number .ensures) bytes _ (c .before .if1 .taken))
+    limit-round _ (a .value) (boundOf (a .bound)) (now (a .name)) (omega (arith, b4 .before .good)) (slice-bytes (now (a .name)) (b4 .shared-slice-known .given))
+    (rw (c .refused .ensures)
+    (faulty _ _ (c .before .before .limit-number .ensures) bytes _ (c .before .if1 .taken)))
 
 add-if2 : tie.Need-add-if2
 add-if2 c = search needs
@@ -38,8 +42,9 @@ returns-2 c =
     let a = b4 .before .before .args in
     let bytes = encodeQuery (limit (a .value) (boundOf (a .bound)) (now (a .name))) in
     let sized = limit-size (a .value) (boundOf (a .bound)) (now (a .name)) in
-    rw (c .refused2 .ensures)
-    (roomless _ _ (c .before .before .before .limit-number .ensures) bytes _ (c .before .before .if1 .left) _ sized (c .before .if2 .taken))
+    limit-round _ (a .value) (boundOf (a .bound)) (now (a .name)) (omega (arith, b4 .before .before .good)) (slice-bytes (now (a .name)) (b4 .before .shared-slice-known .given))
+    (rw (c .refused2 .ensures)
+    (roomless _ _ (c .before .before .before .limit-number .ensures) bytes _ (c .before .before .if1 .left) _ sized (c .before .if2 .taken)))
 
 put-limit-requires : tie.Need-put-limit-requires
 put-limit-requires c κs =
@@ -59,8 +64,9 @@ returns-3 c =
     let put = c .before .before .put-limit .ensures in
     let bytes = encodeQuery (limit (a .value) (boundOf (a .bound)) (now (a .name))) in
     let sized = limit-size (a .value) (boundOf (a .bound)) (now (a .name)) in
-    rw (put .0, put .1)
-    (written _ _ (b4 .before .before .limit-number .ensures) bytes (now (a .out)) (b4 .before .if1 .left) _ sized (b4 .if2 .left))
+    limit-round _ (a .value) (boundOf (a .bound)) (now (a .name)) (omega (arith, b8 .before .good)) (slice-bytes (now (a .name)) (b8 .shared-slice-known .given))
+    (rw (put .0, put .1)
+    (written _ _ (b4 .before .before .limit-number .ensures) bytes (now (a .out)) (b4 .before .if1 .left) _ sized (b4 .if2 .left)))
 
 pub write-limit-spec : {M : Type 1} → statement M
 write-limit-spec =

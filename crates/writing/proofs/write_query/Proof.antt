@@ -1,5 +1,7 @@
 use native.Mathlib.Omega.{arith}
 use denote.Ref.{now}
+use Rattle.wire.proofs.Replies.{slice-bytes}
+use Rattle.writing.proofs.Writes.{query-round}
 use Rattle.writing.proofs.Laws.{query-copies, query-refused, over-ceiling, no-room, wrote}
 use borrow.Author.Needs.{needs}
 use Rattle.writing.proofs.write_query.Statement.{statement}
@@ -30,8 +32,9 @@ returns c =
     let a = b .before .before .before .args in
     let told = c .before .before .before .enum-told .given .1 in
     let read = rw told at (b .read-query .ensures .0) in
-    rw (c .refused .ensures, c .before .number .ensures, c .before .before .fault .ensures, told)
-    (query-refused (now (a .src)) (b .before .before .shared-slice-known .given) (a .q) _ read)
+    (query-round (now (a .src)) (slice-bytes (now (a .src)) (b .before .before .shared-slice-known .given)) _ (a .q)
+    (rw (c .refused .ensures, c .before .number .ensures, c .before .before .fault .ensures, told)
+    (query-refused (now (a .src)) (b .before .before .shared-slice-known .given) (a .q) _ read)))
 
 sub-n : tie.Need-sub-n
 sub-n c =
@@ -50,7 +53,8 @@ returns-2 c =
     let a = b .before .before .before .args in
     let read = rw (c .before .before .before .e .given .1) at (b .read-query .ensures .0) in
     let q = query-copies (now (a .src)) (b .before .before .shared-slice-known .given) (a .q) read in
-    rw (c .refused2 .ensures) (over-ceiling q _ (omega (arith, c .before .if1 .taken)))
+    (query-round (now (a .src)) (slice-bytes (now (a .src)) (b .before .before .shared-slice-known .given)) _ (a .q)
+    (rw (c .refused2 .ensures) (over-ceiling q _ (omega (arith, c .before .if1 .taken)))))
 
 refused-requires-3 : tie.Need-refused-requires-3
 refused-requires-3 c κs = search needs
@@ -62,7 +66,8 @@ returns-3 c =
     let a = b .before .before .before .args in
     let read = rw (b4 .e .given .1) at (b .read-query .ensures .0) in
     let q = query-copies (now (a .src)) (b .before .before .shared-slice-known .given) (a .q) read in
-    rw (c .refused3 .ensures) (no-room q _ (omega (arith, c .before .before .if1 .left)) (omega (arith, c .before .if2 .taken)))
+    (query-round (now (a .src)) (slice-bytes (now (a .src)) (b .before .before .shared-slice-known .given)) _ (a .q)
+    (rw (c .refused3 .ensures) (no-room q _ (omega (arith, c .before .before .if1 .left)) (omega (arith, c .before .if2 .taken)))))
 
 bytes-at-requires : tie.Need-bytes-at-requires
 bytes-at-requires c κs = search needs
@@ -87,8 +92,9 @@ returns-4 c =
     let a = b .before .before .before .args in
     let read = rw (k .before .before .before .e .given .1) at (b .read-query .ensures .0) in
     let q = query-copies (now (a .src)) (b .before .before .shared-slice-known .given) (a .q) read in
-    rw (c .before .before .copy .ensures)
-    (wrote q _ _ _ (omega arith) (b4 .bytes-at .ensures) (omega (arith, k .before .if1 .left)) (omega (arith, k .if2 .left)))
+    (query-round (now (a .src)) (slice-bytes (now (a .src)) (b .before .before .shared-slice-known .given)) _ (a .q)
+    (rw (c .before .before .copy .ensures)
+    (wrote q _ _ _ (omega arith) (b4 .bytes-at .ensures) (omega (arith, k .before .if1 .left)) (omega (arith, k .if2 .left)))))
 
 pub write-query-spec : {M : Type 1} → statement M
 write-query-spec =

@@ -1,7 +1,9 @@
 use mathlib.Core.Path.{refl}
 use native.Mathlib.Omega.{arith}
 use denote.Ref.{now}
+use Rattle.wire.proofs.Replies.{slice-bytes}
 use Rattle.writing.proofs.Laws.{list-copies, list-refused, over-ceiling, no-room, wrote}
+use Rattle.writing.proofs.Writes.{tag-list-round}
 use borrow.Author.Needs.{needs}
 use Rattle.writing.proofs.write_tag_list.Statement.{statement}
 use Rattle.writing.proofs.write_tag_list.Tie as tie
@@ -31,8 +33,9 @@ returns c =
     let a = b .before .before .before .args in
     let told = c .before .before .before .enum-told .given .1 in
     let read = rw told at (b .tags-end .ensures) in
-    rw (c .refused .ensures, c .before .number .ensures, c .before .before .fault .ensures, told)
-    (list-refused (now (a .src)) (b .before .before .shared-slice-known .given) (a .tags) _ read)
+    (tag-list-round (now (a .src)) (slice-bytes (now (a .src)) (b .before .before .shared-slice-known .given)) _ (a .tags) (omega (arith, b .before .before .before .good))
+    (rw (c .refused .ensures, c .before .number .ensures, c .before .before .fault .ensures, told)
+    (list-refused (now (a .src)) (b .before .before .shared-slice-known .given) (a .tags) _ read)))
 
 sub-n : tie.Need-sub-n
 sub-n c =
@@ -50,7 +53,8 @@ returns-2 c =
     let read = rw (c .before .before .before .e .given .1) at (b .tags-end .ensures) in
     let a = b .before .before .before .args in
     let l = list-copies (now (a .src)) (b .before .before .shared-slice-known .given) (a .tags) read in
-    rw (c .refused2 .ensures) (over-ceiling l _ (omega (arith, c .before .if1 .taken)))
+    (tag-list-round (now (a .src)) (slice-bytes (now (a .src)) (b .before .before .shared-slice-known .given)) _ (a .tags) (omega (arith, b .before .before .before .good))
+    (rw (c .refused2 .ensures) (over-ceiling l _ (omega (arith, c .before .if1 .taken)))))
 
 add-if2 : tie.Need-add-if2
 add-if2 c = search needs
@@ -64,7 +68,8 @@ returns-3 c =
     let read = rw (c .before .before .before .before .e .given .1) at (b .tags-end .ensures) in
     let a = b .before .before .before .args in
     let l = list-copies (now (a .src)) (b .before .before .shared-slice-known .given) (a .tags) read in
-    rw (c .refused3 .ensures) (no-room l _ (omega (arith, c .before .before .if1 .left)) (omega (arith, c .before .if2 .taken)))
+    (tag-list-round (now (a .src)) (slice-bytes (now (a .src)) (b .before .before .shared-slice-known .given)) _ (a .tags) (omega (arith, b .before .before .before .good))
+    (rw (c .refused3 .ensures) (no-room l _ (omega (arith, c .before .before .if1 .left)) (omega (arith, c .before .if2 .taken)))))
 
 bytes-at-requires : tie.Need-bytes-at-requires
 bytes-at-requires c κs = search needs
@@ -88,8 +93,9 @@ returns-4 c =
     let a = b .before .before .before .args in
     let l = list-copies (now (a .src)) (b .before .before .shared-slice-known .given) (a .tags) read in
     let bytes = c .before .before .before .before .bytes-at .ensures in
-    rw (c .before .before .put-list .ensures .0, c .before .before .put-list .ensures .1)
-    (wrote l _ _ _ (rw (bytes, l .size) refl) bytes (omega (arith, k .before .if1 .left)) (omega (arith, k .if2 .left)))
+    (tag-list-round (now (a .src)) (slice-bytes (now (a .src)) (b .before .before .shared-slice-known .given)) _ (a .tags) (omega (arith, b .before .before .before .good))
+    (rw (c .before .before .put-list .ensures .0, c .before .before .put-list .ensures .1)
+    (wrote l _ _ _ (rw (bytes, l .size) refl) bytes (omega (arith, k .before .if1 .left)) (omega (arith, k .if2 .left)))))
 
 pub write-tag-list-spec : {M : Type 1} → statement M
 write-tag-list-spec =

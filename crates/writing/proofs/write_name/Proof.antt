@@ -1,0 +1,67 @@
+use mathlib.Core.Path.{_∙_, sym}
+use denote.Ref.{now}
+use lib.ListN.{length}
+use Rattle.format.specs.Layout.{encodeName}
+use Rattle.writing.specs.Writers.{writeName}
+use Rattle.writing.proofs.Pieces.{faulty, length-name, name-string, roomless, written}
+use Rattle.writing.proofs.TagPieces.{tag-fits}
+use borrow.Author.Needs.{needs}
+use Rattle.writing.proofs.write_name.Statement.{statement}
+use Rattle.writing.proofs.write_name.Tie as tie
+
+tag-number-requires : tie.Need-tag-number-requires
+tag-number-requires c κs = search needs
+
+refused-requires : tie.Need-refused-requires
+refused-requires c κs = search needs
+
+returns : tie.Need-returns
+unfolding writeName
+returns c =
+    let a = c .before .before .before .before .before .args in
+    rw (c .refused .ensures) (faulty _ _ (c .before .before .tag-number .ensures) (encodeName (now (a .name))) _ (c .before .if1 .taken))
+
+add-if2 : tie.Need-add-if2
+add-if2 c = search needs
+
+refused-requires-2 : tie.Need-refused-requires-2
+refused-requires-2 c κs = search needs
+
+returns-2 : tie.Need-returns-2
+unfolding writeName
+returns-2 c =
+    let b4 = c .before .before .before .before in
+    let a = b4 .before .before .args in
+    rw (c .refused2 .ensures)
+    (roomless _ _ (c .before .before .before .tag-number .ensures) (encodeName (now (a .name))) _ (c .before .before .if1 .left) _ (length-name (now (a .name))) (c .before .if2 .taken))
+
+put-string-requires : tie.Need-put-string-requires
+put-string-requires c κs =
+    let a = c .before .before .before .before .before .before .args in
+    (tag-fits (length (now (a .name))) 0 (sym (c .before .before .before .tag-number .ensures) ∙ c .before .before .if1 .left) .0, c .before .if2 .left)
+
+same-length : tie.Need-same-length
+same-length c = search needs
+
+returns-3 : tie.Need-returns-3
+unfolding writeName
+returns-3 c =
+    let b4 = c .before .before .before .before in
+    let a = b4 .before .before .before .before .before .args in
+    let put = c .before .before .put-string .ensures in
+    rw (put .0, put .1, ← name-string (now (a .name)))
+    (written _ _ (b4 .before .before .tag-number .ensures) (encodeName (now (a .name))) (now (a .out)) (b4 .before .if1 .left) _ (length-name (now (a .name))) (b4 .if2 .left))
+
+pub write-name-spec : {M : Type 1} → statement M
+write-name-spec =
+    tie.close
+    (tie.spec
+    tag-number-requires
+    refused-requires
+    returns
+    add-if2
+    refused-requires-2
+    returns-2
+    put-string-requires
+    same-length
+    returns-3)
