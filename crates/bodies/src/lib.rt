@@ -388,7 +388,7 @@ fn power(k: u16) -> u16
 }
 
 // The bits of n parts. All their bytes must be there before the unused bits of the last one are judged.
-fn read_bits(s: &[u8], c: Cursor, n: u16) -> BitsStep
+pub fn read_bits(s: &[u8], c: Cursor, n: u16) -> BitsStep
     ensures { λ r. ⌜ bitsMeaning n (now (s .entry)) r ≡ decodeBits n (now (s .entry)) (c .at) ⌝ }
 {
     let size = (n as usize + 7) / 8;

@@ -11,7 +11,7 @@ ends-cons s a (refused n) = refl
 ends-cons s a (got l p) = refl
 
 module _ {A : Type 0} (d : Decoder A) (s : List ℕ) where
-  many-step : (n at : ℕ) {a : A} {p : ℕ} → got a p ≡ d s at → ends (decodeMany (suc n) d s at) ≡ ends (decodeMany n d s p)
+  pub many-step : (n at : ℕ) {a : A} {p : ℕ} → got a p ≡ d s at → ends (decodeMany (suc n) d s at) ≡ ends (decodeMany n d s p)
   unfolding ends
   many-step n at {a} {p} e = rw (← e) (ends-cons s a (decodeMany n d s p))
 

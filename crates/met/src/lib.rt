@@ -416,7 +416,7 @@ pub fn read_server_met(s: &[u8]) -> ServerAnswer
 // part.met
 
 // Block hashes: runs of 8 bytes, with no count before them.
-pub fn block_hashes_from(s: &[u8], first: Cursor, n: u32) -> ItemsStep
+fn block_hash_by_block_hash(s: &[u8], first: Cursor, n: u32) -> ItemsStep
     ensures meaning { λ r. ⌜ itemsMeaning (decodeRun 8) (now (s .entry)) r ≡ decodeMany n (decodeRun 8) (now (s .entry)) (first .at) ⌝ }
     ensures placed { λ r. ⌜ ItemsStepPlaced (decodeRun 8) (now (s .entry)) r ⌝ }
 {
@@ -438,6 +438,23 @@ pub fn block_hashes_from(s: &[u8], first: Cursor, n: u32) -> ItemsStep
         },
         next,
     )
+}
+
+// Block hashes all have 8 bytes: where the bytes of all are there, none is looked at.
+pub fn block_hashes_from(s: &[u8], first: Cursor, n: u32) -> ItemsStep
+    ensures meaning { λ r. ⌜ itemsMeaning (decodeRun 8) (now (s .entry)) r ≡ decodeMany n (decodeRun 8) (now (s .entry)) (first .at) ⌝ }
+    ensures placed { λ r. ⌜ ItemsStepPlaced (decodeRun 8) (now (s .entry)) r ⌝ }
+{
+    let at = first.at;
+    let size = 8 * n as usize;
+    if s.len() < size {
+        return block_hash_by_block_hash(s, first, n);
+    }
+    if s.len() - size < at {
+        return block_hash_by_block_hash(s, first, n);
+    }
+    let end = at + size;
+    ItemsStep::Got(Items { at, end, count: n }, Cursor { at: end })
 }
 
 // Before each block stands a mark, and behind the last one the closing mark.

@@ -109,7 +109,7 @@ pub fn read_record(s: &[u8], c: Cursor) -> RecordStep
 }
 
 // n items one after the other. A count that is too high ends at the first missing item.
-pub fn addresses_from(s: &[u8], first: Cursor, n: u32) -> ItemsStep
+fn address_by_address(s: &[u8], first: Cursor, n: u32) -> ItemsStep
     ensures meaning { λ r. ⌜ itemsMeaning decodeAddress (now (s .entry)) r ≡ decodeMany n decodeAddress (now (s .entry)) (first .at) ⌝ }
     ensures placed { λ r. ⌜ ItemsStepPlaced decodeAddress (now (s .entry)) r ⌝ }
 {
@@ -131,6 +131,23 @@ pub fn addresses_from(s: &[u8], first: Cursor, n: u32) -> ItemsStep
         },
         next,
     )
+}
+
+// Addresses all have 6 bytes: where the bytes of all are there, none is looked at.
+pub fn addresses_from(s: &[u8], first: Cursor, n: u32) -> ItemsStep
+    ensures meaning { λ r. ⌜ itemsMeaning decodeAddress (now (s .entry)) r ≡ decodeMany n decodeAddress (now (s .entry)) (first .at) ⌝ }
+    ensures placed { λ r. ⌜ ItemsStepPlaced decodeAddress (now (s .entry)) r ⌝ }
+{
+    let at = first.at;
+    let size = 6 * n as usize;
+    if s.len() < size {
+        return address_by_address(s, first, n);
+    }
+    if s.len() - size < at {
+        return address_by_address(s, first, n);
+    }
+    let end = at + size;
+    ItemsStep::Got(Items { at, end, count: n }, Cursor { at: end })
 }
 
 pub fn records_from(s: &[u8], first: Cursor, n: u32) -> ItemsStep
@@ -157,8 +174,7 @@ pub fn records_from(s: &[u8], first: Cursor, n: u32) -> ItemsStep
     )
 }
 
-// Hashes with no count before them, as the blocks of a part.met have them.
-pub fn hashes_from(s: &[u8], first: Cursor, n: u32) -> ItemsStep
+fn hash_by_hash(s: &[u8], first: Cursor, n: u32) -> ItemsStep
     ensures meaning { λ r. ⌜ itemsMeaning decodeHash (now (s .entry)) r ≡ decodeMany n decodeHash (now (s .entry)) (first .at) ⌝ }
     ensures placed { λ r. ⌜ ItemsStepPlaced decodeHash (now (s .entry)) r ⌝ }
 {
@@ -180,6 +196,23 @@ pub fn hashes_from(s: &[u8], first: Cursor, n: u32) -> ItemsStep
         },
         next,
     )
+}
+
+// Hashes with no count before them, as the blocks of a part.met have them. They all have 16 bytes.
+pub fn hashes_from(s: &[u8], first: Cursor, n: u32) -> ItemsStep
+    ensures meaning { λ r. ⌜ itemsMeaning decodeHash (now (s .entry)) r ≡ decodeMany n decodeHash (now (s .entry)) (first .at) ⌝ }
+    ensures placed { λ r. ⌜ ItemsStepPlaced decodeHash (now (s .entry)) r ⌝ }
+{
+    let at = first.at;
+    let size = 16 * n as usize;
+    if s.len() < size {
+        return hash_by_hash(s, first, n);
+    }
+    if s.len() - size < at {
+        return hash_by_hash(s, first, n);
+    }
+    let end = at + size;
+    ItemsStep::Got(Items { at, end, count: n }, Cursor { at: end })
 }
 
 // BYTE count, then the addresses.

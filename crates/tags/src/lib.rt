@@ -8,18 +8,23 @@
 ghost use mathlib.Core.Path.{_≡_};
 ghost use mathlib.Core.List.{List};
 ghost use mathlib.Core.Logic.{_↔_};
+ghost use Prim.Native.Nat.{_+_, _*_, _≤_};
+ghost use lib.ListN.{length};
 ghost use Rattle.format.specs.Messages as messages;
 ghost use Rattle.format.specs.Messages.{loneTags};
 ghost use Rattle.format.specs.Layout.{encodeTags};
 ghost use Rattle.format.specs.Rules.{Valid};
-ghost use Rattle.format.specs.Decoding.{reply, message};
-ghost use Rattle.format.specs.Order.{decodeType, decodeValue, decodeTag, decodeTags};
+ghost use Rattle.format.specs.Tables.{lookup};
+ghost use Rattle.format.specs.Decoding.{decodeMany, ends, reply, message};
+ghost use Rattle.format.specs.Order.{decodeType, decodeValue, decodeTag, decodeTags, tagTypes};
 ghost use Rattle.format.specs.MetOrder.{decode};
-ghost use Rattle.wire.specs.Meaning.{itemsMeaning, ItemsStepPlaced};
+ghost use Rattle.wire.specs.Meaning.{doneMeaning, itemsMeaning, ItemsStepPlaced};
 ghost use Rattle.tags.specs.Meaning.{typeOf, typeMeaning, valueMeaning, tagMeaning, tagListReply, TagListPlaced};
+ghost use Rattle.tags.specs.Skips.{EndsThere, leastWidth, moreBytes, valueEnds};
 ghost use Rattle.tags.specs.Meaning.{typeFault, valueFault, tagFault};
 use wire::ByteStep;
 use wire::Cursor;
+use wire::DoneStep;
 use wire::DwordStep;
 use wire::Fault;
 use wire::HashStep;
@@ -30,6 +35,7 @@ use wire::PlaceStep;
 use wire::Rule;
 use wire::no_fault;
 use wire::number;
+use wire::pair;
 
 pub enum TagType {
     Hash,
@@ -183,20 +189,100 @@ pub fn read_tag(s: &[u8], c: Cursor) -> TagStep
     )
 }
 
-// A tag list. Every tag is read, so that the list handed back is known to lie there whole.
-pub fn read_tags(s: &[u8], c: Cursor) -> ItemsStep
-    ensures { λ r. ⌜ itemsMeaning decodeTag (now (s .entry)) r ≡ decodeTags (now (s .entry)) (c .at) ⌝ }
+// To go over a tag without its values, most tags need a few tests and no step of the cursor. Each function below answers with the place
+// behind what lies whole at a place, or with 0 where its tests do not tell: nothing ends at 0.
+
+// How many bytes a value of a type has at least, a text the WORD of its length; 0 for a code that is no type.
+fn least_width(code: u8) -> usize
+    ensures { λ r. ⌜ r ≡ leastWidth (lookup tagTypes code) ⌝ }
+{
+    match code {
+        1 => 16,
+        2 => 2,
+        3 => 4,
+        4 => 4,
+        _ => 0,
+    }
+}
+
+// How many bytes more a value has whose first two bytes are these: only a text has.
+fn more_bytes(code: u8, a: u8, b: u8) -> usize
+    ensures { λ r. ⌜ r ≡ moreBytes (lookup tagTypes code) (a + 256 * b) ⌝ }
+{
+    let n = pair(a, b) as usize;
+    if code == 2 { n } else { 0 }
+}
+
+// A value, by the code of its type. Nothing is chosen by the type but numbers, since in a list of many types a jump would be guessed
+// wrong often.
+fn value_end(s: &[u8], at: usize, code: u8) -> usize
+    requires { ⌜ at ≤ length (now s) ⌝ }
+    ensures { λ r. ⌜ EndsThere (valueEnds (lookup tagTypes code) (now (s .entry)) at) r ⌝ }
+{
+    let width = least_width(code);
+    if width < 2 {
+        return 0;
+    }
+    if s.len() - at < width {
+        return 0;
+    }
+    let more = more_bytes(code, s[at], s[at + 1]);
+    let rest = at + width;
+    if s.len() - rest < more {
+        return 0;
+    }
+    rest + more
+}
+
+fn tag_end(s: &[u8], at: usize) -> usize
+    ensures { λ r. ⌜ EndsThere (ends (decodeTag (now (s .entry)) at)) r ⌝ }
+{
+    if s.len() < 3 {
+        return 0;
+    }
+    if s.len() - 3 < at {
+        return 0;
+    }
+    let n = pair(s[at + 1], s[at + 2]) as usize;
+    if n == 0 {
+        return 0;
+    }
+    if 255 < n {
+        return 0;
+    }
+    let name = at + 3;
+    if s.len() - name < n {
+        return 0;
+    }
+    value_end(s, name + n, s[at])
+}
+
+// The place behind a tag, or the fault that `read_tag` finds.
+pub fn skip_tag(s: &[u8], c: Cursor) -> DoneStep
+    ensures { λ r. ⌜ doneMeaning r ≡ ends (decodeTag (now (s .entry)) (c .at)) ⌝ }
+{
+    let end = tag_end(s, c.at);
+    if end != 0 {
+        return DoneStep::Got(Cursor { at: end });
+    }
+    let t = read_tag(s, c);
+    let TagStep::Got(_, next) = t else {
+        return DoneStep::Refused(t.fault());
+    };
+    DoneStep::Got(next)
+}
+
+// n tags one after the other. Every tag is gone over, so that the list handed back is known to lie there whole; a count that is too high
+// ends at the first missing tag.
+pub fn tags_from(s: &[u8], first: Cursor, n: u32) -> ItemsStep
+    ensures meaning { λ r. ⌜ itemsMeaning decodeTag (now (s .entry)) r ≡ decodeMany n decodeTag (now (s .entry)) (first .at) ⌝ }
     ensures placed { λ r. ⌜ ItemsStepPlaced decodeTag (now (s .entry)) r ⌝ }
 {
-    let d = c.dword(s);
-    let DwordStep::Got(count, first) = d else {
-        return ItemsStep::Refused(d.fault());
-    };
     let mut next = first;
     let mut i: u32 = 0;
-    while i < count {
-        let t = read_tag(s, next);
-        let TagStep::Got(_, after) = t else {
+    while i < n {
+        let t = skip_tag(s, next);
+        let DoneStep::Got(after) = t else {
             return ItemsStep::Refused(t.fault());
         };
         next = after;
@@ -206,10 +292,22 @@ pub fn read_tags(s: &[u8], c: Cursor) -> ItemsStep
         Items {
             at: first.at,
             end: next.at,
-            count,
+            count: n,
         },
         next,
     )
+}
+
+// A tag list: DWORD count, then the tags.
+pub fn read_tags(s: &[u8], c: Cursor) -> ItemsStep
+    ensures { λ r. ⌜ itemsMeaning decodeTag (now (s .entry)) r ≡ decodeTags (now (s .entry)) (c .at) ⌝ }
+    ensures placed { λ r. ⌜ ItemsStepPlaced decodeTag (now (s .entry)) r ⌝ }
+{
+    let d = c.dword(s);
+    let DwordStep::Got(count, first) = d else {
+        return ItemsStep::Refused(d.fault());
+    };
+    tags_from(s, first, count)
 }
 
 pub enum TagListAnswer {

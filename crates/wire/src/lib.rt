@@ -221,7 +221,7 @@ impl DoneStep {
 }
 
 // Numbers lie low byte first.
-fn pair(a: u8, b: u8) -> u16
+pub fn pair(a: u8, b: u8) -> u16
     ensures { λ r. ⌜ r ≡ a + 256 * b ⌝ }
 {
     a as u16 + 256 * (b as u16)

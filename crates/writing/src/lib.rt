@@ -30,11 +30,11 @@ use query::Operator;
 use query::Query;
 use query::QueryAnswer;
 use query::QueryStep;
-use tags::TagStep;
 use wire::Cursor;
 use wire::DoneStep;
 use wire::HashStep;
 use wire::Items;
+use wire::ItemsStep;
 
 // 0 and how many bytes were written, or the number of a refusal and 0.
 pub struct WriteAnswer {
@@ -52,16 +52,10 @@ pub fn refused(number: u8) -> WriteAnswer
 pub fn tags_end(s: &[u8], first: Cursor, count: u32) -> DoneStep
     ensures { λ r. ⌜ doneMeaning r ≡ ends (decodeMany count decodeTag (now (s .entry)) (first .at)) ⌝ }
 {
-    let mut next = first;
-    let mut i: u32 = 0;
-    while i < count {
-        let t = tags::read_tag(s, next);
-        let TagStep::Got(_, after) = t else {
-            return DoneStep::Refused(t.fault());
-        };
-        next = after;
-        i += 1;
-    }
+    let t = tags::tags_from(s, first, count);
+    let ItemsStep::Got(_, next) = t else {
+        return DoneStep::Refused(t.fault());
+    };
     DoneStep::Got(next)
 }
 

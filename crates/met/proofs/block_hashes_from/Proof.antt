@@ -1,66 +1,46 @@
-use Prim.Native.Nat.{_-_}
+use native.Mathlib.Omega.{arith}
+use denote.Ref.{now}
 use Rattle.format.specs.Decoding.{decodeRun}
-use Rattle.records.proofs.Loops.{ReadUpTo, begins, goes-on, refuses, finishes}
+use Rattle.wire.proofs.Loops.{even-list, run-item}
 use borrow.Author.Needs.{needs}
 use Rattle.met.proofs.block_hashes_from.Statement.{statement}
 use Rattle.met.proofs.block_hashes_from.Tie as tie
 
-abbrev Inv-loop : tie.InvT-loop
-Inv-loop s first n next₀ i₀ next i = ReadUpTo (decodeRun 8) s (first .at) n i (next .at)
+mul-size : tie.Need-mul-size
+mul-size c = search needs
 
-abbrev μ-loop : tie.MeasureT-loop
-μ-loop s first n next₀ i₀ next i = n - i
+block-hash-by-block-hash-requires : tie.Need-block-hash-by-block-hash-requires
+block-hash-by-block-hash-requires c κs = search needs
 
-loop-holds : tie.Need-loop-holds Inv-loop μ-loop
-loop-holds c = begins (decodeRun 8) _ _ _
+returns : tie.Need-returns
+returns c = search needs
 
-run-requires : tie.Need-run-requires Inv-loop μ-loop
-run-requires c κs = search needs
+sub-if2 : tie.Need-sub-if2
+sub-if2 c = search needs
 
-enum-known-h : tie.Need-enum-known-h Inv-loop μ-loop
-enum-known-h c = search needs
+block-hash-by-block-hash-requires-2 : tie.Need-block-hash-by-block-hash-requires-2
+block-hash-by-block-hash-requires-2 c κs = search needs
 
-enum-told : tie.Need-enum-told Inv-loop μ-loop
-enum-told c = search needs
+returns-2 : tie.Need-returns-2
+returns-2 c = search needs
 
-fault-requires : tie.Need-fault-requires Inv-loop μ-loop
-fault-requires c κs = search needs
+add-end : tie.Need-add-end
+add-end c = search needs
 
-returns : tie.Need-returns Inv-loop μ-loop
-returns c =
-    let told = c .before .enum-told .given .1 in
-    let read = rw told at (c .before .before .before .run .ensures) in
-    let l = c .before .before .before .before in
-    rw (c .fault .ensures, told) (refuses (decodeRun 8) _ _ _ _ _ (l .loop-test .taken) (l .before .loop .inv) read)
-
-add-i : tie.Need-add-i Inv-loop μ-loop
-add-i c = search needs
-
-loop-less : tie.Need-loop-less Inv-loop μ-loop
-loop-less c = search needs
-
-loop-again : tie.Need-loop-again Inv-loop μ-loop
-loop-again c =
-    let read = rw (c .before .h .given .1) at (c .before .before .before .run .ensures) in
-    let l = c .before .before .before .before in
-    goes-on (decodeRun 8) _ _ _ _ _ (l .loop-test .taken) (l .before .loop .inv) read
-
-returns-2 : tie.Need-returns-2 Inv-loop μ-loop
-returns-2 c = finishes (decodeRun 8) _ _ _ _ _ (c .loop-test .left) (c .before .loop .inv)
+returns-3 : tie.Need-returns-3
+returns-3 c =
+    let a = c .before .before .before .args in
+    even-list (decodeRun 8) 8 (run-item 8) (now (a .s)) (a .n) (a .first .at) (omega (arith, c .before .if1 .left, c .if2 .left))
 
 pub block-hashes-from-spec : {M : Type 1} → statement M
 block-hashes-from-spec =
     tie.close
     (tie.spec
-    Inv-loop
-    μ-loop
-    loop-holds
-    run-requires
-    enum-known-h
-    enum-told
-    fault-requires
+    mul-size
+    block-hash-by-block-hash-requires
     returns
-    add-i
-    loop-less
-    loop-again
-    returns-2)
+    sub-if2
+    block-hash-by-block-hash-requires-2
+    returns-2
+    add-end
+    returns-3)

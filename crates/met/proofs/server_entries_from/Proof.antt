@@ -1,6 +1,6 @@
 use Prim.Native.Nat.{_-_}
 use Rattle.format.specs.MetOrder.{decodeServerEntry}
-use Rattle.records.proofs.Loops.{ReadUpTo, begins, goes-on, refuses, finishes}
+use Rattle.wire.proofs.Loops.{ReadUpTo, begins, goes-on, refuses, finishes}
 use borrow.Author.Needs.{needs}
 use Rattle.met.proofs.server_entries_from.Statement.{statement}
 use Rattle.met.proofs.server_entries_from.Tie as tie

@@ -1,66 +1,47 @@
-use Prim.Native.Nat.{_-_}
+use native.Mathlib.Omega.{arith}
+use denote.Ref.{now}
 use Rattle.format.specs.Order.{decodeAddress}
+use Rattle.wire.proofs.Loops.{even-list}
+use Rattle.records.proofs.Even.{address-item}
 use borrow.Author.Needs.{needs}
-use Rattle.records.proofs.Loops.{ReadUpTo, begins, goes-on, refuses, finishes}
 use Rattle.records.proofs.addresses_from.Statement.{statement}
 use Rattle.records.proofs.addresses_from.Tie as tie
 
-abbrev Inv-loop : tie.InvT-loop
-Inv-loop s first n next₀ i₀ next i = ReadUpTo decodeAddress s (first .at) n i (next .at)
+mul-size : tie.Need-mul-size
+mul-size c = search needs
 
-abbrev μ-loop : tie.MeasureT-loop
-μ-loop s first n next₀ i₀ next i = n - i
+address-by-address-requires : tie.Need-address-by-address-requires
+address-by-address-requires c κs = search needs
 
-loop-holds : tie.Need-loop-holds Inv-loop μ-loop
-loop-holds c = begins decodeAddress _ _ _
+returns : tie.Need-returns
+returns c = search needs
 
-read-address-requires : tie.Need-read-address-requires Inv-loop μ-loop
-read-address-requires c κs = search needs
+sub-if2 : tie.Need-sub-if2
+sub-if2 c = search needs
 
-enum-known-a : tie.Need-enum-known-a Inv-loop μ-loop
-enum-known-a c = search needs
+address-by-address-requires-2 : tie.Need-address-by-address-requires-2
+address-by-address-requires-2 c κs = search needs
 
-enum-told : tie.Need-enum-told Inv-loop μ-loop
-enum-told c = search needs
+returns-2 : tie.Need-returns-2
+returns-2 c = search needs
 
-fault-requires : tie.Need-fault-requires Inv-loop μ-loop
-fault-requires c κs = search needs
+add-end : tie.Need-add-end
+add-end c = search needs
 
-returns : tie.Need-returns Inv-loop μ-loop
-returns c =
-    let l = c .before .before .before .before in
-    let told = c .before .enum-told .given .1 in
-    let read = rw told at (c .before .before .before .read-address .ensures) in
-    rw (c .fault .ensures, told) (refuses decodeAddress _ _ _ _ _ (l .loop-test .taken) (l .before .loop .inv) read)
-
-add-i : tie.Need-add-i Inv-loop μ-loop
-add-i c = search needs
-
-loop-less : tie.Need-loop-less Inv-loop μ-loop
-loop-less c = search needs
-
-loop-again : tie.Need-loop-again Inv-loop μ-loop
-loop-again c =
-    let l = c .before .before .before .before in
-    let read = rw (c .before .a .given .1) at (c .before .before .before .read-address .ensures) in
-    goes-on decodeAddress _ _ _ _ _ (l .loop-test .taken) (l .before .loop .inv) read
-
-returns-2 : tie.Need-returns-2 Inv-loop μ-loop
-returns-2 c = finishes decodeAddress _ _ _ _ _ (c .loop-test .left) (c .before .loop .inv)
+returns-3 : tie.Need-returns-3
+returns-3 c =
+    let a = c .before .before .before .args in
+    even-list decodeAddress 6 address-item (now (a .s)) (a .n) (a .first .at) (omega (arith, c .before .if1 .left, c .if2 .left))
 
 pub addresses-from-spec : {M : Type 1} → statement M
 addresses-from-spec =
     tie.close
     (tie.spec
-    Inv-loop
-    μ-loop
-    loop-holds
-    read-address-requires
-    enum-known-a
-    enum-told
-    fault-requires
+    mul-size
+    address-by-address-requires
     returns
-    add-i
-    loop-less
-    loop-again
-    returns-2)
+    sub-if2
+    address-by-address-requires-2
+    returns-2
+    add-end
+    returns-3)

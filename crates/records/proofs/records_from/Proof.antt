@@ -1,7 +1,7 @@
 use Prim.Native.Nat.{_-_}
 use Rattle.format.specs.Order.{decodeRecord}
 use borrow.Author.Needs.{needs}
-use Rattle.records.proofs.Loops.{ReadUpTo, begins, goes-on, refuses, finishes}
+use Rattle.wire.proofs.Loops.{ReadUpTo, begins, goes-on, refuses, finishes}
 use Rattle.records.proofs.records_from.Statement.{statement}
 use Rattle.records.proofs.records_from.Tie as tie
 

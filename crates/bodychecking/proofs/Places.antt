@@ -1,0 +1,159 @@
+-- What lies at a place that is there: runs, hashes, lists and queries.
+use Prim.Native.Nat.{ℕ, _+_, _-_, _≤_, _<_}
+use mathlib.Core.Path.{_≡_, refl, sym, ap, _∙_, subst}
+use mathlib.Core.List.{List}
+use native.Mathlib.Omega.{arith}
+use native.Mathlib.Decide.{decLe}
+use lib.ListN.{length, take, drop, length-drop, length-take, take-append-drop}
+use lib.Seq.{length-take-le}
+use Rattle.format.specs.Messages as messages
+use Rattle.format.specs.Layout.{encodeAddress, encodeAll, encodeHash, encodeQuery, encodeRecord, encodeTag}
+use Rattle.format.specs.Rules.{All, Bytes, ValidAddress, ValidHash, ValidQuery, ValidRecord, ValidTag}
+use Rattle.format.specs.Decoding.{Decoder, Fault, Outcome, bytesAt, decodeMany, decodeRun, ends, got, itemsOf, refused}
+use Rattle.format.specs.Order.{decodeAddress, decodeDword, decodeHash, decodeQuery, decodeRecord, decodeTag}
+use Rattle.format.proofs.Codec.{Codec, anywhere, bytes-drop, bytes-left, never, went}
+use Rattle.format.proofs.Many.{ends-items}
+use Rattle.format.proofs.Items.{codec-address, codec-hash, codec-query, codec-record, codec-tag}
+use Rattle.format.proofs.There.{run-short}
+use Rattle.format.proofs.Writing.{NeedsByte, lies, many-lies, query-needed, tag-needed}
+use Rattle.wire.specs.declared.Items.{Items}
+use Rattle.wire.specs.Meaning.{hashAt, itemsIn}
+use Rattle.query.specs.declared.Query.{Query}
+use Rattle.query.specs.Meaning.{queryIn, queryOf}
+use Rattle.writing.specs.There.{bothThere, hashThere, itemsThere}
+use Rattle.writing.specs.RoundTrip.{IsThere}
+use Rattle.bodychecking.specs.Bodies.{queryThere}
+
+pub got-ends : {A : Type 0} {o : Outcome A} {a : A} {next : ℕ} → got a next ≡ o → ends o ≡ got tt next
+unfolding ends
+got-ends e = rw (← e) refl
+
+pub is-there : {o : Outcome (Unit {0})} {next : ℕ} → o ≡ got tt next → IsThere o
+is-there e = subst IsThere (sym e) tt
+
+pub there-at : (o : Outcome (Unit {0})) → IsThere o → (next : ℕ) × (o ≡ got tt next)
+there-at (refused f) h = absurd h
+there-at (got u next) h = (next, refl)
+
+-- Of two places that are there, each is.
+pub both-first : (a b : Outcome (Unit {0})) → IsThere (bothThere a b) → IsThere a
+both-first (refused f) b h = absurd h
+both-first (got u next) b h = tt
+
+pub both-second : (a b : Outcome (Unit {0})) → IsThere a → bothThere a b ≡ b
+both-second (refused f) b h = absurd h
+both-second (got u next) b h = refl
+
+pub both-last : (a b : Outcome (Unit {0})) → IsThere (bothThere a b) → IsThere b
+both-last a b h = subst IsThere (both-second a b (both-first a b h)) h
+
+-- Runs
+
+module _ (s : List ℕ) (at n : ℕ) where
+  pub run-inside : {l : List ℕ} {next : ℕ} → decodeRun n s at ≡ got l next → at + n ≤ length s
+  run-inside e = go (decLe (at + n) (length s))
+    where
+      go : Dec (at + n ≤ length s) → at + n ≤ length s
+      go (yes h) = h
+      go (no f) = absurd (never (run-short s at n (omega arith) ∙ e))
+
+  pub run-size : IsThere (ends (decodeRun n s at)) → length (bytesAt s at n) ≡ n
+  unfolding ends
+  run-size h = go (decodeRun n s at) refl h
+    where
+      go : (o : Outcome (List ℕ)) → decodeRun n s at ≡ o → IsThere (ends o) → length (bytesAt s at n) ≡ n
+      go (refused f) e h = absurd h
+      go (got l next) e h = length-take-le n (drop at s) (omega (arith, run-inside e, length-drop at s))
+
+  pub run-bytes : Bytes s → Bytes (bytesAt s at n)
+  run-bytes hb = bytes-left (take n (drop at s)) (drop n (drop at s)) (rw take-append-drop (bytes-drop at s hb))
+
+  pub run-few : length (bytesAt s at n) ≤ length s
+  run-few = simp (length-take, length-drop) (omega arith)
+
+pub hash-valid : (s : List ℕ) → Bytes s → (at : ℕ) → IsThere (hashThere s at) → ValidHash (hashAt s at)
+unfolding decodeHash
+hash-valid s hb at h = (run-size s at 16 h, run-bytes s at 16 hb)
+
+run-needed : (n : ℕ) → NeedsByte (decodeRun n)
+run-needed n s at l next e = omega (arith, run-inside s at n e)
+
+hash-needed : NeedsByte decodeHash
+unfolding decodeHash
+hash-needed = run-needed 16
+
+address-needed : NeedsByte decodeAddress
+unfolding decodeAddress decodeDword
+address-needed s at a next e =
+    let w = went s (decodeDword s at) e in
+    let v = went s (decodeRun 4 s at) (w .was) in
+    run-needed 4 s at (v .first) (v .mid) (v .was)
+
+record-needed : NeedsByte decodeRecord
+unfolding decodeRecord
+record-needed s at a next e = let w = went s (decodeHash s at) e in hash-needed s at (w .first) (w .mid) (w .was)
+
+-- A list whose items lie at its place, up to `end`.
+pub record Listed {A : Type 0} (d : Decoder A) (encode : A → List ℕ) (Valid : A → Type 0) (s : List ℕ) (l : Items) (end : ℕ) : Type 0 where
+  pub there : itemsThere d s l ≡ got tt end
+  pub order : l .at ≤ end
+  pub few : end - l .at ≤ length s
+  pub size : length (encodeAll encode (itemsIn d s l)) ≡ end - l .at
+  pub bytes : bytesAt s (l .at) (end - l .at) ≡ encodeAll encode (itemsIn d s l)
+  pub count : length (itemsIn d s l) ≡ l .count
+  pub valid : All Valid (itemsIn d s l)
+
+module _ (s : List ℕ) (hb : Bytes s) (l : Items) {end : ℕ} where
+  listed : {A : Type 0} {d : Decoder A} {encode : A → List ℕ} {Valid : A → Type 0} → Codec anywhere d encode Valid → NeedsByte d →
+      itemsThere d s l ≡ got tt end → Listed d encode Valid s l end
+  listed {d = d} {encode} L needed e =
+      let o = decodeMany (l .count) d s (l .at) in
+      let h = many-lies L needed s hb (l .at) (l .count) (sym (ends-items o end e)) in
+      let size : length (encodeAll encode (itemsIn d s l)) ≡ end - l .at = omega (arith, h .end) in
+      record {
+        there = e;
+        order = omega (arith, h .end);
+        few = omega (arith, run-few s (l .at) (end - l .at), ap length (h .bytes));
+        size = size;
+        bytes = h .bytes;
+        count = h .valid .0;
+        valid = h .valid .1;
+      }
+
+  pub addresses-listed : itemsThere decodeAddress s l ≡ got tt end → Listed decodeAddress encodeAddress ValidAddress s l end
+  addresses-listed = listed codec-address address-needed
+
+  pub hashes-listed : itemsThere decodeHash s l ≡ got tt end → Listed decodeHash encodeHash ValidHash s l end
+  hashes-listed = listed codec-hash hash-needed
+
+  pub tags-listed : itemsThere decodeTag s l ≡ got tt end → Listed decodeTag encodeTag ValidTag s l end
+  tags-listed = listed codec-tag tag-needed
+
+  pub records-listed : itemsThere decodeRecord s l ≡ got tt end → Listed decodeRecord encodeRecord ValidRecord s l end
+  records-listed = listed codec-record record-needed
+
+-- A query that lies at its place, up to `end`.
+pub record QueryListed (s : List ℕ) (q : Query) (end : ℕ) : Type 0 where
+  pub there : queryThere s q ≡ got tt end
+  pub order : q .at ≤ end
+  pub few : end - q .at ≤ length s
+  pub size : length (encodeQuery (queryIn s q)) ≡ end - q .at
+  pub bytes : bytesAt s (q .at) (end - q .at) ≡ encodeQuery (queryIn s q)
+  pub valid : ValidQuery (queryIn s q)
+
+query-got : (o : Outcome messages.Query) (end : ℕ) → ends o ≡ got tt end → o ≡ got (queryOf o) end
+unfolding ends
+query-got (refused f) end e = cc
+query-got (got q next) end e = cc
+
+pub query-listed : (s : List ℕ) → Bytes s → (q : Query) {end : ℕ} → queryThere s q ≡ got tt end → QueryListed s q end
+query-listed s hb q {end} e =
+    let h = lies codec-query query-needed s hb (q .at) (query-got (decodeQuery s (q .at)) end e) in
+    record {
+      there = e;
+      order = omega (arith, h .end);
+      few = omega (arith, run-few s (q .at) (end - q .at), ap length (h .bytes), h .end);
+      size = omega (arith, h .end);
+      bytes = h .bytes;
+      valid = h .valid;
+    }

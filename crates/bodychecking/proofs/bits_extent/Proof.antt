@@ -1,0 +1,44 @@
+use mathlib.Core.Path.{refl}
+use native.Mathlib.Omega.{arith}
+use Rattle.bodychecking.proofs.Extents.{absent-extends, plain-extends}
+use Rattle.bodychecking.proofs.Places.{got-ends, is-there}
+use borrow.Author.Needs.{needs}
+use Rattle.bodychecking.proofs.bits_extent.Statement.{statement}
+use Rattle.bodychecking.proofs.bits_extent.Tie as tie
+
+read-bits-requires : tie.Need-read-bits-requires
+read-bits-requires c κs = search needs
+
+enum-told : tie.Need-enum-told
+enum-told c = search needs
+
+enum-told-2 : tie.Need-enum-told-2
+enum-told-2 c = search needs
+
+fault-requires : tie.Need-fault-requires
+fault-requires c κs = search needs
+
+number-requires : tie.Need-number-requires
+number-requires c κs = search needs
+
+returns : tie.Need-returns
+returns c = rw (c .number .ensures, c .before .fault .ensures, c .before .before .enum-told2 .given .1) (absent-extends _ (rw (c .before .before .enum-told2 .given .1) at (c .before .before .before .before .read-bits .ensures)))
+
+add-size : tie.Need-add-size
+add-size c = search needs
+
+returns-2 : tie.Need-returns-2
+returns-2 c = plain-extends _ (is-there (got-ends (rw (c .enum-told .given .1) at (c .before .before .read-bits .ensures)))) (omega arith) refl (omega arith)
+
+pub bits-extent-spec : {M : Type 1} → statement M
+bits-extent-spec =
+    tie.close
+    (tie.spec
+    read-bits-requires
+    enum-told
+    enum-told-2
+    fault-requires
+    number-requires
+    returns
+    add-size
+    returns-2)

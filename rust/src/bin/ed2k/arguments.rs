@@ -1,0 +1,99 @@
+//! The words behind a subcommand. File names are whatever the system allows.
+
+use std::ffi::{OsStr, OsString};
+
+use ed2k::Kind;
+
+use crate::failure::Failure;
+use crate::text;
+
+/// The words of a subcommand, sorted.
+pub struct Arguments {
+    help: &'static str,
+    operands: Vec<OsString>,
+    values: Vec<(&'static str, OsString)>,
+    flags: Vec<&'static str>,
+}
+
+impl Arguments {
+    /// Sorts the words: options that take a value (`--new NEW`), flags, and operands, which are all words behind `--` too.
+    pub fn sort(
+        words: Vec<OsString>,
+        with_value: &[&'static str],
+        flags: &[&'static str],
+        help: &'static str,
+    ) -> Result<Arguments, Failure> {
+        let mut sorted = Arguments { help, operands: vec![], values: vec![], flags: vec![] };
+        let mut words = words.into_iter();
+        while let Some(word) = words.next() {
+            if word == "--" {
+                sorted.operands.extend(words);
+                break;
+            }
+            if let Some(name) = with_value.iter().find(|name| word == **name) {
+                let missing = || sorted.wrong(format!("{name} needs a file's name behind it"));
+                let value = words.next().ok_or_else(missing)?;
+                sorted.set(name, value)?;
+            } else if let Some(name) = flags.iter().find(|name| word == **name) {
+                sorted.flags.push(name);
+            } else if word.as_encoded_bytes().starts_with(b"--") {
+                return Err(sorted.wrong(format!("there is no option {}", text::file_name(&word))));
+            } else {
+                sorted.operands.push(word);
+            }
+        }
+        Ok(sorted)
+    }
+
+    fn set(&mut self, name: &'static str, value: OsString) -> Result<(), Failure> {
+        if self.values.iter().any(|(given, _)| *given == name) {
+            return Err(self.wrong(format!("{name} is given twice")));
+        }
+        self.values.push((name, value));
+        Ok(())
+    }
+
+    /// The failure that the words are wrong.
+    pub fn wrong(&self, problem: String) -> Failure {
+        Failure::Usage(problem, self.help)
+    }
+
+    /// Exactly so many operands; `names` says what they are.
+    pub fn operands<const N: usize>(&self, names: &str) -> Result<[OsString; N], Failure> {
+        <[OsString; N]>::try_from(self.operands.clone())
+            .map_err(|given| self.wrong(format!("needs {names}; {} given", given.len())))
+    }
+
+    /// The value of an option that must be there.
+    pub fn value(&self, name: &str) -> Result<&OsStr, Failure> {
+        match self.values.iter().find(|(given, _)| *given == name) {
+            Some((_, value)) => Ok(value),
+            None => Err(self.wrong(format!("{name} is needed"))),
+        }
+    }
+
+    /// Whether a flag is there.
+    pub fn flag(&self, name: &str) -> bool {
+        self.flags.contains(&name)
+    }
+
+    /// The kind with this letter or word.
+    pub fn kind(&self, word: &OsStr) -> Result<Kind, Failure> {
+        word.to_str().and_then(|word| word.parse().ok()).ok_or_else(|| {
+            let kinds: Vec<String> =
+                Kind::ALL.iter().map(|kind| format!("{} {kind}", kind.letter())).collect();
+            self.wrong(format!(
+                "there is no kind {}; the kinds are: {}",
+                text::file_name(word),
+                kinds.join(", ")
+            ))
+        })
+    }
+
+    /// A number of bytes, in decimal.
+    pub fn number(&self, name: &str, word: &OsStr) -> Result<u64, Failure> {
+        word.to_str().and_then(|word| word.parse().ok()).ok_or_else(|| {
+            self.wrong(format!("{name} is a number of bytes in decimal, not {}", text::file_name(word)))
+        })
+    }
+}

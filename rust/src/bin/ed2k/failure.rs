@@ -1,0 +1,59 @@
+//! Why the command ends with another status than 0, and what it says then.
+
+use std::fmt;
+use std::io;
+use std::process::ExitCode;
+
+use ed2k::Refusal;
+
+/// Why a subcommand did not do its work.
+pub enum Failure {
+    /// The proved code refuses. What is refused, and more lines on what to do about it, if any.
+    Refused(String, Refusal, String),
+    /// The words after the command are wrong. What is wrong, and where help is.
+    Usage(String, &'static str),
+    /// A file cannot be read or written. What was tried, and what the system says.
+    File(String, io::Error),
+    /// A file is not what it must be.
+    Unfit(String),
+    /// What the command prints cannot be written.
+    Output(io::Error),
+}
+
+impl Failure {
+    /// The refusal of the thing named, with nothing to add.
+    pub fn refused(what: impl Into<String>) -> impl FnOnce(Refusal) -> Failure {
+        |refusal| Failure::Refused(what.into(), refusal, String::new())
+    }
+
+    /// The system's error at the thing tried.
+    pub fn file(tried: impl Into<String>) -> impl FnOnce(io::Error) -> Failure {
+        |error| Failure::File(tried.into(), error)
+    }
+
+    /// 1 for a refusal, 2 for all else.
+    pub fn status(&self) -> ExitCode {
+        match self {
+            Failure::Refused(..) => ExitCode::from(1),
+            _ => ExitCode::from(2),
+        }
+    }
+}
+
+impl From<io::Error> for Failure {
+    fn from(error: io::Error) -> Failure {
+        Failure::Output(error)
+    }
+}
+
+impl fmt::Display for Failure {
+    fn fmt(&self, f: &mut fmt::Formatter<'_>) -> fmt::Result {
+        match self {
+            Failure::Refused(what, refusal, more) => write!(f, "ed2k: {what} is {refusal}\n{more}"),
+            Failure::Usage(problem, help) => writeln!(f, "ed2k: {problem}\nFor help: {help}"),
+            Failure::File(tried, error) => writeln!(f, "ed2k: cannot {tried}: {error}"),
+            Failure::Unfit(problem) => writeln!(f, "ed2k: {problem}"),
+            Failure::Output(error) => writeln!(f, "ed2k: cannot write to standard output: {error}"),
+        }
+    }
+}

@@ -1,0 +1,109 @@
+//! The command `ed2k`: reads, shows, marks, searches and saves packets and met files.
+
+#![forbid(unsafe_code)]
+
+mod arguments;
+mod failure;
+mod files;
+mod gaps;
+mod mark;
+mod output;
+mod read;
+mod save;
+mod search;
+mod show;
+mod store;
+mod text;
+
+use std::env;
+use std::ffi::OsString;
+use std::io::{self, Write};
+use std::process::ExitCode;
+
+use failure::Failure;
+use output::Output;
+
+/// What a subcommand ends with.
+type Outcome = Result<(), Failure>;
+
+struct Subcommand {
+    name: &'static str,
+    help: &'static str,
+    run: fn(Vec<OsString>, &mut dyn Write) -> Outcome,
+}
+
+const SUBCOMMANDS: [Subcommand; 6] = [
+    Subcommand { name: "read", help: read::HELP, run: read::run },
+    Subcommand { name: "show", help: show::HELP, run: show::run },
+    Subcommand { name: "gaps", help: gaps::HELP, run: gaps::run },
+    Subcommand { name: "mark", help: mark::HELP, run: mark::run },
+    Subcommand { name: "search", help: search::HELP, run: search::run },
+    Subcommand { name: "save", help: save::HELP, run: save::run },
+];
+
+const HELP: &str = "\
+ed2k: packets and met files of the eDonkey protocol, by proved code
+
+  ed2k read KIND FILE                        is it accepted? one line
+  ed2k show KIND FILE                        every item, in words
+  ed2k gaps FILE                             what is missing of a model
+  ed2k mark FILE START END                   mark bytes of a model as arrived
+  ed2k search QUERY-FILE KNOWN-MET           the models that a query finds
+  ed2k save --opened OLD --new NEW STORED    save, but never over another's save
+
+  ed2k SUBCOMMAND --help                     more about one of them
+  ed2k --version
+
+KIND is a letter or a word:
+  s server-link    k known.met     q query
+  c client-link    v server.met    t tags
+  u udp            p part.met
+
+Exit status: 0 accepted, 1 refused, 2 wrong usage or a file that cannot be read
+or written. A refusal has a number:
+";
+
+fn main() -> ExitCode {
+    let mut output = Output::new(io::stdout().lock());
+    let outcome = run(env::args_os().skip(1).collect(), &mut output);
+    let flushed = output.flush().map_err(Failure::from);
+    match outcome.and(flushed) {
+        Ok(()) => ExitCode::SUCCESS,
+        Err(failure) => {
+            // Nobody is left to tell if standard error is gone too.
+            let _ = write!(io::stderr(), "{failure}");
+            failure.status()
+        }
+    }
+}
+
+fn run(mut words: Vec<OsString>, output: &mut dyn Write) -> Outcome {
+    if words.is_empty() {
+        return Err(Failure::Usage("a subcommand is needed".into(), "ed2k --help"));
+    }
+    let first = words.remove(0);
+    match first.to_str() {
+        Some("--help" | "-h" | "help") => help(output),
+        Some("--version" | "-V") => Ok(writeln!(output, "ed2k {}", env!("CARGO_PKG_VERSION"))?),
+        name => match SUBCOMMANDS.iter().find(|subcommand| Some(subcommand.name) == name) {
+            Some(subcommand) if asks_for_help(&words) => Ok(output.write_all(subcommand.help.as_bytes())?),
+            Some(subcommand) => (subcommand.run)(words, output),
+            None => {
+                let problem = format!("there is no subcommand {}", text::file_name(&first));
+                Err(Failure::Usage(problem, "ed2k --help"))
+            }
+        },
+    }
+}
+
+fn asks_for_help(words: &[OsString]) -> bool {
+    words.iter().take_while(|word| *word != "--").any(|word| word == "--help" || word == "-h")
+}
+
+fn help(output: &mut dyn Write) -> Outcome {
+    output.write_all(HELP.as_bytes())?;
+    for refusal in ed2k::Refusal::ALL {
+        writeln!(output, "{}", text::wrapped(&format!("{:>4}  ", refusal.number()), refusal.meaning()))?;
+    }
+    Ok(())
+}

@@ -1,0 +1,216 @@
+//! Packets of the three links.
+
+use crate::items::{Address, Addresses, Hash, Hashes, Record, Records, Tags};
+use crate::kind::Link;
+use crate::query::Query;
+use crate::refusal::Refusal;
+use crate::values::Values;
+
+/// A packet. [`opcode_name`](crate::opcode_name) has the published names of opcodes.
+#[derive(Clone, Debug)]
+pub struct Packet<'a> {
+    /// The opening byte, E3.
+    pub opening: u8,
+    /// The opcode.
+    pub opcode: u8,
+    /// What it carries.
+    pub body: Body<'a>,
+}
+
+/// What a packet carries. Which case it is follows from link and opcode, and for two of the UDP opcodes from the bytes.
+#[derive(Clone, Debug)]
+pub enum Body<'a> {
+    /// Nothing.
+    Nothing,
+    /// A search query.
+    Query(Query<'a>),
+    /// A file's hash.
+    Hash(Hash),
+    /// A number: a client ID or a rank.
+    Dword(u32),
+    /// Two numbers: how many users and files, or an old and a new client ID.
+    TwoDwords(u32, u32),
+    /// A text.
+    Text(&'a [u8]),
+    /// Two texts: a server's name and description.
+    TwoTexts(&'a [u8], &'a [u8]),
+    /// An address.
+    Address(Address),
+    /// A list of addresses.
+    Addresses(Addresses<'a>),
+    /// A file's hash and the addresses of its sources.
+    HashAddresses {
+        /// The file's hash.
+        hash: Hash,
+        /// The sources.
+        addresses: Addresses<'a>,
+    },
+    /// An address and a client ID.
+    AddressDword {
+        /// The address.
+        address: Address,
+        /// The client ID.
+        number: u32,
+    },
+    /// What a server says of itself.
+    HashAddressTags {
+        /// The server's hash.
+        hash: Hash,
+        /// Where it is.
+        address: Address,
+        /// What is told of it.
+        tags: Tags<'a>,
+    },
+    /// A file or a client.
+    Record(Record<'a>),
+    /// A list of files or clients.
+    Records(Records<'a>),
+    /// A list of files, and whether there are more.
+    RecordsFlag {
+        /// The files.
+        records: Records<'a>,
+        /// 00 or 01.
+        flag: u8,
+    },
+    /// A client and its server.
+    RecordAddress {
+        /// The client.
+        record: Record<'a>,
+        /// Its server.
+        address: Address,
+    },
+    /// A client and its server, after the fixed byte 10.
+    Hello {
+        /// The client.
+        record: Record<'a>,
+        /// Its server.
+        address: Address,
+    },
+    /// A file's hash and name.
+    HashText {
+        /// The file's hash.
+        hash: Hash,
+        /// Its name.
+        text: &'a [u8],
+    },
+    /// The hashes of a file's parts.
+    Hashset {
+        /// The file's hash.
+        hash: Hash,
+        /// The hashes of its parts.
+        hashes: Hashes<'a>,
+    },
+    /// Bytes of a file.
+    SendingPart {
+        /// The file's hash.
+        hash: Hash,
+        /// Where they begin in the file.
+        start: u32,
+        /// Where they end in the file: the first place behind them.
+        end: u32,
+        /// The bytes, `end - start` of them.
+        data: &'a [u8],
+    },
+    /// Three ranges of a file that are asked for.
+    RequestParts {
+        /// The file's hash.
+        hash: Hash,
+        /// Where they begin.
+        starts: [u32; 3],
+        /// Where they end.
+        ends: [u32; 3],
+    },
+    /// Which parts of a file a client has.
+    FileStatus {
+        /// The file's hash.
+        hash: Hash,
+        /// The parts.
+        status: PartStatus<'a>,
+    },
+    /// A request for a server's status.
+    StatusRequest {
+        /// Whether it is the extended request, whose last two bytes are AA and 5A.
+        extended: bool,
+        /// The number, which the answer repeats.
+        number: u32,
+    },
+    /// A server's status: the request's number, users, files.
+    Status([u32; 3]),
+    /// The status that answers an extended request.
+    ExtendedStatus {
+        /// The request's first two bytes.
+        bytes: [u8; 2],
+        /// Users, files, and how many users there may be.
+        numbers: [u32; 3],
+    },
+}
+
+/// Which parts of a file a client has: a bit for each.
+#[derive(Clone, Copy, Debug, PartialEq, Eq)]
+pub struct PartStatus<'a> {
+    /// How many parts the file has.
+    pub parts: u16,
+    /// Part p is bit p mod 8 of byte p / 8; unused bits are 0.
+    pub bits: &'a [u8],
+}
+
+impl PartStatus<'_> {
+    /// Whether the client has this part, counted from 0. Not for a part that the file does not have.
+    pub fn has(&self, part: u16) -> bool {
+        part < self.parts && self.bits[usize::from(part / 8)] >> (part % 8) & 1 == 1
+    }
+}
+
+/// Reads a packet of the link.
+///
+/// ```
+/// use ed2k::{Body, Link};
+///
+/// let bytes = [0xE3, 9, 0, 0, 0, 0x34, 3, 0, 0, 0, 5, 0, 0, 0];
+/// let packet = ed2k::read_packet(Link::Server, &bytes)?;
+/// assert_eq!(ed2k::opcode_name(Link::Server, packet.opcode), Some("Server status"));
+/// let Body::TwoDwords(users, files) = packet.body else { panic!() };
+/// assert_eq!((users, files), (3, 5));
+/// # Ok::<(), ed2k::Refusal>(())
+/// ```
+pub fn read_packet(link: Link, bytes: &[u8]) -> Result<Packet<'_>, Refusal> {
+    let mut values = Values::read(link.into(), bytes)?;
+    Ok(Packet { opening: values.byte(), opcode: values.byte(), body: body(values) })
+}
+
+/// The body of a shape: the cases and their values are those of ED2K_BODY_.. in ed2k.h.
+fn body(mut v: Values<'_>) -> Body<'_> {
+    match v.byte() {
+        0 => Body::Nothing,
+        1 => Body::Query(Query::from_values(&mut v)),
+        2 => Body::Hash(v.hash()),
+        3 => Body::Dword(v.dword()),
+        4 => Body::TwoDwords(v.dword(), v.dword()),
+        5 => Body::Text(v.text()),
+        6 => Body::TwoTexts(v.text(), v.text()),
+        7 => Body::Address(v.address()),
+        8 => Body::Addresses(v.list()),
+        9 => Body::HashAddresses { hash: v.hash(), addresses: v.list() },
+        10 => Body::AddressDword { address: v.address(), number: v.dword() },
+        11 => Body::HashAddressTags { hash: v.hash(), address: v.address(), tags: v.list() },
+        12 => Body::Record(v.record()),
+        13 => Body::Records(v.list()),
+        14 => Body::RecordsFlag { records: v.list(), flag: v.byte() },
+        15 => Body::RecordAddress { record: v.record(), address: v.address() },
+        16 => Body::Hello { record: v.record(), address: v.address() },
+        17 => Body::HashText { hash: v.hash(), text: v.text() },
+        18 => Body::Hashset { hash: v.hash(), hashes: v.list() },
+        19 => Body::SendingPart { hash: v.hash(), start: v.dword(), end: v.dword(), data: v.text() },
+        20 => Body::RequestParts { hash: v.hash(), starts: v.dwords(), ends: v.dwords() },
+        21 => Body::FileStatus { hash: v.hash(), status: part_status(v) },
+        22 => Body::StatusRequest { extended: v.byte() == 1, number: v.dword() },
+        23 => Body::Status(v.dwords()),
+        24 => Body::ExtendedStatus { bytes: [v.byte(), v.byte()], numbers: v.dwords() },
+        shape => panic!("the archive names a shape that ed2k.h does not have: {shape}"),
+    }
+}
+
+fn part_status(mut values: Values<'_>) -> PartStatus<'_> {
+    let parts = values.word();
+    PartStatus { parts, bits: values.run(usize::from(parts).div_ceil(8)) }
+}

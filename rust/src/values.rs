@@ -1,0 +1,104 @@
+//! The numbers that the reading calls hand out.
+
+use crate::items::{Address, Hash, Record};
+use crate::kind::Kind;
+use crate::list::List;
+use crate::raw::{self, Fields, Item};
+use crate::refusal::Refusal;
+
+/// The numbers that a reading call handed out, taken in the order in which ed2k.h lists them, and the bytes that their
+/// places are in.
+pub(crate) struct Values<'a> {
+    bytes: &'a [u8],
+    fields: Fields,
+    taken: usize,
+}
+
+impl<'a> Values<'a> {
+    fn new(bytes: &'a [u8], fields: Fields) -> Values<'a> {
+        let taken = 0;
+        Values { bytes, fields, taken }
+    }
+
+    /// The values of bytes of a kind, or their refusal.
+    pub(crate) fn read(kind: Kind, bytes: &'a [u8]) -> Result<Values<'a>, Refusal> {
+        raw::read(kind as u8, bytes).map(|fields| Values::new(bytes, fields))
+    }
+
+    /// An item of bytes that were accepted as a whole, and the place behind it.
+    ///
+    /// Accepted bytes have every item that their counts say, and they cannot change while they are lent.
+    pub(crate) fn of(item: Item, bytes: &'a [u8], at: usize) -> (Values<'a>, usize) {
+        let fields = raw::read_item(item, bytes, at).expect("an item of accepted bytes is accepted");
+        let mut values = Values::new(bytes, fields);
+        let next = values.place();
+        (values, next)
+    }
+
+    /// The bytes that the places are in.
+    pub(crate) fn bytes(&self) -> &'a [u8] {
+        self.bytes
+    }
+
+    fn number(&mut self) -> u64 {
+        let number = self.fields[self.taken];
+        self.taken += 1;
+        number
+    }
+
+    pub(crate) fn place(&mut self) -> usize {
+        self.number() as usize
+    }
+
+    pub(crate) fn byte(&mut self) -> u8 {
+        self.number() as u8
+    }
+
+    pub(crate) fn word(&mut self) -> u16 {
+        self.number() as u16
+    }
+
+    pub(crate) fn dword(&mut self) -> u32 {
+        self.number() as u32
+    }
+
+    pub(crate) fn dwords<const N: usize>(&mut self) -> [u32; N] {
+        std::array::from_fn(|_| self.dword())
+    }
+
+    /// A text, by its place and length.
+    pub(crate) fn text(&mut self) -> &'a [u8] {
+        let at = self.place();
+        let length = self.place();
+        &self.bytes[at..at + length]
+    }
+
+    /// So many bytes from a place on.
+    pub(crate) fn run(&mut self, length: usize) -> &'a [u8] {
+        let at = self.place();
+        &self.bytes[at..at + length]
+    }
+
+    pub(crate) fn hash(&mut self) -> Hash {
+        Hash(array_at(self.bytes, self.place()))
+    }
+
+    pub(crate) fn address(&mut self) -> Address {
+        Address { ip: self.dword(), port: self.word() }
+    }
+
+    pub(crate) fn list<T>(&mut self) -> List<'a, T> {
+        List::from_values(self)
+    }
+
+    pub(crate) fn record(&mut self) -> Record<'a> {
+        Record { hash: self.hash(), client: self.dword(), port: self.word(), tags: self.list() }
+    }
+}
+
+/// So many bytes from a place on.
+pub(crate) fn array_at<const N: usize>(bytes: &[u8], at: usize) -> [u8; N] {
+    let mut array = [0; N];
+    array.copy_from_slice(&bytes[at..at + N]);
+    array
+}

@@ -1,0 +1,11 @@
+//! The command `ed2k`: what it prints, its exit status, and what it leaves in the folder.
+
+#[path = "../support/packets.rs"]
+mod packets;
+
+mod marking;
+mod saving;
+mod showing;
+mod storms;
+mod studio;
+mod usage;

@@ -1,0 +1,55 @@
+//! `mark`.
+
+use ed2k::GapRecord;
+
+use crate::packets;
+use crate::studio::{Studio, wait};
+
+#[test]
+fn mark_saves_the_new_gaps_and_a_dry_run_does_not() {
+    let studio = Studio::new();
+    let old = packets::part_met(9, 3, 100, &[(0, 100)]);
+    studio.file("a model.part.met", &old);
+    let dry = studio.run(&["mark", "--dry-run", "a model.part.met", "40", "60"]).expect(0);
+    assert_eq!(
+        dry.stdout,
+        "arrived  20 bytes\nmissing  80 bytes, 80.0 %, in 2 gaps\nnot saved, as --dry-run asks\n"
+    );
+    assert_eq!(studio.bytes("a model.part.met"), old);
+    let run = studio.run(&["mark", "a model.part.met", "40", "60"]).expect(0);
+    assert!(run.stdout.ends_with("saved    'a model.part.met', 138 bytes\n"), "{}", run.stdout);
+    assert_eq!(studio.bytes("a model.part.met"), packets::part_met(9, 3, 100, &[(0, 40), (60, 100)]));
+    assert_eq!(studio.names(), ["a model.part.met"]);
+}
+
+#[test]
+fn a_refused_mark_changes_nothing() {
+    let studio = Studio::new();
+    let gaps: Vec<(u32, u32)> = (0..64).map(|n| (n * 4, n * 4 + 3)).collect();
+    let file = packets::part_met(9, 0, 256, &gaps);
+    studio.file("file", &file);
+    for (start, end, number) in [("5", "5", 8), ("0", "257", 8), ("9", "3", 8), ("1", "2", 6)] {
+        let run = studio.run(&["mark", "file", start, end]).expect(1);
+        assert!(run.stderr.contains(&format!("refused {number}: ")), "{}", run.stderr);
+        assert!(run.stderr.contains("Nothing was changed."));
+        assert_eq!(studio.bytes("file"), file);
+    }
+    studio.run(&["mark", "not there", "0", "1"]).expect(2);
+    assert_eq!(studio.names(), ["file"]);
+}
+
+#[test]
+fn marks_made_at_the_same_time_all_count() {
+    const MARKS: u64 = 24;
+    let studio = Studio::new();
+    studio.file("file", &packets::part_met(9, 0, 2 * MARKS as u32, &[(0, 2 * MARKS as u32)]));
+    let mark = |n: u64| studio.spawn(&["mark", "file", &(2 * n).to_string(), &(2 * n + 1).to_string()]);
+    let marks: Vec<_> = (0..MARKS).map(mark).collect();
+    for child in marks {
+        wait(child).expect(0);
+    }
+    let record = GapRecord::read(&studio.bytes("file")).unwrap();
+    assert_eq!(record.missing(), MARKS);
+    assert!(record.gaps().all(|gap| gap.start % 2 == 1 && gap.byte_count() == 1));
+    assert_eq!(studio.names(), ["file"]);
+}

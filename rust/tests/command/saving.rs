@@ -1,0 +1,224 @@
+//! `save`: when it is accepted, and what it leaves in the folder.
+
+use std::fs;
+use std::os::unix::fs::{MetadataExt, PermissionsExt, symlink};
+use std::process::{Command, Stdio};
+
+use crate::packets;
+use crate::studio::{COMMAND, Run, Studio, finish, samples};
+
+#[test]
+fn save_stores_the_new_file_and_keeps_permissions() {
+    let studio = Studio::new();
+    let (old, new) = (packets::part_met(1, 0, 100, &[(0, 100)]), packets::part_met(2, 0, 100, &[(0, 50)]));
+    let stored = studio.file("the model.part.met", &old);
+    fs::set_permissions(&stored, fs::Permissions::from_mode(0o640)).unwrap();
+    studio.file("old copy", &old);
+    studio.file("new", &new);
+    let run = studio.run(&["save", "--opened", "old copy", "--new", "new", "the model.part.met"]).expect(0);
+    assert!(run.stdout.starts_with("saved: 'the model.part.met' is now 'new', "), "{}", run.stdout);
+    assert_eq!(studio.bytes("the model.part.met"), new);
+    assert_eq!(fs::metadata(&stored).unwrap().permissions().mode() & 0o777, 0o640);
+    assert_eq!(studio.names(), ["new", "old copy", "the model.part.met"]);
+}
+
+#[test]
+fn a_conflict_says_what_happened_and_changes_nothing() {
+    let studio = Studio::new();
+    let [old, new, other] = [1, 2, 3].map(|date| packets::part_met(date, 0, 100, &[]));
+    studio.file("old", &old);
+    studio.file("new", &new);
+    studio.file("stored", &other);
+    let run = studio.run(&["save", "--opened", "old", "--new", "new", "stored"]).expect(1);
+    for phrase in
+        ["refused 11", "somebody has saved it since", "Nothing was lost", "'old'", "'new'", "'stored'"]
+    {
+        assert!(run.stderr.contains(phrase), "{}", run.stderr);
+    }
+    assert_eq!((studio.bytes("stored"), studio.bytes("new")), (other, new));
+    assert_eq!(studio.names(), ["new", "old", "stored"]);
+}
+
+#[test]
+fn a_first_save_needs_both_to_be_empty_or_missing() {
+    let studio = Studio::new();
+    let new = packets::part_met(2, 0, 100, &[]);
+    studio.file("new", &new);
+    studio.file("empty", b"");
+    studio.run(&["save", "--opened", "new", "--new", "new", "stored"]).expect(1);
+    assert!(!studio.path("stored").exists());
+    studio.run(&["save", "--opened", "not there", "--new", "new", "stored"]).expect(0);
+    assert_eq!(studio.bytes("stored"), new);
+    studio.run(&["save", "--opened", "not there", "--new", "new", "stored"]).expect(1);
+    studio.run(&["save", "--opened", "empty", "--new", "new", "second"]).expect(0);
+    studio.run(&["save", "--opened", "/dev/null", "--new", "new", "third"]).expect(0);
+    studio.run(&["save", "--opened", "not there", "--new", "new", "empty"]).expect(0);
+    assert_eq!(
+        (studio.bytes("second"), studio.bytes("third"), studio.bytes("empty")),
+        (new.clone(), new.clone(), new)
+    );
+}
+
+#[test]
+fn save_judges_the_new_file_first() {
+    let studio = Studio::new();
+    studio.file("old", b"anything");
+    studio.file("stored", b"anything else");
+    let damaged = samples().join("overlapping_gaps.part.met");
+    let run =
+        studio.run(&["save", "--opened", "old", "--new", damaged.to_str().unwrap(), "stored"]).expect(1);
+    assert!(run.stderr.contains("is refused 8"), "{}", run.stderr);
+    assert_eq!(studio.bytes("stored"), b"anything else");
+}
+
+#[test]
+fn save_will_not_compare_a_file_with_itself() {
+    let studio = Studio::new();
+    studio.file("stored", &packets::part_met(1, 0, 100, &[]));
+    studio.file("new", &packets::part_met(2, 0, 100, &[]));
+    let run = studio.run(&["save", "--opened", "./stored", "--new", "new", "stored"]).expect(2);
+    assert!(run.stderr.contains("STORED itself"), "{}", run.stderr);
+}
+
+#[test]
+fn files_of_any_length_are_compared_to_their_end() {
+    let studio = Studio::new();
+    let new = packets::part_met(2, 0, 100, &[]);
+    studio.file("new", &new);
+    for length in [ed2k::MET_CEILING, ed2k::MET_CEILING + 1, 3 * ed2k::MET_CEILING] {
+        let mut old = vec![7; length];
+        studio.file("stored", &old);
+        old[length - 1] = 8;
+        studio.file("old", &old);
+        studio.run(&["save", "--opened", "old", "--new", "new", "stored"]).expect(1);
+        studio.file("old", &old[..length - 1]);
+        studio.run(&["save", "--opened", "old", "--new", "new", "stored"]).expect(1);
+        studio.file("old", &vec![7; length]);
+        studio.run(&["save", "--opened", "old", "--new", "new", "stored"]).expect(0);
+        assert_eq!(studio.bytes("stored"), new);
+    }
+}
+
+#[test]
+fn what_a_killed_save_left_does_no_harm_and_is_removed() {
+    let studio = Studio::new();
+    let (old, new) = (packets::part_met(1, 0, 100, &[]), packets::part_met(2, 0, 100, &[]));
+    studio.file("old", &old);
+    studio.file("stored", &old);
+    studio.file("new", &new);
+    studio.file(".stored.saving", b"half a fi");
+    studio.file(".stored.lock", b"");
+    studio.run(&["save", "--opened", "new", "--new", "new", "stored"]).expect(1);
+    assert_eq!(studio.names(), ["new", "old", "stored"]);
+    studio.file(".stored.saving", b"half a fi");
+    studio.run(&["save", "--opened", "old", "--new", "new", "stored"]).expect(0);
+    assert_eq!(studio.bytes("stored"), new);
+    assert_eq!(studio.names(), ["new", "old", "stored"]);
+}
+
+#[test]
+fn a_link_stays_a_link_and_its_file_is_saved() {
+    let studio = Studio::new();
+    let (old, new) = (packets::part_met(1, 0, 100, &[]), packets::part_met(2, 0, 100, &[]));
+    fs::create_dir(studio.path("models")).unwrap();
+    studio.file("models/stored", &old);
+    studio.file("old", &old);
+    studio.file("new", &new);
+    symlink("models/stored", studio.path("link")).unwrap();
+    studio.run(&["save", "--opened", "old", "--new", "new", "link"]).expect(0);
+    assert!(studio.path("link").is_symlink());
+    assert_eq!(studio.bytes("models/stored"), new);
+    symlink("nowhere", studio.path("dangling")).unwrap();
+    studio.run(&["save", "--opened", "not there", "--new", "new", "dangling"]).expect(2);
+}
+
+#[test]
+fn read_only_files_and_folders_are_left_alone() {
+    let studio = Studio::new();
+    let (old, new) = (packets::part_met(1, 0, 100, &[]), packets::part_met(2, 0, 100, &[]));
+    let stored = studio.file("stored", &old);
+    studio.file("old", &old);
+    studio.file("new", &new);
+    let save = ["save", "--opened", "old", "--new", "new", "stored"];
+    fs::set_permissions(&stored, fs::Permissions::from_mode(0o444)).unwrap();
+    assert!(studio.run(&save).expect(2).stderr.contains("is read-only"));
+    fs::set_permissions(&stored, fs::Permissions::from_mode(0o644)).unwrap();
+    let command = studio.bound_command(&save);
+    fs::set_permissions(&studio.folder, fs::Permissions::from_mode(0o555)).unwrap();
+    let run = finish(command);
+    let command = studio.bound_command(&["read", "p", "stored"]);
+    fs::set_permissions(&stored, fs::Permissions::from_mode(0o000)).unwrap();
+    let unreadable = finish(command);
+    fs::set_permissions(&studio.folder, fs::Permissions::from_mode(0o755)).unwrap();
+    fs::set_permissions(&stored, fs::Permissions::from_mode(0o644)).unwrap();
+    assert!(run.expect(2).stderr.contains("Permission denied"));
+    assert!(unreadable.expect(2).stderr.contains("Permission denied"));
+    assert_eq!(studio.bytes("stored"), old);
+}
+
+#[test]
+fn a_file_of_another_owner_is_left_alone() {
+    let studio = Studio::new();
+    let (old, new) = (packets::part_met(1, 0, 100, &[]), packets::part_met(2, 0, 100, &[]));
+    studio.file("stored", &old);
+    studio.file("old", &old);
+    studio.file("new", &new);
+    if fs::metadata(&studio.folder).unwrap().uid() != 0 {
+        println!("skipped: only root can act as two owners");
+        return;
+    }
+    fs::set_permissions(&studio.folder, fs::Permissions::from_mode(0o777)).unwrap();
+    let run = finish(studio.bound_command(&["save", "--opened", "old", "--new", "new", "stored"])).expect(2);
+    assert!(run.stderr.contains("Permission denied"), "{}", run.stderr);
+    assert_eq!(studio.bytes("stored"), old);
+    finish(studio.bound_command(&["save", "--opened", "none", "--new", "new", "first"])).expect(0);
+    studio.run(&["save", "--opened", "new", "--new", "old", "first"]).expect(0);
+    assert_eq!(fs::metadata(studio.path("first")).unwrap().uid(), 65_534);
+}
+
+/// A save of a larger file fails while it writes; the stored one must be as it was, and nothing left beside it.
+fn assert_failed_write(studio: &Studio, run: Run, old: &[u8], beside: &[String]) {
+    let run = run.expect(2);
+    assert!(run.stderr.contains("cannot write"), "{}", run.stderr);
+    assert_eq!(studio.bytes("disk/stored"), old);
+    let names: Vec<String> = fs::read_dir(studio.path("disk"))
+        .unwrap()
+        .map(|entry| entry.unwrap().file_name().into_string().unwrap())
+        .collect();
+    assert_eq!(names, beside);
+}
+
+#[test]
+fn a_full_disk_leaves_the_old_file() {
+    let studio = Studio::new();
+    fs::create_dir(studio.path("disk")).unwrap();
+    let mut mount = Command::new("mount");
+    mount.args(["-t", "tmpfs", "-o", "size=64k", "tmpfs"]).arg(studio.path("disk")).stderr(Stdio::null());
+    if !mount.status().is_ok_and(|status| status.success()) {
+        println!("skipped: a small disk cannot be mounted here");
+        return;
+    }
+    let (old, new) = (packets::part_met(1, 1500, 100, &[]), packets::part_met(2, 3500, 100, &[]));
+    studio.file("disk/stored", &old);
+    studio.file("old", &old);
+    studio.file("new", &new);
+    let run = studio.run(&["save", "--opened", "old", "--new", "new", "disk/stored"]);
+    let checked = std::panic::catch_unwind(|| assert_failed_write(&studio, run, &old, &["stored".into()]));
+    let unmounted = Command::new("umount").arg(studio.path("disk")).status();
+    assert!(unmounted.is_ok_and(|status| status.success()));
+    assert!(checked.is_ok());
+}
+
+#[test]
+fn a_file_that_may_not_grow_leaves_the_old_file() {
+    let studio = Studio::new();
+    fs::create_dir(studio.path("disk")).unwrap();
+    let (old, new) = (packets::part_met(1, 0, 100, &[]), packets::part_met(2, 3500, 100, &[]));
+    studio.file("disk/stored", &old);
+    studio.file("old", &old);
+    studio.file("new", &new);
+    let mut command = Command::new("sh");
+    command.args(["-c", "trap '' XFSZ; ulimit -f 8; exec \"$@\"", "sh", COMMAND]);
+    command.args(["save", "--opened", "old", "--new", "new", "disk/stored"]).current_dir(&studio.folder);
+    assert_failed_write(&studio, finish(command), &old, &["stored".into()]);
+}

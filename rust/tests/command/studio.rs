@@ -1,0 +1,145 @@
+//! A folder to work in, and the command run there.
+
+use std::env;
+use std::ffi::OsStr;
+use std::fs;
+use std::os::unix::fs::MetadataExt;
+use std::os::unix::process::CommandExt;
+use std::path::{Path, PathBuf};
+use std::process::{self, Child, Command, Stdio};
+use std::sync::atomic::{AtomicU32, Ordering};
+
+pub const COMMAND: &str = env!("CARGO_BIN_EXE_ed2k");
+
+/// What a run of the command ended with.
+pub struct Run {
+    pub status: i32,
+    pub stdout: String,
+    pub stderr: String,
+}
+
+impl Run {
+    /// Asserts the exit status, with all that was printed if it is another.
+    pub fn expect(self, status: i32) -> Run {
+        assert_eq!(self.status, status, "stdout:\n{}\nstderr:\n{}", self.stdout, self.stderr);
+        assert!(!self.stderr.contains("panicked"), "{}", self.stderr);
+        self
+    }
+}
+
+/// A folder of its own, with a space in its name, that is removed in the end.
+pub struct Studio {
+    pub folder: PathBuf,
+}
+
+impl Studio {
+    pub fn new() -> Studio {
+        static NUMBER: AtomicU32 = AtomicU32::new(0);
+        let number = NUMBER.fetch_add(1, Ordering::Relaxed);
+        let folder = env::temp_dir().join(format!("ed2k test {} {number}", process::id()));
+        fs::create_dir(&folder).expect("a folder for the test");
+        Studio { folder }
+    }
+
+    pub fn path(&self, name: &str) -> PathBuf {
+        self.folder.join(name)
+    }
+
+    /// Writes a file and hands its path back.
+    pub fn file(&self, name: &str, bytes: &[u8]) -> PathBuf {
+        let path = self.path(name);
+        fs::write(&path, bytes).expect("a file for the test");
+        path
+    }
+
+    pub fn bytes(&self, name: &str) -> Vec<u8> {
+        fs::read(self.path(name)).unwrap_or_else(|error| panic!("{name}: {error}"))
+    }
+
+    /// The command, to be run in the folder.
+    pub fn command(&self, words: &[&OsStr]) -> Command {
+        let mut command = Command::new(COMMAND);
+        command.args(words).current_dir(&self.folder).stdin(Stdio::null());
+        command
+    }
+
+    pub fn run(&self, words: &[&str]) -> Run {
+        let words: Vec<&OsStr> = words.iter().map(OsStr::new).collect();
+        finish(self.command(&words))
+    }
+
+    pub fn spawn(&self, words: &[&str]) -> Child {
+        let words: Vec<&OsStr> = words.iter().map(OsStr::new).collect();
+        let mut command = self.command(&words);
+        command.stdout(Stdio::piped()).stderr(Stdio::piped());
+        command.spawn().expect("the command starts")
+    }
+
+    /// The names of all that is in the folder, in order.
+    pub fn names(&self) -> Vec<String> {
+        let entries = fs::read_dir(&self.folder).expect("the folder can be read");
+        let name = |entry: std::io::Result<fs::DirEntry>| entry.unwrap().file_name().into_string().unwrap();
+        let mut names: Vec<String> = entries.map(name).collect();
+        names.sort();
+        names
+    }
+
+    /// A command that permissions bind: the tests may run as root, who would be bound by none, and then it runs as nobody,
+    /// from a copy that nobody can reach.
+    pub fn bound_command(&self, words: &[&str]) -> Command {
+        let owner = fs::metadata(&self.folder).expect("the folder is there").uid();
+        if owner != 0 {
+            let words: Vec<&OsStr> = words.iter().map(OsStr::new).collect();
+            return self.command(&words);
+        }
+        let copy = self.path("the command");
+        if !copy.exists() {
+            // By another process: a file that this one has open for writing could not be run, and a child started by
+            // another test meanwhile would hold it open.
+            let copied = Command::new("cp").args([OsStr::new(COMMAND), copy.as_os_str()]).status();
+            assert!(copied.expect("cp runs").success());
+        }
+        let mut command = Command::new(copy);
+        command.args(words).current_dir(&self.folder).stdin(Stdio::null()).uid(65_534).gid(65_534);
+        command
+    }
+}
+
+impl Drop for Studio {
+    fn drop(&mut self) {
+        let _ = fs::remove_dir_all(&self.folder);
+    }
+}
+
+/// Runs a command to its end.
+pub fn finish(mut command: Command) -> Run {
+    let output = command.output().expect("the command runs");
+    ended(output)
+}
+
+/// Waits for a command that was started.
+pub fn wait(child: Child) -> Run {
+    ended(child.wait_with_output().expect("the command ends"))
+}
+
+fn ended(output: process::Output) -> Run {
+    let text = |bytes: Vec<u8>| String::from_utf8(bytes).expect("the command prints UTF-8");
+    Run {
+        status: output.status.code().expect("the command was not killed"),
+        stdout: text(output.stdout),
+        stderr: text(output.stderr),
+    }
+}
+
+/// The samples of the repository.
+pub fn samples() -> PathBuf {
+    Path::new(env!("CARGO_MANIFEST_DIR")).join("../samples")
+}
+
+/// Letter, file and line of each sample, as their README lists them.
+pub fn sample_lines() -> Vec<(String, PathBuf, String)> {
+    let readme = fs::read_to_string(samples().join("README.md")).expect("samples/README.md");
+    let cells = |line: &str| line.split('|').map(|cell| cell.trim().trim_matches('`').to_string()).collect();
+    let rows = readme.lines().map(cells).filter(|row: &Vec<String>| row.len() == 6 && row[2].len() == 1);
+    rows.map(|row| (row[2].clone(), samples().join(&row[1]), row[4].clone())).collect()
+}

@@ -1,0 +1,138 @@
+//! Help, wrong words, and files that cannot be read or written.
+
+use std::ffi::OsStr;
+use std::fs::{self, File};
+use std::io::Read;
+use std::os::unix::ffi::OsStrExt;
+
+use crate::packets;
+use crate::studio::{Studio, finish};
+
+#[test]
+fn names_may_be_any_the_system_allows() {
+    let studio = Studio::new();
+    let new = packets::part_met(2, 0, 100, &[]);
+    let strange = OsStr::from_bytes(b"last \xFF\n'x'");
+    fs::write(studio.folder.join(strange), &new).unwrap();
+    let run = finish(studio.command(&[OsStr::new("read"), OsStr::new("p"), strange])).expect(0);
+    assert_eq!(run.stdout, format!("accepted 224 {}\n", new.len()));
+    let stored = OsStr::from_bytes(b"\xFE stored");
+    let [save, opened, none, as_new] = ["save", "--opened", "none", "--new"].map(OsStr::new);
+    finish(studio.command(&[save, opened, none, as_new, strange, stored])).expect(0);
+    assert_eq!(fs::read(studio.folder.join(stored)).unwrap(), new);
+    studio.file("--new", &new);
+    studio.run(&["read", "p", "--", "--new"]).expect(0);
+}
+
+#[test]
+fn files_that_are_missing_or_no_files_are_errors() {
+    let studio = Studio::new();
+    let new = packets::part_met(2, 0, 100, &[]);
+    studio.file("new", &new);
+    fs::create_dir(studio.path("folder")).unwrap();
+    for words in [
+        &["read", "p", "not there"][..],
+        &["show", "p", "folder"],
+        &["gaps", "new/file"],
+        &["mark", "folder", "0", "1"],
+        &["search", "not there", "new"],
+        &["save", "--opened", "none", "--new", "not there", "stored"],
+        &["save", "--opened", "none", "--new", "new", "folder"],
+        &["save", "--opened", "folder", "--new", "new", "stored"],
+        &["save", "--opened", "none", "--new", "new", "new/stored"],
+        &["save", "--opened", "none", "--new", "new", "no folder/stored"],
+        &["save", "--opened", "none", "--new", "new", "/proc/stored.part.met"],
+        &["save", "--opened", "none", "--new", "new", ".."],
+        &["save", "--opened", "none", "--new", "new", "/"],
+    ] {
+        let run = studio.run(words).expect(2);
+        assert!(run.stderr.starts_with("ed2k: "), "{}", run.stderr);
+        assert_eq!(run.stdout, "");
+    }
+    assert_eq!(studio.bytes("new"), new);
+    assert_eq!(studio.names(), ["folder", "new"]);
+}
+
+#[test]
+fn wrong_usage_gives_2_and_says_where_help_is() {
+    let studio = Studio::new();
+    studio.file("file", b"");
+    for words in [
+        &[][..],
+        &["unheard-of"],
+        &["--unheard-of"],
+        &["read"],
+        &["read", "s"],
+        &["read", "s", "file", "file"],
+        &["read", "x", "file"],
+        &["read", "sc", "file"],
+        &["show", "", "file"],
+        &["gaps"],
+        &["gaps", "--unheard-of", "file"],
+        &["mark", "file", "1"],
+        &["mark", "file", "one", "2"],
+        &["mark", "file", "-1", "2"],
+        &["mark", "file", "1", "99999999999999999999"],
+        &["search", "file"],
+        &["save", "stored"],
+        &["save", "--opened", "file", "stored"],
+        &["save", "--opened", "file", "--new"],
+        &["save", "--opened", "file", "--opened", "file", "--new", "file", "stored"],
+    ] {
+        let run = studio.run(words).expect(2);
+        assert!(run.stderr.contains("For help: ed2k "), "{words:?}: {}", run.stderr);
+        assert_eq!(run.stdout, "");
+    }
+    assert_eq!(studio.names(), ["file"]);
+}
+
+#[test]
+fn every_subcommand_has_help_within_80_columns() {
+    let studio = Studio::new();
+    for words in [
+        &["--help"][..],
+        &["read", "--help"],
+        &["show", "--help"],
+        &["gaps", "--help"],
+        &["mark", "--help"],
+        &["search", "--help"],
+        &["save", "--help"],
+        &["save", "--opened", "a", "-h"],
+    ] {
+        let run = studio.run(words).expect(0);
+        assert!(run.stdout.contains("Exit status: 0"), "{}", run.stdout);
+        let long = run.stdout.lines().find(|line| line.chars().count() > 80);
+        assert_eq!(long, None);
+        assert_eq!(run.stderr, "");
+    }
+    assert!(studio.run(&["--version"]).expect(0).stdout.starts_with("ed2k "));
+}
+
+#[test]
+fn a_reader_that_goes_away_is_no_error() {
+    let studio = Studio::new();
+    let entry = |n: u32| packets::dword_tag(&[0x01], n);
+    studio.file("tags", &packets::list(&(0..8000).map(entry).collect::<Vec<_>>()));
+    let mut child = studio.spawn(&["show", "t", "tags"]);
+    let mut first = [0; 8];
+    child.stdout.take().unwrap().read_exact(&mut first).unwrap();
+    assert_eq!(&first, b"tags, 64");
+    let mut told = String::new();
+    child.stderr.take().unwrap().read_to_string(&mut told).unwrap();
+    assert_eq!((told.as_str(), child.wait().unwrap().code()), ("", Some(0)));
+    let mut refused = studio.command(&["read", "s", "tags"].map(OsStr::new));
+    let (reader, writer) = std::io::pipe().unwrap();
+    drop(reader);
+    refused.stdout(writer);
+    finish(refused).expect(1);
+}
+
+#[test]
+fn an_output_that_is_full_is_an_error() {
+    let studio = Studio::new();
+    studio.file("tags", &packets::list(&packets::four_tags()));
+    let mut command = studio.command(&["show", "t", "tags"].map(OsStr::new));
+    command.stdout(File::options().write(true).open("/dev/full").unwrap());
+    let run = finish(command).expect(2);
+    assert!(run.stderr.contains("cannot write to standard output"), "{}", run.stderr);
+}

@@ -1,0 +1,140 @@
+//! One call through the archive and through the plain reading, side by side.
+
+use std::collections::BTreeMap;
+use std::fmt::Debug;
+
+use crate::archive::ARCHIVE;
+use crate::inputs::Random;
+use crate::plain::{Calls, FIELDS, PLAIN};
+
+const SENTINEL: u64 = 0xFEED_FACE_CAFE;
+const FILL: u8 = 0xA5;
+const SHOWN: usize = 2_000;
+
+/// Compares calls, and counts how often each answered which number.
+pub struct Comparison {
+    seed: u64,
+    turn: u64,
+    seen: BTreeMap<&'static str, [u64; 12]>,
+}
+
+impl Comparison {
+    pub fn new(seed: u64) -> Self {
+        println!("first seed {seed}");
+        Comparison { seed, turn: 0, seen: BTreeMap::new() }
+    }
+
+    /// The generator of the next input.
+    pub fn next_input(&mut self) -> Random {
+        self.seed += 1;
+        Random::new(self.seed)
+    }
+
+    /// Runs the call on both sides; `run` gives the number and all that was lent, as it is afterwards.
+    pub fn same<T: PartialEq + Debug>(
+        &mut self,
+        call: &'static str,
+        input: &[&[u8]],
+        run: impl Fn(&Calls) -> (u8, T),
+    ) -> (u8, T) {
+        let (archive, plain) = (run(&ARCHIVE), run(&PLAIN));
+        if archive != plain {
+            let (archive, plain) = (cut(format!("{archive:?}")), cut(format!("{plain:?}")));
+            let seed = self.seed;
+            panic!("seed {seed}, {call}\n archive {archive}\n plain   {plain}\n input   {}", hex(input));
+        }
+        self.seen.entry(call).or_default()[usize::from(plain.0)] += 1;
+        plain
+    }
+
+    /// A call that hands out fields: what they are if it accepts. Now and then the room for them is too small, or larger than needed.
+    pub fn fields(
+        &mut self,
+        call: &'static str,
+        input: &[&[u8]],
+        run: impl Fn(&Calls, &mut [u64]) -> u8,
+    ) -> Option<Vec<u64>> {
+        let lent = |room| {
+            let run = &run;
+            move |calls: &Calls| {
+                let mut fields = vec![SENTINEL; room];
+                (run(calls, &mut fields), fields)
+            }
+        };
+        self.turn += 1;
+        match self.turn % 16 {
+            0 => drop(self.same(call, input, lent(FIELDS - 1))),
+            1 => drop(self.same(call, input, lent(0))),
+            2 => drop(self.same(call, input, lent(FIELDS + 3))),
+            _ => (),
+        }
+        let (number, fields) = self.same(call, input, lent(FIELDS));
+        (number == 0).then_some(fields)
+    }
+
+    /// A call that writes, with room to spare, with just enough room, and with too little.
+    pub fn writing(
+        &mut self,
+        call: &'static str,
+        input: &[&[u8]],
+        run: impl Fn(&Calls, &mut [u8], &mut u64) -> u8,
+    ) {
+        let lent = |room| {
+            let run = &run;
+            move |calls: &Calls| {
+                let (mut output, mut written) = (vec![FILL; room], SENTINEL);
+                let number = run(calls, &mut output, &mut written);
+                (number, (written, output))
+            }
+        };
+        let most = 4_096 + input.iter().map(|bytes| bytes.len()).sum::<usize>();
+        let (number, (written, _)) = self.same(call, input, lent(most));
+        if number != 0 {
+            return;
+        }
+        let length = written as usize;
+        self.same(call, input, lent(length));
+        self.turn += 1;
+        if self.turn.is_multiple_of(4) {
+            self.same(call, input, lent(length.saturating_sub(1)));
+            self.same(call, input, lent(0));
+        }
+    }
+
+    /// The call answered each of these numbers, and no other.
+    pub fn assert_seen(&self, call: &'static str, numbers: &[usize]) {
+        let counts = self.seen.get(call).copied().unwrap_or_default();
+        println!("{call}: {}", shown(&counts));
+        let seen: Vec<usize> = (0..counts.len()).filter(|&number| counts[number] > 0).collect();
+        assert_eq!(seen, numbers, "the numbers that {call} answered");
+    }
+}
+
+impl Drop for Comparison {
+    fn drop(&mut self) {
+        let calls: u64 = self.seen.values().flatten().sum();
+        println!("{calls} calls compared");
+    }
+}
+
+fn shown(counts: &[u64]) -> String {
+    let seen = counts.iter().enumerate().filter(|(_, count)| **count > 0);
+    let shown: Vec<String> = seen.map(|(number, count)| format!("{number}: {count}")).collect();
+    shown.join(", ")
+}
+
+fn cut(mut text: String) -> String {
+    if text.len() > SHOWN {
+        text.truncate(SHOWN);
+        text.push_str("..");
+    }
+    text
+}
+
+fn hex(input: &[&[u8]]) -> String {
+    let pieces = input.iter().map(|bytes| {
+        let shown: String = bytes.iter().take(SHOWN / 4).map(|byte| format!("{byte:02X}")).collect();
+        format!("{} bytes {shown}", bytes.len())
+    });
+    pieces.collect::<Vec<_>>().join(" | ")
+}

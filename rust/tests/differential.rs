@@ -1,0 +1,717 @@
+//! Holds the archive to a second reading of document 01 in plain Rust, on made inputs: lawful and damaged, short and long. Number,
+//! every field and every byte of every output are compared, those that a call must leave alone too. Each input has its own seed, and a
+//! difference prints it.
+
+mod archive;
+mod comparison;
+mod inputs;
+mod plain;
+
+use comparison::Comparison;
+// Links the archive.
+use ed2k as _;
+use inputs::{Random, damaged};
+use plain::{Calls, Item};
+
+/// Made inputs of each kind. Some of each hundred are damaged, some are random bytes, some are near a ceiling.
+const ROUNDS: u64 = 20_000;
+const LONG_ROUNDS: u64 = 60;
+
+const NAMES: [&str; 8] = [
+    "server link",
+    "client link",
+    "UDP link",
+    "known.met",
+    "server.met",
+    "part.met",
+    "lone query",
+    "lone tags",
+];
+
+fn message(random: &mut Random, kind: u8) -> Vec<u8> {
+    match kind {
+        plain::SERVER_LINK..=plain::UDP_LINK => inputs::packet(random, kind),
+        plain::KNOWN_MET => inputs::known_met(random),
+        plain::SERVER_MET => inputs::server_met(random),
+        plain::PART_MET => inputs::part_met(random),
+        plain::LONE_QUERY => lone_query(random),
+        _ => lone_tags(random),
+    }
+}
+
+fn lone_query(random: &mut Random) -> Vec<u8> {
+    let depth = random.pick(&[1, 2, 3, 5, 23, 24, 24, 25]);
+    let mut query = Vec::new();
+    inputs::query(random, depth, &mut query);
+    query
+}
+
+fn lone_tags(random: &mut Random) -> Vec<u8> {
+    let mut tags = Vec::new();
+    inputs::tag_list(random, &mut tags);
+    tags
+}
+
+/// A message, a damaged one, or bytes without a plan.
+fn input(random: &mut Random, kind: u8) -> Vec<u8> {
+    let bytes = message(random, kind);
+    match random.below(10) {
+        0..=3 => bytes,
+        4..=8 => damaged(random, kind, &bytes),
+        _ => {
+            let length = random.below(40);
+            random.bytes(length)
+        }
+    }
+}
+
+/// A message grown to about this length and then, perhaps, damaged.
+fn long_input(random: &mut Random, kind: u8, length: usize) -> Vec<u8> {
+    let bytes = inputs::grown(random, kind, length);
+    match random.below(3) {
+        0 => damaged(random, kind, &bytes),
+        _ => bytes,
+    }
+}
+
+/// A length close to the kind's ceiling.
+fn long_length(random: &mut Random, kind: u8) -> usize {
+    let met = (plain::KNOWN_MET..=plain::PART_MET).contains(&kind);
+    let ceiling = if met { plain::MET_CEILING } else { plain::PACKET_CEILING };
+    match random.below(4) {
+        0 => random.within(1_000, ceiling),
+        1 => ceiling,
+        2 => ceiling + 1,
+        _ => ceiling - random.below(20),
+    }
+}
+
+/// Reads the bytes as the kind, and then every item that the fields name, one level below another.
+fn compare_reading(comparison: &mut Comparison, kind: u8, bytes: &[u8]) {
+    let name = NAMES[usize::from(kind)];
+    let fields = comparison.fields(name, &[bytes], |calls, fields| (calls.read)(kind, bytes, fields));
+    let Some(fields) = fields else { return };
+    match kind {
+        plain::KNOWN_MET => compare_items(comparison, Item::FileEntry, bytes, &fields[1..4]),
+        plain::SERVER_MET => compare_items(comparison, Item::ServerEntry, bytes, &fields[1..4]),
+        plain::PART_MET => compare_items(comparison, Item::Tag, bytes, &fields[4..7]),
+        plain::LONE_QUERY => compare_nodes(comparison, bytes, &fields[0..2]),
+        plain::LONE_TAGS => compare_items(comparison, Item::Tag, bytes, &fields[0..3]),
+        _ => compare_body(comparison, bytes, &fields),
+    }
+}
+
+/// The lists of a body, by the shapes of `ed2k.h`.
+fn compare_body(comparison: &mut Comparison, bytes: &[u8], fields: &[u64]) {
+    match fields[2] {
+        1 => compare_nodes(comparison, bytes, &fields[3..5]),
+        8 => compare_items(comparison, Item::Address, bytes, &fields[3..6]),
+        9 => compare_items(comparison, Item::Address, bytes, &fields[4..7]),
+        11 | 12 | 15 | 16 => compare_items(comparison, Item::Tag, bytes, &fields[6..9]),
+        13 | 14 => compare_items(comparison, Item::Record, bytes, &fields[3..6]),
+        _ => (),
+    }
+}
+
+fn item_name(item: Item) -> &'static str {
+    match item {
+        Item::Tag => "tag",
+        Item::Address => "address",
+        Item::Record => "record",
+        Item::FileEntry => "file entry",
+        Item::ServerEntry => "server entry",
+        Item::QueryNode => "query node",
+    }
+}
+
+fn compare_item(comparison: &mut Comparison, item: Item, bytes: &[u8], at: usize) -> Option<Vec<u64>> {
+    comparison.fields(item_name(item), &[bytes, &at.to_le_bytes()], |calls, fields| {
+        (calls.read_item)(item, bytes, at, fields)
+    })
+}
+
+/// Every item of a list, up to its end, with the lists inside.
+fn compare_items(comparison: &mut Comparison, item: Item, bytes: &[u8], list: &[u64]) {
+    let mut at = list[0] as usize;
+    for _ in 0..list[2] {
+        let fields = compare_item(comparison, item, bytes, at).expect("an item of a list that was read");
+        at = fields[0] as usize;
+        match item {
+            Item::Record => compare_items(comparison, Item::Tag, bytes, &fields[4..7]),
+            Item::FileEntry => compare_items(comparison, Item::Tag, bytes, &fields[6..9]),
+            Item::ServerEntry => compare_items(comparison, Item::Tag, bytes, &fields[3..6]),
+            _ => (),
+        }
+    }
+    assert_eq!(at as u64, list[1], "the end of a list of {}", item_name(item));
+}
+
+/// The nodes of a query lie one behind the other.
+fn compare_nodes(comparison: &mut Comparison, bytes: &[u8], query: &[u64]) {
+    let mut at = query[0];
+    while at < query[1] {
+        at = compare_item(comparison, Item::QueryNode, bytes, at as usize)
+            .expect("a node of a query that was read")[0];
+    }
+}
+
+fn for_each_round(
+    comparison: &mut Comparison,
+    rounds: u64,
+    mut round: impl FnMut(&mut Comparison, &mut Random),
+) {
+    for _ in 0..rounds {
+        let mut random = comparison.next_input();
+        round(comparison, &mut random);
+    }
+}
+
+fn compare_kind(kind: u8, numbers: &[usize]) {
+    let mut comparison = Comparison::new(1_000_000 * (1 + u64::from(kind)));
+    for_each_round(&mut comparison, ROUNDS, |comparison, random| {
+        compare_reading(comparison, kind, &input(random, kind));
+    });
+    for_each_round(&mut comparison, LONG_ROUNDS, |comparison, random| {
+        let length = long_length(random, kind);
+        compare_reading(comparison, kind, &long_input(random, kind, length));
+    });
+    comparison.assert_seen(NAMES[usize::from(kind)], numbers);
+}
+
+#[test]
+fn server_link() {
+    compare_kind(plain::SERVER_LINK, &[0, 1, 2, 3, 4, 5, 6, 7, 10]);
+}
+
+#[test]
+fn client_link() {
+    compare_kind(plain::CLIENT_LINK, &[0, 1, 2, 3, 4, 5, 6, 7, 8, 10]);
+}
+
+#[test]
+fn udp_link() {
+    compare_kind(plain::UDP_LINK, &[0, 1, 2, 4, 5, 6, 7, 10]);
+}
+
+#[test]
+fn known_met() {
+    compare_kind(plain::KNOWN_MET, &[0, 1, 2, 5, 6, 7, 10]);
+}
+
+#[test]
+fn server_met() {
+    compare_kind(plain::SERVER_MET, &[0, 1, 2, 5, 6, 10]);
+}
+
+#[test]
+fn part_met() {
+    compare_kind(plain::PART_MET, &[0, 1, 2, 5, 6, 7, 8, 9, 10]);
+}
+
+#[test]
+fn lone_query_and_tags() {
+    compare_kind(plain::LONE_QUERY, &[0, 1, 5, 6, 7, 10]);
+    compare_kind(plain::LONE_TAGS, &[0, 1, 5, 6, 7, 10]);
+}
+
+/// Each size with each run of blocks: those allowed, a lone second one, a third one, and blocks that are too long or too short.
+#[test]
+fn every_block_case() {
+    let mut comparison = Comparison::new(19_000_000);
+    let mut accepted = [0; 5];
+    for &size in inputs::SIZES {
+        let parts = 16 * size.div_ceil(9_728_000) as usize;
+        let blocks = 8 * size.div_ceil(486_400) as usize;
+        let allowed: [&[usize]; 3] = [&[], &[parts], &[parts, blocks]];
+        let others: [&[usize]; 5] = [
+            &[blocks],
+            &[parts, blocks, parts],
+            &[parts + 8],
+            &[parts, blocks + 8],
+            &[parts, blocks.saturating_sub(8)],
+        ];
+        for lengths in allowed.iter().chain(&others) {
+            let mut random = comparison.next_input();
+            let file = inputs::part_met_with_blocks(&mut random, size, lengths);
+            let fields =
+                comparison.fields(NAMES[5], &[&file], |calls, fields| (calls.read)(5, &file, fields));
+            assert!(fields.is_some() || !allowed.contains(lengths), "{size} with {lengths:?} is accepted");
+            if let Some(fields) = fields {
+                accepted[fields[7] as usize] += 1;
+            }
+        }
+    }
+    println!("accepted with no, part, block, both, counted hashes: {accepted:?}");
+    comparison.assert_seen(NAMES[5], &[0, 1, 5, 10]);
+}
+
+/// Each opcode of each link, lawful, and each opcode that the link has not.
+#[test]
+fn every_opcode() {
+    let mut comparison = Comparison::new(20_000_000);
+    for link in [plain::SERVER_LINK, plain::CLIENT_LINK, plain::UDP_LINK] {
+        for_each_round(&mut comparison, 300, |comparison, random| {
+            for opcode in 0..=255 {
+                let packet = inputs::packet_of(random, link, opcode);
+                compare_reading(comparison, link, &packet);
+            }
+        });
+    }
+    comparison.assert_seen(NAMES[0], &[0, 4, 10]);
+}
+
+#[test]
+fn kinds_that_are_none() {
+    let mut comparison = Comparison::new(21_000_000);
+    for kind in 8..=255 {
+        let mut random = comparison.next_input();
+        let bytes = message(&mut random, kind % 8);
+        comparison.fields("no kind", &[&[kind], &bytes], |calls, fields| (calls.read)(kind, &bytes, fields));
+    }
+    comparison.assert_seen("no kind", &[4]);
+}
+
+/// A lawful item of the kind, or one node of a query.
+fn item_bytes(random: &mut Random, item: Item) -> Vec<u8> {
+    let mut bytes = Vec::new();
+    match item {
+        Item::Tag => inputs::tag(random, &mut bytes),
+        Item::Address => bytes.extend(random.bytes(6)),
+        Item::Record => inputs::record(random, &mut bytes),
+        Item::FileEntry => inputs::file_entry(random, &mut bytes),
+        Item::ServerEntry => inputs::server_entry(random, &mut bytes),
+        Item::QueryNode if random.once_in(4) => bytes.extend([0, random.pick(&[0, 1, 2])]),
+        Item::QueryNode => inputs::leaf(random, &mut bytes),
+    }
+    bytes
+}
+
+/// Items between other bytes, and places where none lies, inside the bytes and beyond them.
+#[test]
+fn items_anywhere() {
+    let items = [Item::Tag, Item::Address, Item::Record, Item::FileEntry, Item::ServerEntry, Item::QueryNode];
+    let mut comparison = Comparison::new(22_000_000);
+    for_each_round(&mut comparison, ROUNDS, |comparison, random| {
+        let item = random.pick(&items);
+        let before = random.below(4);
+        let mut bytes = random.bytes(before);
+        let mut placed = item_bytes(random, item);
+        if random.once_in(2) {
+            placed = damaged(random, plain::LONE_TAGS, &placed);
+        }
+        bytes.extend(placed);
+        let behind = random.below(4);
+        bytes.extend(random.bytes(behind));
+        let inside = random.within(0, bytes.len());
+        let at = random.pick(&[before, before, before, inside, bytes.len() + 1, usize::MAX, usize::MAX - 15]);
+        compare_item(comparison, item, &bytes, at);
+    });
+    comparison.assert_seen("tag", &[0, 1, 5, 6, 10]);
+    comparison.assert_seen("address", &[0, 1, 10]);
+    comparison.assert_seen("record", &[0, 1, 5, 6, 10]);
+    comparison.assert_seen("file entry", &[0, 1, 5, 6, 10]);
+    comparison.assert_seen("server entry", &[0, 1, 5, 6, 10]);
+    comparison.assert_seen("query node", &[0, 1, 5, 6, 10]);
+}
+
+#[test]
+fn parts_and_blocks() {
+    let mut comparison = Comparison::new(23_000_000);
+    let edges = inputs::SIZES.iter().copied();
+    let mut random = comparison.next_input();
+    let others = (0..100_000).map(|_| random.next() as u32);
+    for size in edges.chain(others) {
+        comparison.same("parts and blocks", &[&size.to_le_bytes()], |calls: &Calls| {
+            (0, ((calls.part_count)(size), (calls.block_count)(size)))
+        });
+    }
+}
+
+fn compare_gaps(comparison: &mut Comparison, random: &mut Random, file: &[u8]) {
+    let numbers = random.pick(&[130, 130, 130, 140, 129, 0]);
+    comparison.same("gaps", &[file], |calls| {
+        let mut record = vec![SENTINEL; numbers];
+        ((calls.read_gaps)(file, &mut record), record)
+    });
+}
+
+const SENTINEL: u64 = 0x5E_17_1E_15;
+
+#[test]
+fn gaps_of_part_met() {
+    let mut comparison = Comparison::new(24_000_000);
+    for_each_round(&mut comparison, ROUNDS, |comparison, random| {
+        let file = input(random, plain::PART_MET);
+        compare_gaps(comparison, random, &file);
+    });
+    comparison.assert_seen("gaps", &[0, 1, 2, 5, 6, 7, 8, 9, 10]);
+}
+
+#[test]
+fn all_missing_and_count() {
+    let mut comparison = Comparison::new(25_000_000);
+    for_each_round(&mut comparison, ROUNDS, |comparison, random| {
+        let size = some_size(random);
+        let numbers = random.pick(&[130, 130, 131, 129, 1, 0]);
+        comparison.same("all missing", &[&size.to_le_bytes()], |calls| {
+            let mut record = vec![SENTINEL; numbers];
+            ((calls.all_missing)(size, &mut record), record)
+        });
+        let record = inputs::some_record(random, size.min(u32::MAX.into()));
+        comparison.same("count missing", &[&bytes_of(&record)], |calls| {
+            let mut missing = SENTINEL;
+            ((calls.count_missing)(&record, &mut missing), missing)
+        });
+    });
+    comparison.assert_seen("all missing", &[0, 8, 10]);
+    comparison.assert_seen("count missing", &[0, 8]);
+}
+
+fn some_size(random: &mut Random) -> u64 {
+    match random.below(6) {
+        0 => random.pick(&[u64::from(u32::MAX) + 1, u64::MAX]),
+        1 => random.below(300) as u64,
+        _ => random.pick(inputs::SIZES).into(),
+    }
+}
+
+fn bytes_of(numbers: &[u64]) -> Vec<u8> {
+    numbers.iter().flat_map(|number| number.to_le_bytes()).collect()
+}
+
+/// An edge of the record, one beside it, or any number.
+fn edge(random: &mut Random, record: &[u64]) -> u64 {
+    let near = record.get(random.below(130)).copied().unwrap_or_default();
+    match random.below(8) {
+        0 => near.wrapping_sub(1),
+        1 => near.wrapping_add(1),
+        2 => random.next() % (record.first().map_or(0, |size| *size).saturating_add(2)).max(1),
+        3 => random.pick(&[0, 1, u64::MAX]),
+        _ => near,
+    }
+}
+
+/// A range between two edges, mostly in order, or one inside a gap.
+fn range(random: &mut Random, record: &[u64]) -> (u64, u64) {
+    let (one, other) = (edge(random, record), edge(random, record));
+    let gap = 2 + 2 * random.below(64);
+    match (random.below(10), record.get(gap), record.get(gap + 1)) {
+        (0, ..) => (one, other),
+        (1..=3, Some(start), Some(end)) => (start.saturating_add(1), end.saturating_sub(1)),
+        _ => (one.min(other), one.max(other)),
+    }
+}
+
+fn compare_mark(comparison: &mut Comparison, record: &[u64], start: u64, end: u64) -> (u8, (Vec<u64>, u64)) {
+    comparison.same("mark", &[&bytes_of(record), &bytes_of(&[start, end])], |calls| {
+        let (mut record, mut missing) = (record.to_vec(), SENTINEL);
+        ((calls.mark)(&mut record, start, end, &mut missing), (record, missing))
+    })
+}
+
+#[test]
+fn marking() {
+    let mut comparison = Comparison::new(26_000_000);
+    for_each_round(&mut comparison, ROUNDS, |comparison, random| {
+        let size = some_size(random).min(u32::MAX.into());
+        let record = inputs::some_record(random, size);
+        let (start, end) = range(random, &record);
+        compare_mark(comparison, &record, start, end);
+    });
+    comparison.assert_seen("mark", &[0, 6, 8]);
+}
+
+/// Marks one model at random places and then gap by gap, until nothing is missing.
+#[test]
+fn marking_to_the_end() {
+    let mut comparison = Comparison::new(27_000_000);
+    for_each_round(&mut comparison, 50, |comparison, random| {
+        let size = random.pick(&[1, 100, 972_800, u64::from(u32::MAX)]);
+        let mut record = inputs::gap_record(size, &vec![(0, size)], 0);
+        for _ in 0..300 {
+            let start = random.next() % size;
+            let end = (start + 1 + random.next() % (size / 100 + 1)).min(size);
+            record = compare_mark(comparison, &record, start, end).1.0;
+        }
+        while record[1] > 0 {
+            record = compare_mark(comparison, &record, record[2], record[3]).1.0;
+        }
+    });
+    comparison.assert_seen("mark", &[0, 6]);
+}
+
+#[test]
+fn putting() {
+    let mut comparison = Comparison::new(28_000_000);
+    for_each_round(&mut comparison, ROUNDS, |comparison, random| {
+        let size = random.pick(inputs::SIZES);
+        let gaps = inputs::lawful_gaps(random, size.into(), 20);
+        let mut file = inputs::part_met_of(random, size, &gaps);
+        if random.once_in(4) {
+            file = damaged(random, plain::PART_MET, &file);
+        }
+        let other = random.pick(inputs::SIZES);
+        let size = if random.once_in(10) { other } else { size };
+        let record = inputs::some_record(random, size.into());
+        compare_put(comparison, &file, &record);
+    });
+    for_each_round(&mut comparison, LONG_ROUNDS, |comparison, random| {
+        let file = inputs::long_part_met(random, plain::MET_CEILING - 600);
+        let gaps = inputs::lawful_gaps(random, inputs::LONG_PART_SIZE.into(), 64);
+        compare_put(comparison, &file, &inputs::gap_record(inputs::LONG_PART_SIZE.into(), &gaps, 0));
+    });
+    comparison.assert_seen("put gaps", &[0, 1, 2, 5, 6, 7, 8, 9, 10]);
+}
+
+fn compare_put(comparison: &mut Comparison, file: &[u8], record: &[u64]) {
+    comparison.writing("put gaps", &[file, &bytes_of(record)], |calls, output, written| {
+        (calls.put_gaps)(file, record, output, written)
+    });
+}
+
+#[test]
+fn saving() {
+    let mut comparison = Comparison::new(29_000_000);
+    for_each_round(&mut comparison, ROUNDS, |comparison, random| {
+        let saved = input(random, plain::PART_MET);
+        let (stored, opened) = stored_and_opened(random);
+        comparison.writing("save", &[&stored, &opened, &saved], |calls, output, written| {
+            (calls.save)(&stored, &opened, &saved, output, written)
+        });
+    });
+    comparison.assert_seen("save", &[0, 1, 2, 5, 6, 7, 8, 9, 10, 11]);
+}
+
+/// The same bytes, or bytes that differ in one place or in length.
+fn stored_and_opened(random: &mut Random) -> (Vec<u8>, Vec<u8>) {
+    let length = random.pick(&[0, 0, 1, 30, 3_000]);
+    let stored = random.bytes(length);
+    let mut opened = stored.clone();
+    match random.below(5) {
+        0 => opened.push(0),
+        1 => drop(opened.pop()),
+        2 if length > 0 => opened[random.below(length)] ^= 1,
+        _ => (),
+    }
+    (stored, opened)
+}
+
+fn compare_truth(comparison: &mut Comparison, query: &[u8], tags: &[u8]) -> u8 {
+    let (_, truth) = comparison.same("truth", &[query, tags], |calls| {
+        let mut truth = 9;
+        ((calls.truth)(query, tags, &mut truth), truth)
+    });
+    truth
+}
+
+/// A query that is mostly shallow, so that its truth hangs on few tags.
+fn asked_query(random: &mut Random) -> Vec<u8> {
+    let depth = random.pick(&[1, 1, 1, 2, 2, 3, 24, 25]);
+    let mut query = Vec::new();
+    inputs::query(random, depth, &mut query);
+    query
+}
+
+#[test]
+fn truths() {
+    let mut comparison = Comparison::new(30_000_000);
+    let mut seen = [0; 10];
+    for_each_round(&mut comparison, ROUNDS, |comparison, random| {
+        let mut query = asked_query(random);
+        let mut tags = Vec::new();
+        let count = random.pick(&[0, 3, 30, 100]);
+        inputs::tags(random, count, &mut tags);
+        if random.once_in(8) {
+            query = damaged(random, plain::LONE_QUERY, &query);
+        }
+        if random.once_in(8) {
+            tags = damaged(random, plain::LONE_TAGS, &tags);
+        }
+        seen[usize::from(compare_truth(comparison, &query, &tags))] += 1;
+    });
+    for_each_round(&mut comparison, LONG_ROUNDS, |comparison, random| {
+        let query = inputs::grown(random, plain::LONE_QUERY, 3_000);
+        let length = long_length(random, plain::LONE_TAGS);
+        let tags = inputs::grown(random, plain::LONE_TAGS, length);
+        compare_truth(comparison, &query, &tags);
+    });
+    comparison.assert_seen("truth", &[0, 1, 5, 6, 7]);
+    println!("truth: {} no, {} yes, {} refused", seen[0], seen[1], seen[9]);
+    assert!(seen[0] > 1_000 && seen[1] > 1_000, "both truths are seen");
+}
+
+/// Texts of every length that matters to a count or a ceiling.
+fn written_text(random: &mut Random) -> Vec<u8> {
+    match random.below(10) {
+        0 => {
+            vec![b'x'; random.pick(&[65_275, 65_276, 65_277, 65_530, 65_533, 65_534, 65_535, 65_536, 70_000])]
+        }
+        _ => inputs::text(random),
+    }
+}
+
+fn written_name(random: &mut Random) -> Vec<u8> {
+    match random.below(6) {
+        0 => vec![b'n'; random.pick(&[0, 1, 2, 254, 255, 256, 257, 65_528, 65_529, 65_535, 65_536, 70_000])],
+        _ => inputs::name(random),
+    }
+}
+
+#[test]
+fn writers_of_leaves() {
+    let mut comparison = Comparison::new(31_000_000);
+    for_each_round(&mut comparison, ROUNDS, |comparison, random| {
+        let (text, name) = (written_text(random), written_name(random));
+        let (number, bound) = (random.dword(), random.pick(&[1, 1, 1, 2, 2, 2, 0, 3, 255]));
+        comparison.writing("keyword", &[&text], |calls, output, written| {
+            (calls.write_keyword)(&text, output, written)
+        });
+        comparison.writing("field", &[&text, &name], |calls, output, written| {
+            (calls.write_field)(&text, &name, output, written)
+        });
+        comparison.writing("limit", &[&[bound], &name], |calls, output, written| {
+            (calls.write_limit)(number, bound, &name, output, written)
+        });
+    });
+    comparison.assert_seen("keyword", &[0, 6, 10]);
+    comparison.assert_seen("field", &[0, 5, 6, 10]);
+    comparison.assert_seen("limit", &[0, 5, 6, 10]);
+}
+
+#[test]
+fn writers_of_joins() {
+    let mut comparison = Comparison::new(32_000_000);
+    for_each_round(&mut comparison, ROUNDS, |comparison, random| {
+        let operation = random.pick(&[0, 1, 2, 0, 1, 2, 0, 1, 2, 3, 255]);
+        let (left, right) = (side(random), side(random));
+        comparison.writing("join", &[&[operation], &left, &right], |calls, output, written| {
+            (calls.write_join)(operation, &left, &right, output, written)
+        });
+    });
+    comparison.assert_seen("join", &[0, 1, 5, 6, 7, 10]);
+}
+
+/// A query to be joined, seldom damaged or near the byte ceiling.
+fn side(random: &mut Random) -> Vec<u8> {
+    match random.below(12) {
+        0 => {
+            let query = lone_query(random);
+            damaged(random, plain::LONE_QUERY, &query)
+        }
+        1 => {
+            let text = vec![b'x'; random.pick(&[30_000, 32_761, 32_764, 32_765, 65_533])];
+            let mut query = vec![1];
+            inputs::counted(&text, &mut query);
+            query
+        }
+        _ => lone_query(random),
+    }
+}
+
+#[test]
+fn writers_of_tags() {
+    let mut comparison = Comparison::new(33_000_000);
+    for_each_round(&mut comparison, ROUNDS, |comparison, random| {
+        let (name, text) = (written_name(random), written_text(random));
+        let number = random.dword();
+        let length = random.pick(&[16, 16, 16, 17, 15, 0]);
+        let hash = random.bytes(length);
+        comparison.writing("text tag", &[&name, &text], |calls, output, written| {
+            (calls.write_text_tag)(&name, &text, output, written)
+        });
+        comparison.writing("dword tag", &[&name], |calls, output, written| {
+            (calls.write_dword_tag)(&name, number, output, written)
+        });
+        comparison.writing("float tag", &[&name], |calls, output, written| {
+            (calls.write_float_tag)(&name, number, output, written)
+        });
+        comparison.writing("hash tag", &[&name, &hash], |calls, output, written| {
+            (calls.write_hash_tag)(&name, &hash, output, written)
+        });
+    });
+    for call in ["text tag", "dword tag", "float tag"] {
+        comparison.assert_seen(call, &[0, 5, 6, 10]);
+    }
+    comparison.assert_seen("hash tag", &[0, 1, 5, 6, 10]);
+}
+
+/// Lists and queries written from where they lie, and from where they do not.
+#[test]
+fn writers_by_place() {
+    let mut comparison = Comparison::new(34_000_000);
+    for_each_round(&mut comparison, ROUNDS, |comparison, random| {
+        let mut bytes = lone_tags(random);
+        let listed = u32::from_le_bytes(bytes[..4].try_into().expect("a count"));
+        if random.once_in(4) {
+            bytes = damaged(random, plain::LONE_TAGS, &bytes);
+        }
+        let at = random.pick(&[4, 4, 4, 4, 0, 5, bytes.len(), bytes.len() + 1, usize::MAX]);
+        let count = random.pick(&[listed, listed, listed / 2, 0, listed + 1, u32::MAX]);
+        compare_tag_list_writing(comparison, &bytes, at, count);
+        let mut bytes = vec![0; random.below(3)];
+        let at = bytes.len();
+        bytes.extend(side(random));
+        compare_query_writing(comparison, &bytes, at);
+    });
+    for_each_round(&mut comparison, LONG_ROUNDS, |comparison, random| {
+        let length = long_length(random, plain::LONE_TAGS);
+        let bytes = inputs::grown(random, plain::LONE_TAGS, length);
+        let count = u32::from_le_bytes(bytes[..4].try_into().expect("a count"));
+        compare_tag_list_writing(comparison, &bytes, 4, count);
+        let bytes = inputs::grown(random, plain::LONE_QUERY, length);
+        compare_query_writing(comparison, &bytes, 0);
+    });
+    comparison.assert_seen("tag list", &[0, 1, 5, 6, 10]);
+    comparison.assert_seen("query", &[0, 1, 5, 6, 10]);
+}
+
+fn compare_tag_list_writing(comparison: &mut Comparison, bytes: &[u8], at: usize, count: u32) {
+    let place = [at.to_le_bytes(), u64::from(count).to_le_bytes()].concat();
+    comparison.writing("tag list", &[bytes, &place], |calls, output, written| {
+        (calls.write_tag_list)(bytes, at, count, output, written)
+    });
+}
+
+fn compare_query_writing(comparison: &mut Comparison, bytes: &[u8], at: usize) {
+    comparison.writing("query", &[bytes, &at.to_le_bytes()], |calls, output, written| {
+        (calls.write_query)(bytes, at, output, written)
+    });
+}
+
+/// The inputs of the program `vectors`, and the lines that it prints for them.
+#[test]
+fn vectors() {
+    let mut comparison = Comparison::new(35_000_000);
+    let folder = concat!(env!("CARGO_MANIFEST_DIR"), "/../crates/vectors");
+    let expected = std::fs::read_to_string(format!("{folder}/stdout")).expect("the expected lines");
+    let mut lines = expected.lines();
+    for file in ["vectors.bin", "samples.bin"] {
+        let run = std::fs::read(format!("{folder}/data/{file}")).expect("the inputs");
+        for (kind, bytes) in vector_inputs(&run) {
+            compare_reading(&mut comparison, kind, bytes);
+            assert_eq!(Some(line(kind, bytes).as_str()), lines.next());
+        }
+    }
+    assert_eq!(None, lines.next());
+}
+
+/// A letter, a DWORD length and the bytes, one after another.
+fn vector_inputs(mut run: &[u8]) -> Vec<(u8, &[u8])> {
+    let mut inputs = Vec::new();
+    while let [letter, a, b, c, d, rest @ ..] = run {
+        let kind = b"scukvp".iter().position(|known| known == letter).expect("a letter");
+        let (bytes, behind) = rest.split_at(u32::from_le_bytes([*a, *b, *c, *d]) as usize);
+        inputs.push((kind as u8, bytes));
+        run = behind;
+    }
+    inputs
+}
+
+/// The line of the reading program.
+fn line(kind: u8, bytes: &[u8]) -> String {
+    let mut fields = [0; plain::FIELDS];
+    match (archive::ARCHIVE.read)(kind, bytes, &mut fields) {
+        0 => format!("accepted {} {}", fields[usize::from(kind < 3)], bytes.len()),
+        number => format!("refused {number}"),
+    }
+}

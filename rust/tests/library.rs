@@ -1,0 +1,348 @@
+//! The library's functions: what was put together by hand is read as it was meant, and what is written is read back.
+
+#[path = "support/packets.rs"]
+mod packets;
+
+use ed2k::write::{self, TagList};
+use ed2k::{
+    Address, Body, Bound, Gap, GapRecord, Hash, Kind, Link, Message, Node, Operator, Packet, Record, Refusal,
+    Tag, TagValue,
+};
+use packets::HASH;
+
+const ONE: Address = Address { ip: u32::from_le_bytes([80, 10, 10, 3]), port: 4662 };
+const OTHER: Address = Address { ip: u32::from_le_bytes([10, 0, 0, 7]), port: 4672 };
+
+fn assert_four_tags<'a>(tags: impl ExactSizeIterator<Item = Tag<'a>>) {
+    assert_eq!(tags.len(), 4);
+    let expected = [
+        Tag { name: &[0x01], value: TagValue::Text(b"left last.stl") },
+        Tag { name: &[0x02], value: TagValue::Dword(5000) },
+        Tag { name: b"girth", value: TagValue::Float(23.5f32.to_bits()) },
+        Tag { name: b"twin", value: TagValue::Hash(Hash(HASH)) },
+    ];
+    assert_eq!(tags.collect::<Vec<_>>(), expected);
+}
+
+fn assert_record(record: &Record<'_>) {
+    assert_eq!((record.hash, record.client, record.port), (Hash(HASH), 0x0100_007F, 4662));
+}
+
+fn assert_full_record(record: &Record<'_>) {
+    assert_record(record);
+    assert_four_tags(record.tags.clone());
+}
+
+/// Reads the packet of this shape, by its number in ed2k.h, and hands its body over.
+fn with_shape(shape: usize, check: impl FnOnce(Body<'_>)) {
+    let (link, bytes) = &packets::packet_of_each_shape()[shape];
+    let packet: Packet<'_> = ed2k::read_packet(*link, bytes).expect("the packet is accepted");
+    assert_eq!(packet.opening, 0xE3);
+    assert_eq!(packet.opcode, bytes[if *link == Link::Udp { 1 } else { 5 }]);
+    assert!(ed2k::opcode_name(*link, packet.opcode).is_some());
+    check(packet.body);
+}
+
+macro_rules! body {
+    ($shape:expr, $pattern:pat => $check:expr) => {
+        with_shape($shape, |body| match body {
+            $pattern => $check,
+            other => panic!("shape {} is read as {other:?}", $shape),
+        })
+    };
+}
+
+#[test]
+fn bodies_of_numbers_and_texts_have_their_values() {
+    body!(0, Body::Nothing => ());
+    body!(2, Body::Hash(hash) => assert_eq!(hash.to_string(), "A00102030405060708090A0B0C0D0E0F"));
+    body!(3, Body::Dword(rank) => assert_eq!(rank, 17));
+    body!(4, Body::TwoDwords(users, files) => assert_eq!((users, files), (3, 5)));
+    body!(5, Body::Text(text) => assert_eq!(text, b"welcome"));
+    body!(6, Body::TwoTexts(name, more) => assert_eq!((name, more), (&b"server"[..], &b"a description"[..])));
+    body!(17, Body::HashText { hash, text } => assert_eq!((hash, text), (Hash(HASH), &b"left last.stl"[..])));
+    body!(22, Body::StatusRequest { extended, number } => assert_eq!((extended, number), (true, 0x5AAA_0201)));
+    body!(23, Body::Status(numbers) => assert_eq!(numbers, [9, 3, 5]));
+    body!(24, Body::ExtendedStatus { bytes, numbers } => assert_eq!((bytes, numbers), ([1, 2], [3, 5, 8])));
+}
+
+#[test]
+fn bodies_of_addresses_have_their_values() {
+    body!(7, Body::Address(address) => assert_eq!(address.to_string(), "80.10.10.3:4662"));
+    body!(8, Body::Addresses(list) => assert_eq!(list.collect::<Vec<_>>(), [ONE, OTHER]));
+    body!(9, Body::HashAddresses { hash, addresses } => {
+        assert_eq!(hash, Hash(HASH));
+        assert_eq!(addresses.collect::<Vec<_>>(), [ONE, OTHER]);
+    });
+    body!(10, Body::AddressDword { address, number } => assert_eq!((address, number), (ONE, 77)));
+    body!(11, Body::HashAddressTags { hash, address, tags } => {
+        assert_eq!((hash, address), (Hash(HASH), ONE));
+        assert_four_tags(tags);
+    });
+}
+
+#[test]
+fn bodies_of_records_have_their_values() {
+    body!(12, Body::Record(record) => assert_full_record(&record));
+    body!(13, Body::Records(records) => {
+        assert_eq!(records.len(), 2);
+        let records: Vec<_> = records.collect();
+        assert_full_record(&records[0]);
+        assert_record(&records[1]);
+        assert_eq!(records[1].tags.len(), 0);
+    });
+    body!(14, Body::RecordsFlag { mut records, flag } => {
+        assert_full_record(&records.next().unwrap());
+        assert!(records.next().is_none());
+        assert_eq!(flag, 1);
+    });
+    body!(15, Body::RecordAddress { record, address } => {
+        assert_full_record(&record);
+        assert_eq!(address, ONE);
+    });
+    body!(16, Body::Hello { record, address } => {
+        assert_full_record(&record);
+        assert_eq!(address, ONE);
+    });
+}
+
+#[test]
+fn bodies_about_parts_have_their_values() {
+    body!(18, Body::Hashset { hash, hashes } => {
+        assert_eq!(hash, Hash(HASH));
+        assert_eq!(hashes.collect::<Vec<_>>(), [Hash(HASH), Hash([9; 16])]);
+    });
+    body!(19, Body::SendingPart { hash, start, end, data } => {
+        assert_eq!((hash, start, end, data), (Hash(HASH), 10, 14, &b"data"[..]));
+    });
+    body!(20, Body::RequestParts { hash, starts, ends } => {
+        assert_eq!((hash, starts, ends), (Hash(HASH), [10, 20, 30], [15, 25, 30]));
+    });
+    body!(21, Body::FileStatus { hash, status } => {
+        assert_eq!((hash, status.parts), (Hash(HASH), 9));
+        let held: Vec<u16> = (0..20).filter(|part| status.has(*part)).collect();
+        assert_eq!(held, [0, 2, 8]);
+    });
+}
+
+#[test]
+fn a_query_is_walked_in_its_order() {
+    let walk = |query: ed2k::Query<'_>| {
+        assert_eq!(query.depth(), 3);
+        assert_eq!(query.encoded(), packets::query());
+        let steps: Vec<_> = query.nodes().collect();
+        assert_eq!(steps.iter().map(|step| step.level).collect::<Vec<_>>(), [1, 2, 3, 3, 2]);
+        assert_eq!(steps.iter().map(|step| step.byte_count).sum::<usize>(), packets::query().len());
+        assert_eq!(steps[0].node, Node::Operator(Operator::AndNot));
+        assert_eq!(steps[1].node, Node::Operator(Operator::Or));
+        assert_eq!(steps[2].node, Node::Keyword(b"last"));
+        assert_eq!(steps[3].node, Node::Field { text: b"Doc", name: &[0x03] });
+        assert_eq!(steps[4].node, Node::Limit { number: 100, bound: Bound::Min, name: &[0x02] });
+    };
+    walk(ed2k::read_query(&packets::query()).unwrap());
+    body!(1, Body::Query(query) => walk(query));
+}
+
+#[test]
+fn written_queries_are_those_put_together_by_hand() {
+    let or =
+        write::join(Operator::Or, &write::keyword(b"last").unwrap(), &write::field(b"Doc", &[0x03]).unwrap());
+    let limit = write::limit(100, Bound::Min, &[0x02]).unwrap();
+    let query = write::join(Operator::AndNot, &or.unwrap(), &limit).unwrap();
+    assert_eq!(query, packets::query());
+    let (_, packet) = &packets::packet_of_each_shape()[1];
+    assert_eq!(write::query(packet, 6).unwrap(), query);
+    assert_eq!(write::keyword(&[b'a'; 65_534]), Err(Refusal::Limit));
+    assert_eq!(write::field(b"Doc", b""), Err(Refusal::Choice));
+    assert_eq!(write::field(b"Doc", &[b'n'; 256]), Err(Refusal::Limit));
+    assert_eq!(write::join(Operator::And, &[9], &query), Err(Refusal::Choice));
+    assert_eq!(write::query(packet, packet.len()), Err(Refusal::Short));
+    assert_eq!(write::query(packet, usize::MAX), Err(Refusal::Short));
+}
+
+#[test]
+fn a_query_has_at_most_depth_24() {
+    let leaf = write::keyword(b"a").unwrap();
+    let deeper = |query: Vec<u8>, _| write::join(Operator::And, &query, &leaf).unwrap();
+    let deep = (1..24).fold(leaf.clone(), deeper);
+    assert_eq!(ed2k::read_query(&deep).unwrap().depth(), ed2k::QUERY_DEPTH);
+    assert_eq!(write::join(Operator::And, &deep, &leaf), Err(Refusal::Limit));
+    let too_deep = [&[0, 0][..], &deep, &leaf].concat();
+    assert_eq!(ed2k::read_query(&too_deep).unwrap_err(), Refusal::Limit);
+}
+
+#[test]
+fn written_tags_are_read_back() {
+    let list = TagList::new().text(&[0x01], b"left last.stl").unwrap().dword(&[0x02], 5000).unwrap();
+    let list = list.float(b"girth", 23.5f32.to_bits()).unwrap().hash(b"twin", Hash(HASH)).unwrap();
+    let bytes = list.finish().unwrap();
+    assert_eq!(bytes, packets::list(&packets::four_tags()));
+    assert_four_tags(ed2k::read_tags(&bytes).unwrap());
+    assert_eq!(TagList::new().finish().unwrap(), [0, 0, 0, 0]);
+    assert_eq!(write::dword_tag(b"", 1), Err(Refusal::Choice));
+    assert_eq!(write::hash_tag(&[1; 256], Hash(HASH)), Err(Refusal::Limit));
+    assert_eq!(write::text_tag(b"n", &[0; 65_536]), Err(Refusal::Limit));
+    assert_eq!(write::text_tag(&[1; 255], &[0; 65_535]).unwrap().len(), 65_795);
+    assert_eq!(write::tag_list(&bytes, 4, 5), Err(Refusal::Short));
+    assert_eq!(write::tag_list(&bytes, 4, 1).unwrap(), packets::list(&packets::four_tags()[..1]));
+}
+
+#[test]
+fn a_lent_output_may_be_exactly_as_long_as_what_is_written() {
+    let mut output = [7; 12];
+    assert_eq!(write::keyword_into(b"last", &mut output[..6]), Err(Refusal::Room));
+    assert_eq!(output, [7; 12]);
+    assert_eq!(write::keyword_into(b"last", &mut output[..7]), Ok(7));
+    assert_eq!(output, *b"\x01\x04\0last\x07\x07\x07\x07\x07");
+    assert_eq!(write::keyword_into(b"", &mut []), Err(Refusal::Room));
+}
+
+#[test]
+fn lists_know_their_bytes_and_can_be_walked_twice() {
+    let bytes = packets::known_met();
+    let mut entries = ed2k::read_known_met(&bytes).unwrap().entries;
+    assert_eq!((entries.len(), entries.byte_count()), (2, bytes.len() - 5));
+    let first = entries.next().unwrap();
+    assert_eq!(first.tags.encoded(), packets::list(&packets::four_tags()));
+    assert_eq!(first.tags.file_name(), Some(&b"left last.stl"[..]));
+    let mut tags = first.tags.clone();
+    tags.by_ref().for_each(drop);
+    assert_eq!(tags.encoded(), first.tags.encoded());
+    assert_four_tags(first.tags);
+    assert_eq!(first.part_hashes.collect::<Vec<_>>(), [Hash([0x5A; 16]); 2]);
+    assert_eq!((first.date, first.hash), (1_253_225_404, Hash(HASH)));
+    let second = entries.next().unwrap();
+    assert_eq!((second.part_hashes.len(), second.tags.encoded()), (0, &[0, 0, 0, 0][..]));
+    assert_eq!(second.tags.file_name(), None);
+    assert!(entries.next().is_none());
+}
+
+#[test]
+fn met_files_have_their_values() {
+    let bytes = packets::server_met();
+    let mut met = ed2k::read_server_met(&bytes).unwrap();
+    assert_eq!((met.opening, met.entries.len(), met.tail), (0x0E, 1, &b"made by a client"[..]));
+    let server = met.entries.next().unwrap();
+    assert_eq!(server.address.to_string(), "80.10.10.11:4661");
+    assert_eq!(server.tags.collect::<Vec<_>>(), [Tag { name: &[0x0C], value: TagValue::Dword(31) }]);
+
+    let bytes = packets::part_met(9, 3, 100, &[(0, 40)]);
+    let met = ed2k::read_part_met(&bytes).unwrap();
+    assert_eq!((met.opening, met.size, met.date, met.hash), (0xE0, 100, 9, Hash(HASH)));
+    assert_eq!((met.tags.len(), met.part_hashes.unwrap().len()), (4, 3));
+    assert!(met.block_hashes.is_none());
+
+    let bytes = packets::part_met_with_blocks();
+    let met = ed2k::read_part_met(&bytes).unwrap();
+    assert_eq!((met.opening, met.size, met.date), (0xE1, 972_800, 7));
+    assert_eq!(met.part_hashes.unwrap().collect::<Vec<_>>(), [Hash(HASH)]);
+    let blocks: Vec<_> = met.block_hashes.unwrap().map(|hash| hash.to_string()).collect();
+    assert_eq!(blocks, ["0808080808080808", "0909090909090909"]);
+}
+
+#[test]
+fn read_is_the_reading_of_each_kind() {
+    assert!(matches!(ed2k::read(Kind::KnownMet, &packets::known_met()), Ok(Message::KnownMet(_))));
+    assert!(matches!(ed2k::read(Kind::ServerMet, &packets::server_met()), Ok(Message::ServerMet(_))));
+    assert!(matches!(ed2k::read(Kind::PartMet, &packets::part_met(0, 0, 9, &[])), Ok(Message::PartMet(_))));
+    assert!(matches!(ed2k::read(Kind::Query, &packets::query()), Ok(Message::Query(_))));
+    assert!(matches!(ed2k::read(Kind::Tags, &[0, 0, 0, 0]), Ok(Message::Tags(_))));
+    for kind in Kind::ALL {
+        assert_eq!(ed2k::read(kind, b"").unwrap_err(), Refusal::Short);
+        assert_eq!(ed2k::read(kind, &vec![0; kind.ceiling() + 1]).unwrap_err(), Refusal::Limit);
+        assert_eq!(kind.word().parse(), Ok(kind));
+        assert_eq!(kind.letter().to_string().parse(), Ok(kind));
+    }
+    assert!("x".parse::<Kind>().is_err());
+}
+
+#[test]
+fn marking_keeps_the_record_where_it_is_refused() {
+    let gap = |start, end| Gap { start, end };
+    let every_second: Vec<Gap> = (0..64).map(|number| gap(number * 4, number * 4 + 3)).collect();
+    let mut record = GapRecord::from_gaps(256, &every_second).unwrap();
+    let before = record.clone();
+    assert_eq!(record.mark(1, 2), Err(Refusal::Limit));
+    assert_eq!(record.mark(9, 9), Err(Refusal::Range));
+    assert_eq!(record.mark(0, 257), Err(Refusal::Range));
+    assert_eq!(record, before);
+    assert_eq!(record.mark(0, 256), Ok(0));
+    assert_eq!((record.missing(), record.gaps().len()), (0, 0));
+
+    assert_eq!(GapRecord::from_gaps(100, &[gap(0, 10), gap(10, 20)]), Err(Refusal::Range));
+    assert_eq!(GapRecord::from_gaps(100, &[gap(0, 101)]), Err(Refusal::Range));
+    assert_eq!(GapRecord::from_gaps(1000, &[gap(0, 1); 65]), Err(Refusal::Range));
+    assert_eq!(GapRecord::all_missing(1 << 32), Err(Refusal::Range));
+    assert_eq!(GapRecord::all_missing(0).unwrap().missing(), 0);
+}
+
+#[test]
+fn gaps_are_put_into_a_file_and_read_from_it() {
+    let file = packets::part_met(9, 3, 100, &[(0, 40)]);
+    let mut record = GapRecord::read(&file).unwrap();
+    assert_eq!(record.mark(10, 20), Ok(30));
+    let changed = ed2k::put_gaps(&file, &record).unwrap();
+    assert_eq!(changed, packets::part_met(9, 3, 100, &[(0, 10), (20, 40)]));
+    let mut room = vec![7; changed.len() - 1];
+    assert_eq!(ed2k::put_gaps_into(&file, &record, &mut room), Err(Refusal::Room));
+    assert!(room.iter().all(|byte| *byte == 7));
+    let other_size = GapRecord::all_missing(99).unwrap();
+    assert_eq!(ed2k::put_gaps(&file, &other_size), Err(Refusal::Range));
+    assert_eq!(ed2k::put_gaps(&file[1..], &record), Err(Refusal::Opening));
+}
+
+#[test]
+fn a_record_with_the_most_and_longest_gap_tags_fits_into_its_file() {
+    let top = 4_294_967_295;
+    let gaps: Vec<Gap> = (0..64).map(|n| Gap { start: top - 2 * n - 1, end: top - 2 * n }).rev().collect();
+    let record = GapRecord::from_gaps(top, &gaps).unwrap();
+    let changed = ed2k::put_gaps(&packets::part_met(0, 0, top as u32, &[]), &record).unwrap();
+    assert_eq!(GapRecord::read(&changed).unwrap(), record);
+}
+
+#[test]
+fn a_save_is_refused_by_its_own_bytes_then_by_the_stored_ones() {
+    let new = packets::part_met(9, 0, 100, &[]);
+    assert_eq!(ed2k::save(b"a", b"b", &new[1..]), Err(Refusal::Opening));
+    assert_eq!(ed2k::save(b"a", b"b", &new), Err(Refusal::Conflict));
+    assert_eq!(ed2k::save(b"ab", b"a", &new), Err(Refusal::Conflict));
+    assert_eq!(ed2k::save(b"", b"a", &new), Err(Refusal::Conflict));
+    assert_eq!(ed2k::save(b"a", b"a", &new).unwrap(), new);
+    let mut small = vec![7; new.len() - 1];
+    assert_eq!(ed2k::save_into(b"a", b"a", &new, &mut small), Err(Refusal::Room));
+    assert!(small.iter().all(|byte| *byte == 7));
+}
+
+#[test]
+fn truth_is_that_of_the_papers() {
+    let tags = packets::list(&packets::four_tags());
+    let truth = |query: Result<Vec<u8>, Refusal>| ed2k::truth(&query.unwrap(), &tags).unwrap();
+    assert!(truth(write::keyword(b"t las")));
+    assert!(!truth(write::keyword(b"Last")));
+    assert!(truth(write::field(b"left last.stl", &[0x01])));
+    assert!(!truth(write::field(b"left last", &[0x01])));
+    assert!(truth(write::limit(5000, Bound::Min, &[0x02])));
+    assert!(truth(write::limit(5000, Bound::Max, &[0x02])));
+    assert!(!truth(write::limit(5001, Bound::Min, &[0x02])));
+    assert_eq!(ed2k::truth(&[9], &[9]), Err(Refusal::Choice));
+    assert_eq!(ed2k::truth(&write::keyword(b"a").unwrap(), &[9]), Err(Refusal::Short));
+}
+
+#[test]
+fn parts_and_blocks_are_counted_as_in_the_papers() {
+    let counts = |size| (ed2k::part_count(size), ed2k::block_count(size));
+    assert_eq!(counts(0), (0, 0));
+    assert_eq!(counts(9_728_000), (1, 20));
+    assert_eq!(counts(9_728_001), (2, 21));
+    assert_eq!(counts(4_294_967_295), (442, 8_831));
+}
+
+#[test]
+fn refusals_have_their_numbers() {
+    for (place, refusal) in Refusal::ALL.into_iter().enumerate() {
+        assert_eq!(usize::from(refusal.number()), place + 1);
+        assert_eq!(Refusal::from_number(refusal.number()), Some(refusal));
+    }
+    assert_eq!(Refusal::from_number(0), None);
+    assert_eq!(Refusal::from_number(12), None);
+}

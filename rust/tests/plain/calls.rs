@@ -1,0 +1,85 @@
+//! The calls of `ed2k.h` with lent slices, so that one test or measurement runs through the archive and through the plain reading.
+
+use super::*;
+
+#[allow(clippy::type_complexity)]
+pub struct Calls {
+    pub read: fn(u8, &[u8], &mut [u64]) -> u8,
+    pub read_item: fn(Item, &[u8], usize, &mut [u64]) -> u8,
+    pub part_count: fn(u32) -> u32,
+    pub block_count: fn(u32) -> u32,
+    pub read_gaps: fn(&[u8], &mut [u64]) -> u8,
+    pub all_missing: fn(u64, &mut [u64]) -> u8,
+    pub count_missing: fn(&[u64], &mut u64) -> u8,
+    pub mark: fn(&mut [u64], u64, u64, &mut u64) -> u8,
+    pub put_gaps: fn(&[u8], &[u64], &mut [u8], &mut u64) -> u8,
+    pub save: fn(&[u8], &[u8], &[u8], &mut [u8], &mut u64) -> u8,
+    pub truth: fn(&[u8], &[u8], &mut u8) -> u8,
+    pub write_keyword: fn(&[u8], &mut [u8], &mut u64) -> u8,
+    pub write_field: fn(&[u8], &[u8], &mut [u8], &mut u64) -> u8,
+    pub write_limit: fn(u32, u8, &[u8], &mut [u8], &mut u64) -> u8,
+    pub write_join: fn(u8, &[u8], &[u8], &mut [u8], &mut u64) -> u8,
+    pub write_text_tag: fn(&[u8], &[u8], &mut [u8], &mut u64) -> u8,
+    pub write_dword_tag: fn(&[u8], u32, &mut [u8], &mut u64) -> u8,
+    pub write_float_tag: fn(&[u8], u32, &mut [u8], &mut u64) -> u8,
+    pub write_hash_tag: fn(&[u8], &[u8], &mut [u8], &mut u64) -> u8,
+    pub write_tag_list: fn(&[u8], usize, u32, &mut [u8], &mut u64) -> u8,
+    pub write_query: fn(&[u8], usize, &mut [u8], &mut u64) -> u8,
+}
+
+pub const PLAIN: Calls = Calls {
+    read: |kind, bytes, fields| lend(read(kind, bytes), fields),
+    read_item: |item, bytes, at, fields| lend(read_item(item, bytes, at), fields),
+    part_count,
+    block_count,
+    read_gaps: |file, record| number(read_gaps(file, record), |()| ()),
+    all_missing: |size, record| number(all_missing(size, record), |()| ()),
+    count_missing: |record, missing| number(count_missing(record), |count| *missing = count),
+    mark: |record, start, end, missing| number(mark(record, start, end), |count| *missing = count),
+    put_gaps: |file, record, output, written| length(put_gaps(file, record, output), written),
+    save: |stored, opened, saved, output, written| length(save(stored, opened, saved, output), written),
+    truth: |query, tags, holds| number(truth(query, tags), |truth| *holds = truth.into()),
+    write_keyword: |text, output, written| length(write_keyword(text, output), written),
+    write_field: |text, name, output, written| length(write_field(text, name, output), written),
+    write_limit: |number, bound, name, output, written| {
+        length(write_limit(number, bound, name, output), written)
+    },
+    write_join: |operation, left, right, output, written| {
+        length(write_join(operation, left, right, output), written)
+    },
+    write_text_tag: |name, text, output, written| length(write_text_tag(name, text, output), written),
+    write_dword_tag: |name, number, output, written| length(write_dword_tag(name, number, output), written),
+    write_float_tag: |name, bits, output, written| length(write_float_tag(name, bits, output), written),
+    write_hash_tag: |name, hash, output, written| length(write_hash_tag(name, hash, output), written),
+    write_tag_list: |bytes, at, count, output, written| {
+        length(write_tag_list(bytes, at, count, output), written)
+    },
+    write_query: |bytes, at, output, written| length(write_query(bytes, at, output), written),
+};
+
+#[inline]
+fn number<T>(answer: Answer<T>, accept: impl FnOnce(T)) -> u8 {
+    match answer {
+        Ok(value) => {
+            accept(value);
+            0
+        }
+        Err(refusal) => refusal as u8,
+    }
+}
+
+#[inline]
+fn length(answer: Answer<usize>, written: &mut u64) -> u8 {
+    number(answer, |length| *written = length as u64)
+}
+
+/// Room for the fields is asked for last.
+#[inline]
+fn lend(answer: Answer<Fields>, fields: &mut [u64]) -> u8 {
+    let placed = answer.and_then(|read| {
+        let place = fields.first_chunk_mut().ok_or(Refusal::Room)?;
+        *place = read.numbers;
+        Ok(())
+    });
+    number(placed, |()| ())
+}
