@@ -35,7 +35,6 @@ use Rattle.bodychecking.specs.Bodies.{BodyRule, bodyThere, bytesOf, quer
 use Rattle.bodychecking.specs.Extents.{Bounded, brokenRule, flagRule, formRule, rangeRule, rangesRule}
 use Rattle.bodychecking.proofs.Places.{addresses-listed, both-first, both-last, hash-valid, hashes-listed, query-listed, records-listed, run-bytes, run-size, tags-listed, there-at}
 
-
 module _ (s : List ℕ) (hb : Bytes s) where
   record-valid : (r : Record) → Dword (r .client) × Word (r .port) → IsThere (recordThere s r) → RecordFits (recordIn s r) → ValidRecord (recordIn s r)
   record-valid r b t f =

@@ -97,7 +97,6 @@ brokenRule (Body.StatusRequest p) = formRule (p .form) (p .number)
 brokenRule (Body.Status t) = 0
 brokenRule (Body.ExtendedStatus p) = 0
 
-
 -- The numbers of a body are those of their fields.
 abbrev pub Bounded : Body → Type 0
 Bounded Body.Nothing = Unit {0}

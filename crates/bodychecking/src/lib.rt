@@ -275,7 +275,6 @@ fn form_rule(form: Form, number: u32) -> u8
     }
 }
 
-
 // The rule that a body of its shape breaks, or 0; most shapes have none. Numbers are bound, used or not, since that they keep to
 // their fields is known where they are.
 fn broken_rule(b: Body) -> u8
@@ -356,9 +355,15 @@ fn body_extent(src: &[u8], b: Body) -> Extent
         Body::Hello(r, _) => behind_bytes(7, entry_extent(src, r.hash, r.tags)),
         Body::HashText(h, t) => both(hash_extent(src, h), text_extent(src, t)),
         Body::Hashset(h, l) => both(hash_extent(src, h), hashes_extent(src, l)),
-        Body::SendingPart(p) => behind_bytes(8, both(hash_extent(src, p.hash), place_extent(src, p.data))),
+        Body::SendingPart(p) => behind_bytes(
+            8,
+            both(hash_extent(src, p.hash), place_extent(src, p.data)),
+        ),
         Body::RequestParts(p) => behind_bytes(24, hash_extent(src, p.hash)),
-        Body::FileStatus(p) => behind_bytes(2, both(hash_extent(src, p.hash), bits_extent(src, p.bits, p.parts))),
+        Body::FileStatus(p) => behind_bytes(
+            2,
+            both(hash_extent(src, p.hash), bits_extent(src, p.bits, p.parts)),
+        ),
         Body::StatusRequest(_) => fixed(4),
         Body::Status(_) => fixed(12),
         Body::ExtendedStatus(_) => fixed(16),

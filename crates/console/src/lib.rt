@@ -1,8 +1,11 @@
-// What the programs share: reading a descriptor until a buffer is full, and printing the line for some bytes.
+// What the programs share: reading a descriptor until a buffer is full, the inputs of a file, and printing the line for some bytes.
 //
 // No contract can say what is read or written, so these say how much was read at most, and those that print say nothing.
 use libc::STDOUT_FILENO;
 use reader::Summary;
+use wire::ByteStep;
+use wire::Cursor;
+use wire::DwordStep;
 ghost use Prim.Native.Nat.{_≤_};
 ghost use lib.ListN.{length};
 
@@ -27,6 +30,42 @@ pub fn read_all(fd: i32, out: &mut [u8]) -> usize
         at += n;
     }
     at
+}
+
+// Reads n bytes into the front of the buffer: whether it holds them and they come.
+fn read_front(fd: i32, out: &mut [u8], n: usize) -> bool {
+    if out.len() < n {
+        return false;
+    }
+    read_all(fd, &mut out[..n]) == n
+}
+
+// An input of a file: a letter for its kind, and how many bytes it has.
+pub enum Input {
+    Of(u8, usize),
+    End,
+}
+
+// A file of inputs is a run of them: a letter, a DWORD length, and as many bytes. The bytes of the next one fill the front of the
+// buffer. The run ends with the file, at an input that breaks off, and at one that the buffer does not hold.
+pub fn next_input(fd: i32, bytes: &mut [u8]) -> Input {
+    if !read_front(fd, bytes, 5) {
+        return Input::End;
+    }
+    let first = Cursor { at: 0 };
+    let b = first.byte(bytes);
+    let ByteStep::Got(letter, after) = b else {
+        return Input::End;
+    };
+    let d = after.dword(bytes);
+    let DwordStep::Got(count, _) = d else {
+        return Input::End;
+    };
+    let n = count as usize;
+    if !read_front(fd, bytes, n) {
+        return Input::End;
+    }
+    Input::Of(letter, n)
 }
 
 // `refused`, with the number of the refusal.

@@ -1,4 +1,3 @@
-use Prim.Native.Nat.{_≤_}
 use mathlib.Core.Path.{_≡_, refl}
 use native.Mathlib.Omega.{arith}
 use lib.ListN.{length}
@@ -7,16 +6,16 @@ use Rattle.vectors.proofs.print_all.Statement.{statement}
 use Rattle.vectors.proofs.print_all.Tie as tie
 
 abbrev Inv-loop : tie.InvT-loop
-Inv-loop fd bytes₀ turns₀ bytes turns = (5 ≤ length bytes) × (length bytes ≡ length bytes₀)
+Inv-loop fd bytes₀ turns₀ bytes turns = length bytes ≡ length bytes₀
 
 abbrev μ-loop : tie.MeasureT-loop
 μ-loop fd bytes₀ turns₀ bytes turns = turns
 
 loop-holds : tie.Need-loop-holds Inv-loop μ-loop
-loop-holds c = (c .before .pre, refl)
+loop-holds c = refl
 
 print-next-requires : tie.Need-print-next-requires Inv-loop μ-loop
-print-next-requires c κs = c .before .before .loop .inv .0
+print-next-requires c κs = search needs
 
 sub-turns : tie.Need-sub-turns Inv-loop μ-loop
 sub-turns c = omega arith

@@ -1,0 +1,3 @@
+mod Fields
+mod GapNumbers
+mod Writes

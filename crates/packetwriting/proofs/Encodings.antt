@@ -1,0 +1,142 @@
+-- The encoding of a packet whose places lie in a slice is made of bytes.
+use mathlib.Core.Path.{_≡_, refl}
+use mathlib.Core.Bool.{Bool, true, false}
+use mathlib.Core.List.{List, [], _∷_, _++_}
+use Prim.Native.Nat.{ℕ, _+_, _-_, _≤_}
+use native.Mathlib.Omega.{arith}
+use lib.ListN.{length, drop, take, take-append-drop}
+use lib.Dec.{leb}
+use borrow.Author.Tests.{leb-true}
+use Rattle.format.specs.Tables.{pick}
+use Rattle.format.specs.Messages as messages
+use Rattle.format.specs.Layout.{encode, encodeAddress, encodeAll, encodeBody, encodeExtendedStatus, encodeFileStatus, encodeQuery, encodeRecord, encodeRequestParts, encodeSendingPart, encodeString, encodeTags, encodeTcp, encodeTriple, encodeUdp, littleEndian}
+use Rattle.format.specs.Rules.{Bytes}
+use Rattle.format.specs.Decoding.{Decoder, Outcome, bytesAt, decodeMany, decodeRun, fault, got, itemsOf, refused, short}
+use Rattle.format.specs.Order.{decodeAddress, decodeDword, decodeHash, decodeQuery, decodeRecord, decodeTag}
+use Rattle.format.proofs.Codec.{Codec, anywhere, bytes-drop, bytes-left, bytes-littleEndian, never, went}
+use Rattle.format.proofs.Items.{codec-address, codec-hash, codec-query, codec-record, codec-tag}
+use Rattle.format.proofs.Bits.{packed-bytes}
+use Rattle.format.proofs.Writing.{NeedsByte, lies, many-lies, query-needed, tag-needed}
+use Rattle.wire.specs.declared.Items.{Items}
+use Rattle.wire.specs.Meaning.{itemsIn}
+use Rattle.query.specs.Meaning.{queryOf}
+use Rattle.records.specs.declared.Record.{Record}
+use Rattle.records.specs.Meaning.{addressOf, recordIn}
+use Rattle.bodies.specs.declared.Body.{Body}
+use Rattle.bodies.specs.Meaning.{bodyIn, heldAt, tripleOf}
+use Rattle.packets.specs.declared.Link.{Link}
+use Rattle.packets.specs.declared.Packet.{Packet}
+use Rattle.bodychecking.specs.Bodies.{bytesOf}
+use Rattle.packetwriting.specs.Packets.{kindOf, packetOf}
+
+record Plain (l : List ℕ) : Type 0 where
+  bytes : Bytes l
+
+joined : {l r : List ℕ} → Plain l → Plain r → Plain (l ++ r)
+joined {l} {r} a b = record { bytes = go l (a .bytes) }
+  where
+    go : (l : List ℕ) → Bytes l → Bytes (l ++ r)
+    go [] h = b .bytes
+    go (x ∷ l) h = (h .0, go l (h .1))
+
+number : (k n : ℕ) → Plain (littleEndian k n)
+number k n = record { bytes = bytes-littleEndian k n }
+
+-- A decoder that needs a byte.
+run-needed : (k : ℕ) → NeedsByte (decodeRun k)
+unfolding decodeRun
+run-needed k s at l next e = go (leb (at + k) (length s)) refl e
+  where
+    go : (t : Bool) → leb (at + k) (length s) ≡ t → pick t (got (bytesAt s at k) (at + k)) (refused (fault short at k)) ≡ got l next → at ≤ length s
+    go true q e = let h = leb-true (at + k) (length s) q in omega arith
+    go false q e = absurd (never e)
+
+hash-needed : NeedsByte decodeHash
+unfolding decodeHash
+hash-needed = run-needed 16
+
+address-needed : NeedsByte decodeAddress
+unfolding decodeAddress decodeDword
+address-needed s at a next e =
+    let w = went s (decodeDword s at) e in
+    let v = went s (decodeRun 4 s at) (w .was) in
+    run-needed 4 s at (v .first) (v .mid) (v .was)
+
+record-needed : NeedsByte decodeRecord
+unfolding decodeRecord
+record-needed s at r next e = let w = went s (decodeHash s at) e in hash-needed s at (w .first) (w .mid) (w .was)
+
+module _ (s : List ℕ) (hb : Bytes s) where
+  -- What lies at a place.
+  run : (at n : ℕ) → Plain (bytesAt s at n)
+  run at n = record { bytes = bytes-left (take n (drop at s)) (drop n (drop at s)) (rw take-append-drop (bytes-drop at s hb)) }
+
+  items : {A : Type 0} {d : Decoder A} {encode : A → List ℕ} {Valid : A → Type 0} → Codec anywhere d encode Valid → NeedsByte d → (n at : ℕ) →
+      Plain (encodeAll encode (itemsOf (decodeMany n d s at)))
+  items {A} {d} {encode} L needed n at = go (decodeMany n d s at) refl
+    where
+      go : (o : Outcome (List A)) → decodeMany n d s at ≡ o → Plain (encodeAll encode (itemsOf o))
+      go (refused f) e = record { bytes = tt }
+      go (got l next) e = rw (← many-lies L needed s hb at n e .bytes) (run at (next - at))
+
+  string : (at n : ℕ) → Plain (encodeString (bytesAt s at n))
+  unfolding encodeString
+  string at n = joined (number 2 _) (run at n)
+
+  query : (at : ℕ) → Plain (encodeQuery (queryOf (decodeQuery s at)))
+  unfolding encodeQuery encodeString
+  query at = go (decodeQuery s at) refl
+    where
+      go : (o : Outcome messages.Query) → decodeQuery s at ≡ o → Plain (encodeQuery (queryOf o))
+      go (refused f) e = joined (number 1 1) (joined (number 2 0) (record { bytes = tt }))
+      go (got q next) e = rw (← lies codec-query query-needed s hb at e .bytes) (run at (next - at))
+
+  address : (a : messages.Address) → Plain (encodeAddress a)
+  unfolding encodeAddress
+  address a = joined (number 4 _) (number 2 _)
+
+  triple : (t : messages.Triple) → Plain (encodeTriple t)
+  triple t = joined (number 4 _) (joined (number 4 _) (number 4 _))
+
+  tags : (l : Items) → Plain (encodeTags (itemsIn decodeTag s l))
+  unfolding encodeTags
+  tags l = joined (number 4 _) (items codec-tag tag-needed (l .count) (l .at))
+
+  file : (r : Record) → Plain (encodeRecord (recordIn s r))
+  unfolding encodeRecord
+  file r = joined (run (r .hash) 16) (joined (number 4 _) (joined (number 2 _) (tags (r .tags))))
+
+  body : (b : Body) → Plain (bytesOf (bodyIn s b))
+  unfolding encodeSendingPart encodeRequestParts encodeFileStatus encodeExtendedStatus
+  body Body.Nothing = record { bytes = tt }
+  body (Body.Query q) = query (q .at)
+  body (Body.Hash h) = run h 16
+  body (Body.Dword n) = number 4 n
+  body (Body.TwoDwords n m) = joined (number 4 n) (number 4 m)
+  body (Body.Text t) = string (t .at) (t .len)
+  body (Body.TwoTexts t u) = joined (string (t .at) (t .len)) (string (u .at) (u .len))
+  body (Body.Address a) = address (addressOf a)
+  body (Body.Addresses l) = joined (number 1 _) (items codec-address address-needed (l .count) (l .at))
+  body (Body.HashAddresses h l) = joined (run h 16) (joined (number 1 _) (items codec-address address-needed (l .count) (l .at)))
+  body (Body.AddressDword a n) = joined (address (addressOf a)) (number 4 n)
+  body (Body.HashAddressTags h a l) = joined (run h 16) (joined (address (addressOf a)) (tags l))
+  body (Body.Record r) = file r
+  body (Body.Records l) = joined (number 4 _) (items codec-record record-needed (l .count) (l .at))
+  body (Body.RecordsFlag l b) = joined (joined (number 4 _) (items codec-record record-needed (l .count) (l .at))) (number 1 b)
+  body (Body.RecordAddress r a) = joined (file r) (address (addressOf a))
+  body (Body.Hello r a) = joined (number 1 0x10) (joined (file r) (address (addressOf a)))
+  body (Body.HashText h t) = joined (run h 16) (string (t .at) (t .len))
+  body (Body.Hashset h l) = joined (run h 16) (joined (number 2 _) (items codec-hash hash-needed (l .count) (l .at)))
+  body (Body.SendingPart p) = joined (run (p .hash) 16) (joined (joined (number 4 _) (number 4 _)) (run (p .data .at) (p .data .len)))
+  body (Body.RequestParts p) = joined (run (p .hash) 16) (joined (triple (tripleOf (p .starts))) (triple (tripleOf (p .ends))))
+  body (Body.FileStatus p) = joined (run (p .hash) 16) (joined (number 2 _) (record { bytes = packed-bytes (heldAt (p .parts) s (p .bits)) }))
+  body (Body.StatusRequest p) = number 4 _
+  body (Body.Status t) = triple (tripleOf t)
+  body (Body.ExtendedStatus p) =
+      joined (number 1 _) (joined (number 1 _) (joined (number 1 0xAA) (joined (number 1 0x5A) (triple (tripleOf (p .numbers))))))
+
+  pub packet-bytes : (link : Link) (p : Packet) → Bytes (encode (kindOf link) (packetOf link s p))
+  unfolding encodeTcp encodeUdp encodeBody
+  packet-bytes Link.Server p = joined (number 1 _) (joined (number 4 _) (joined (number 1 _) (body (p .body)))) .bytes
+  packet-bytes Link.Client p = joined (number 1 _) (joined (number 4 _) (joined (number 1 _) (body (p .body)))) .bytes
+  packet-bytes Link.Udp p = joined (number 1 _) (joined (number 1 _) (body (p .body))) .bytes

@@ -1,0 +1,5 @@
+pub mod Frames
+pub mod Shapes
+pub mod Judging
+pub mod Encodings
+pub mod Writes

@@ -1,0 +1,99 @@
+/* A tour of the library: a packet is read, a query is composed and evaluated on a tag list, and arrived bytes are marked. */
+#include <inttypes.h>
+#include <stdio.h>
+#include <string.h>
+
+#include "ed2k.h"
+
+/* The bytes of a text, as the calls take them: a pointer and a length. */
+#define TEXT(t) (const uint8_t *)(t), sizeof(t) - 1
+
+static void read_status(void)
+{
+    static const uint8_t packet[] = {0xe3, 9, 0, 0, 0, 0x34, 3, 0, 0, 0, 5, 0, 0, 0};
+    uint64_t fields[ED2K_FIELDS] = {0};
+    uint8_t number = ed2k_read(ED2K_SERVER_LINK, packet, sizeof packet, fields, ED2K_FIELDS);
+    printf("server status: number %u, opcode 0x%02" PRIX64 ", shape %" PRIu64 ", users %" PRIu64 ", files %" PRIu64 "\n", number,
+           fields[1], fields[2], fields[3], fields[4]);
+    number = ed2k_read(ED2K_SERVER_LINK, packet, sizeof packet - 1, fields, ED2K_FIELDS);
+    printf("one byte less: number %u\n", number);
+}
+
+/* The query "last" AND (size at least 1000), in `query`; how many bytes it has. */
+static size_t compose_query(uint8_t *query, size_t room)
+{
+    uint8_t keyword[64], limit[64];
+    uint64_t keyword_length = 0, limit_length = 0, length = 0;
+    uint8_t number = ed2k_write_keyword(TEXT("last"), keyword, sizeof keyword, &keyword_length);
+    if (number == 0)
+        number = ed2k_write_limit(1000, 1, TEXT("\x02"), limit, sizeof limit, &limit_length);
+    if (number == 0)
+        number = ed2k_write_join(0, keyword, keyword_length, limit, limit_length, query, room, &length);
+    printf("query: number %u, %" PRIu64 " bytes\n", number, length);
+    return length;
+}
+
+/* A tag list of a name and a size, in `list`; how many bytes it has. */
+static size_t compose_tags(uint8_t *list, size_t room)
+{
+    uint8_t tags[128];
+    uint64_t name_length = 0, size_length = 0, length = 0;
+    uint8_t number = ed2k_write_text_tag(TEXT("\x01"), TEXT("a shoe last"), tags, sizeof tags, &name_length);
+    if (number == 0)
+        number = ed2k_write_dword_tag(TEXT("\x02"), 4096, tags + name_length, sizeof tags - name_length, &size_length);
+    if (number == 0)
+        number = ed2k_write_tag_list(tags, name_length + size_length, 0, 2, list, room, &length);
+    printf("tag list: number %u, %" PRIu64 " bytes\n", number, length);
+    return length;
+}
+
+static void print_tags(const uint8_t *list, size_t length)
+{
+    uint64_t fields[ED2K_FIELDS];
+    if (ed2k_read(ED2K_LONE_TAGS, list, length, fields, ED2K_FIELDS) != 0)
+        return;
+    size_t at = fields[0];
+    for (uint64_t left = fields[2]; left > 0; left--) {
+        uint64_t tag[ED2K_FIELDS];
+        if (ed2k_read_tag(list, length, at, tag, ED2K_FIELDS) != 0)
+            return;
+        if (tag[1] == 2)
+            printf("  tag %02X: \"%.*s\"\n", list[tag[2]], (int)tag[5], (const char *)list + tag[4]);
+        if (tag[1] == 3)
+            printf("  tag %02X: %" PRIu64 "\n", list[tag[2]], tag[4]);
+        at = tag[0];
+    }
+}
+
+static void search(void)
+{
+    uint8_t query[128], list[128];
+    size_t query_length = compose_query(query, sizeof query);
+    size_t list_length = compose_tags(list, sizeof list);
+    print_tags(list, list_length);
+    uint8_t truth = 0;
+    uint8_t number = ed2k_truth(query, query_length, list, list_length, &truth);
+    printf("query on tag list: number %u, truth %u\n", number, truth);
+}
+
+static void mark(void)
+{
+    uint64_t gaps[ED2K_GAP_NUMBERS];
+    uint64_t missing = 0;
+    uint8_t number = ed2k_all_missing(1000, gaps, ED2K_GAP_NUMBERS);
+    printf("all missing: number %u\n", number);
+    number = ed2k_mark(gaps, ED2K_GAP_NUMBERS, 200, 500, &missing);
+    printf("mark 200 up to 500: number %u, missing %" PRIu64 "\n", number, missing);
+    for (uint64_t i = 0; i < gaps[1]; i++)
+        printf("  gap %" PRIu64 " up to %" PRIu64 "\n", gaps[2 + 2 * i], gaps[3 + 2 * i]);
+    number = ed2k_mark(gaps, ED2K_GAP_NUMBERS, 900, 1001, &missing);
+    printf("mark 900 up to 1001: number %u, missing %" PRIu64 "\n", number, missing);
+}
+
+int main(void)
+{
+    read_status();
+    search();
+    mark();
+    return 0;
+}
