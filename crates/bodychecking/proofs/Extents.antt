@@ -6,11 +6,11 @@ use native.Mathlib.Omega.{arith}
 use lib.ListN.{length}
 use Rattle.format.specs.Bits.{packBits, packedBytes}
 use Rattle.format.specs.Messages as messages
-use Rattle.format.specs.Layout.{encodeAddress, encodeAll, encodeHash, encodeQuery, encodeRecord, encodeString, encodeTag}
+use Rattle.format.specs.Layout.{encodeAll, encodeQuery, encodeString}
 use Rattle.format.specs.Rules.{All, ValidRecord, Word}
-use Rattle.format.specs.Decoding.{Decoder, Fault, Outcome, bytesAt, decodeRun, ends, got, number, refused}
-use Rattle.format.specs.Order.{decodeAddress, decodeHash, decodeRecord, decodeTag}
-use Rattle.format.specs.Writing.{QueryFits, RecordFits, RecordsFit, StringFits, ValuesFit}
+use Rattle.format.specs.Decoding.{Decoder, Fault, Outcome, bytesAt, ends, number, refused}
+use Rattle.format.specs.Order.{decodeHash}
+use Rattle.format.specs.Writing.{QueryFits, RecordFits, StringFits, ValuesFit}
 use Rattle.format.proofs.Bits.{bits-length, packed-length}
 use Rattle.format.proofs.Writing.{query-fits, tags-fit}
 use Rattle.writing.proofs.Pieces.{length-string}

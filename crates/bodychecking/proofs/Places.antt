@@ -1,5 +1,5 @@
 -- What lies at a place that is there: runs, hashes, lists and queries.
-use Prim.Native.Nat.{ℕ, _+_, _-_, _≤_, _<_}
+use Prim.Native.Nat.{ℕ, _+_, _-_, _≤_}
 use mathlib.Core.Path.{_≡_, refl, sym, ap, _∙_, subst}
 use mathlib.Core.List.{List}
 use native.Mathlib.Omega.{arith}
@@ -9,7 +9,7 @@ use lib.Seq.{length-take-le}
 use Rattle.format.specs.Messages as messages
 use Rattle.format.specs.Layout.{encodeAddress, encodeAll, encodeHash, encodeQuery, encodeRecord, encodeTag}
 use Rattle.format.specs.Rules.{All, Bytes, ValidAddress, ValidHash, ValidQuery, ValidRecord, ValidTag}
-use Rattle.format.specs.Decoding.{Decoder, Fault, Outcome, bytesAt, decodeMany, decodeRun, ends, got, itemsOf, refused}
+use Rattle.format.specs.Decoding.{Decoder, Outcome, bytesAt, decodeMany, decodeRun, ends, got, refused}
 use Rattle.format.specs.Order.{decodeAddress, decodeDword, decodeHash, decodeQuery, decodeRecord, decodeTag}
 use Rattle.format.proofs.Codec.{Codec, anywhere, bytes-drop, bytes-left, never, went}
 use Rattle.format.proofs.Many.{ends-items}

@@ -5,22 +5,21 @@ use mathlib.Core.Bool.{Bool, true, false}
 use mathlib.Core.Logic.{_↔_}
 use mathlib.Core.List.{List, [], _++_, append-nil}
 use native.Mathlib.Omega.{arith}
-use lib.ListN.{length, drop, length-append, length-drop}
+use lib.ListN.{length, drop, length-drop}
 use lib.Dec.{eqb, leb}
-use borrow.Author.Tests.{eq-eqb, eqb-false, eqb-true, leb-true}
+use borrow.Author.Tests.{eqb-false, eqb-true, leb-true}
 use Rattle.format.specs.Tables.{pick}
 use Rattle.format.specs.Messages as messages
 use Rattle.format.specs.Messages.{requestPartsBody, sendingPartBody, statusRequestBody}
 use Rattle.format.specs.Layout.{byte, counted, dword, encodeRecord, encodeRequestParts, encodeSendingPart, encodeTriple}
 use Rattle.format.specs.Rules.{Bytes, Dword, ValidHash, ValidRecord, ValidTriple, ValidValues, Word}
 use Rattle.format.specs.Decoding.{Outcome, Rule, ends, fault, got, refused, violates}
-use Rattle.format.specs.Order.{decodeAddress, decodeDword, decodeHash, decodeRecord, decodeTag}
+use Rattle.format.specs.Order.{decodeAddress, decodeHash, decodeRecord, decodeTag}
 use Rattle.format.specs.PacketOrder.{checkRange, checkRanges, decodeBits, decodeBody, decodeFlag, decodeRange, decodeRanges, decodeRequestParts, decodeSendingPart, decodeStatusRequest, decodeTriple, formOf}
 use Rattle.format.specs.Writing.{RecordFits, ValuesFit}
-use Rattle.format.proofs.Codec.{Codec, anywhere, behind, codec-byte, codec-counted, codec-dword, codec-pair, fits, length-littleEndian}
+use Rattle.format.proofs.Codec.{Codec, anywhere, behind, codec-byte, codec-counted, codec-dword, codec-pair, fits}
 use Rattle.format.proofs.Items.{codec-hash, codec-record}
-use Rattle.wire.specs.declared.Items.{Items}
-use Rattle.wire.specs.Meaning.{hashAt, itemsIn, placeBytes}
+use Rattle.wire.specs.Meaning.{hashAt, itemsIn}
 use Rattle.records.specs.declared.Record.{Record}
 use Rattle.records.specs.Meaning.{recordIn}
 use Rattle.bodies.specs.declared.Body.{Body}
@@ -28,11 +27,11 @@ use Rattle.bodies.specs.declared.Form.{Form}
 use Rattle.bodies.specs.declared.RequestParts.{RequestParts}
 use Rattle.bodies.specs.declared.SendingPart.{SendingPart}
 use Rattle.bodies.specs.declared.StatusRequest.{StatusRequest}
-use Rattle.bodies.specs.Meaning.{bodyIn, formMeaning, tripleOf}
+use Rattle.bodies.specs.Meaning.{bodyIn, formMeaning}
 use Rattle.writing.specs.There.{bothThere, hashThere, itemsThere, placeThere}
 use Rattle.writing.specs.RoundTrip.{IsThere}
-use Rattle.bodychecking.specs.Bodies.{BodyRule, bodyThere, bytesOf, queryThere, recordThere, breaks, differs, keeps}
-use Rattle.bodychecking.specs.Extents.{Bounded, brokenRule, flagRule, formRule, rangeRule, rangesRule}
+use Rattle.bodychecking.specs.Bodies.{BodyRule, bodyThere, queryThere, recordThere, breaks, differs, keeps}
+use Rattle.bodychecking.specs.Extents.{Bounded, brokenRule, flagRule, formRule, rangeRule}
 use Rattle.bodychecking.proofs.Places.{addresses-listed, both-first, both-last, hash-valid, hashes-listed, query-listed, records-listed, run-bytes, run-size, tags-listed, there-at}
 
 module _ (s : List ℕ) (hb : Bytes s) where

@@ -1,36 +1,29 @@
-// The writers of bodies: what has to be known of a body before a byte is written, and its bytes.
+// What has to be known of a body before a byte of it is written. Bodies are given as the readers hand them out: numbers, and places
+// in lent bytes. What lies at a place is looked at again, whoever made the body.
 ghost use mathlib.Core.Path.{_≡_};
 ghost use Prim.Native.Nat.{_+_};
 ghost use lib.ListN.{length};
 ghost use Rattle.format.specs.Bits.{packedBytes};
-ghost use Rattle.format.specs.Layout.{byte, word, dword, encodeAddress, encodeAll, encodeHash, encodeQuery, encodeRecord, encodeString, encodeTag, encodeTriple};
+ghost use Rattle.format.specs.Layout.{encodeAddress, encodeAll, encodeHash, encodeQuery, encodeRecord, encodeString, encodeTag};
 ghost use Rattle.format.specs.Rules.{Byte, Word};
-ghost use Rattle.format.specs.Decoding.{bytesAt, ends};
+ghost use Rattle.format.specs.Decoding.{ends};
 ghost use Rattle.format.specs.Order.{decodeAddress, decodeHash, decodeRecord, decodeTag};
 ghost use Rattle.format.specs.PacketOrder.{decodeBits};
-ghost use Rattle.format.specs.Writing.{overwritten, QueryFits, RecordsFit, StringFits, TagsFit, ValuesFit};
+ghost use Rattle.format.specs.Writing.{QueryFits, RecordsFit, StringFits, TagsFit, ValuesFit};
 ghost use Rattle.wire.specs.Meaning.{hashAt, itemsIn, placeBytes};
 ghost use Rattle.query.specs.Meaning.{queryIn};
-ghost use Rattle.records.specs.Meaning.{addressOf, recordIn};
-ghost use Rattle.bodies.specs.Meaning.{bodyIn, tripleOf};
+ghost use Rattle.bodies.specs.Meaning.{bodyIn};
 ghost use Rattle.writing.specs.There.{bothThere, hashThere, itemsThere, placeThere};
-ghost use Rattle.writing.specs.RoundTrip.{IsThere};
 ghost use Rattle.bodychecking.specs.Extents.{Adds, BothAdd, Extends, NoEnd, behindBytes, behindTooLong, bothExtents, listBound};
 ghost use Rattle.bodychecking.specs.Extents.{Bounded, brokenRule, flagRule, formRule, rangeRule, rangesRule};
 ghost use Rattle.bodychecking.specs.declared.Extent.{Extent};
-ghost use Rattle.bodychecking.specs.Bodies.{BodyChecked, BodyEnds, EndsAt, bodyThere, bytesOf, queryThere, recordThere};
+ghost use Rattle.bodychecking.specs.Bodies.{BodyChecked, BodyEnds, EndsAt, bodyThere, bytesOf, queryThere};
 use bodies::BitsStep;
 use bodies::Body;
-use bodies::ExtendedStatus;
-use bodies::FileStatus;
 use bodies::Form;
-use bodies::RequestParts;
-use bodies::SendingPart;
 use bodies::Triple;
 use query::Query;
 use query::QueryStep;
-use records::Address;
-use records::Record;
 use wire::Cursor;
 use wire::DoneStep;
 use wire::HashStep;

@@ -13,14 +13,14 @@ use Rattle.format.specs.Bits.{bitsIn, packBits, packedBytes, unusedClear}
 use Rattle.format.specs.Layout.{byte, dword, encodeAddress, encodeExtendedStatus, encodeFileStatus, encodeRecord, encodeRequestParts, encodeSendingPart, encodeString, encodeTags, encodeTriple, word}
 use Rattle.format.specs.Rules.{Bytes, Word}
 use Rattle.format.specs.Decoding.{Decoder, Rule, andThen, bytesAt, decodeRun, ends, fault, got, passes, refused, settled, violates}
-use Rattle.format.specs.Order.{decodeAddress, decodeHash, decodeRecord, decodeTag}
+use Rattle.format.specs.Order.{decodeAddress, decodeHash, decodeTag}
 use Rattle.format.specs.PacketOrder.{checkBits, decodeBits}
 use Rattle.format.specs.Writing.{overwritten}
 use Rattle.format.proofs.Codec.{length-littleEndian}
 use Rattle.format.proofs.Bits.{bits-length, pack-unpack}
 use Rattle.wire.specs.declared.Items.{Items}
 use Rattle.wire.specs.declared.Place.{Place}
-use Rattle.wire.specs.Meaning.{hashAt, itemsIn, placeBytes}
+use Rattle.wire.specs.Meaning.{hashAt, placeBytes}
 use Rattle.query.specs.declared.Query.{Query}
 use Rattle.records.specs.declared.Address.{Address}
 use Rattle.records.specs.declared.Record.{Record}

@@ -1,5 +1,4 @@
-// The bytes of a body, put at the front of what is lent. Each function answers with how many bytes it wrote. They are for put_body
-// alone: each requires that the places were looked at before, that counts fit, and that there is room.
+// The bytes of bodies, and the writers of entries and lists that callers compose.
 ghost use mathlib.Core.Path.{_≡_};
 ghost use mathlib.Core.List.{_++_};
 ghost use Prim.Native.Nat.{_+_, _-_, _≤_, _<_};
@@ -11,7 +10,9 @@ ghost use Rattle.format.specs.Writing.{overwritten};
 ghost use Rattle.wire.specs.Meaning.{hashAt, placeBytes};
 ghost use Rattle.records.specs.Meaning.{addressOf};
 ghost use Rattle.bodies.specs.Meaning.{bodyIn, tripleOf};
+ghost use Rattle.writing.specs.Writers.{answered};
 ghost use Rattle.bodychecking.specs.Bodies.{bytesOf};
+ghost use Rattle.bodywriting.specs.Entries.{WritesBody, writeAddress, writeAddresses, writeRecord, writeRecords};
 ghost use Rattle.bodywriting.specs.Putting.{ListRun, Puts, Puttable, Run, listBytes};
 use bodies::Body;
 use bodies::ExtendedStatus;
@@ -24,6 +25,10 @@ use records::Address;
 use records::Record;
 use wire::Items;
 use wire::Place;
+use writing::WriteAnswer;
+
+// The bytes of a body, put at the front of what is lent. Each function answers with how many bytes it wrote. They are for put_body
+// alone: each requires that the places were looked at before, that counts fit, and that there is room.
 
 fn put_run(src: &[u8], at: usize, n: usize, out: &mut [u8]) -> usize
     requires { ⌜ Run (now src) at n × (n ≤ length (now out)) ⌝ }
@@ -88,13 +93,30 @@ fn put_address(a: Address, out: &mut [u8]) -> usize
     6
 }
 
+// A count that fits its field.
+fn byte_count(count: u32) -> u8
+    requires { ⌜ count < 256 ⌝ }
+    ensures { λ r. ⌜ r ≡ count ⌝ }
+{
+    count as u8
+}
+
+fn word_count(count: u32) -> u16
+    requires { ⌜ count < 65536 ⌝ }
+    ensures { λ r. ⌜ r ≡ count ⌝ }
+{
+    count as u16
+}
+
+// A list lies as its count, then its items, whose bytes are copied.
+
 fn put_byte_list(src: &[u8], l: Items, end: usize, out: &mut [u8]) -> usize
     requires { ⌜ ListRun (now src) l end × (l .count < 256) × (1 + (end - l .at) ≤ length (now out)) ⌝ }
     ensures { λ r. ⌜ Puts (byte (l .count) ++ listBytes (now (src .entry)) l end) (1 + (end - l .at)) (now (out .entry)) (now (out .exit)) r ⌝ }
 {
     let at = l.at;
     let n = end - at;
-    let count = l.count as u8;
+    let count = byte_count(l.count);
     put::put_byte(out, count);
     let wrote = put_run(src, at, n, &mut out[1..]);
     1 + wrote
@@ -106,7 +128,7 @@ fn put_word_list(src: &[u8], l: Items, end: usize, out: &mut [u8]) -> usize
 {
     let at = l.at;
     let n = end - at;
-    let count = l.count as u16;
+    let count = word_count(l.count);
     put::put_word(out, count);
     let wrote = put_run(src, at, n, &mut out[2..]);
     2 + wrote
@@ -324,4 +346,62 @@ pub fn put_body(src: &[u8], b: Body, end: usize, out: &mut [u8]) -> usize
         Body::Status(t) => put_triple(t, out),
         Body::ExtendedStatus(p) => put_extended_status(p, out),
     }
+}
+
+// Entries and lists that no reader gave: a caller writes them one behind the other into bytes of its own, and hands their place to a
+// writer of messages. Each answers with the number of a refusal, which leaves the output as it was, or with how many bytes it wrote.
+
+// A body by itself. Its values may break a rule of its packet: only places, counts and room are looked at.
+fn write_bare(src: &[u8], b: Body, out: &mut [u8]) -> WriteAnswer
+    ensures { λ r. ⌜ WritesBody (now (src .entry)) b (now (out .entry)) (answered r (now (out .exit))) ⌝ }
+{
+    let check = bodychecking::check_body(src, b);
+    let number = check.number;
+    if number != 0 {
+        return writing::refused(number);
+    }
+    let size = check.size;
+    if out.len() < size {
+        return writing::refused(10);
+    }
+    let end = check.end;
+    let wrote = put_body(src, b, end, out);
+    WriteAnswer {
+        number: 0,
+        length: wrote,
+    }
+}
+
+pub fn write_address(a: Address, out: &mut [u8]) -> WriteAnswer
+    ensures { λ r. ⌜ answered r (now (out .exit)) ≡ writeAddress (addressOf a) (now (out .entry)) ⌝ }
+{
+    if out.len() < 6 {
+        return writing::refused(10);
+    }
+    let wrote = put_address(a, out);
+    WriteAnswer {
+        number: 0,
+        length: wrote,
+    }
+}
+
+// A record, whose hash and tags lie at places of `src`.
+pub fn write_record(src: &[u8], r: Record, out: &mut [u8]) -> WriteAnswer
+    ensures { λ w. ⌜ answered w (now (out .exit)) ≡ writeRecord (now (src .entry)) r (now (out .entry)) ⌝ }
+{
+    write_bare(src, Body::Record(r), out)
+}
+
+// The addresses that lie at a place of `src`, behind a BYTE that counts them.
+pub fn write_addresses(src: &[u8], l: Items, out: &mut [u8]) -> WriteAnswer
+    ensures { λ r. ⌜ answered r (now (out .exit)) ≡ writeAddresses (now (src .entry)) l (now (out .entry)) ⌝ }
+{
+    write_bare(src, Body::Addresses(l), out)
+}
+
+// The records that lie at a place of `src`, behind a DWORD that counts them.
+pub fn write_records(src: &[u8], l: Items, out: &mut [u8]) -> WriteAnswer
+    ensures { λ r. ⌜ answered r (now (out .exit)) ≡ writeRecords (now (src .entry)) l (now (out .entry)) ⌝ }
+{
+    write_bare(src, Body::Records(l), out)
 }

@@ -1,45 +1,75 @@
--- The laws of a loop that looks for an item of a list that lies in the bytes: i items are behind, and the rest decides.
-use Prim.Native.Nat.{ℕ, suc, _+_, _-_, _<_, _≤_}
+-- The laws of a loop that looks for an item of a list that lies in the bytes, item by item: the first one, or one of the rest.
+use Prim.Native.Nat.{ℕ, suc, _-_, _<_}
 use mathlib.Core.Path.{_≡_, refl, sym, ap, _∙_}
 use mathlib.Core.Bool.{Bool, true, false}
-use mathlib.Core.List.{List, _∷_}
+use mathlib.Core.List.{List, [], _∷_}
 use native.Mathlib.Omega.{arith}
-use Rattle.format.specs.Decoding.{Decoder, Fault, Outcome, refused, got, andThen, pure, decodeMany, itemsOf, ends}
+use Rattle.format.specs.Tables.{pick}
+use Rattle.format.specs.Decoding.{Decoder, Outcome, refused, got, andThen, pure, decodeMany, itemsOf, ends}
 use Rattle.format.specs.Truth.{some}
 use Rattle.format.proofs.Codec.{never}
-use Rattle.format.proofs.Many.{loop-stop}
+use Rattle.wire.proofs.Loops.{ended-got}
+use Rattle.truth.specs.Meaning.{Lies, onItem}
 
-items-cons : {A : Type 0} (s : List ℕ) (a : A) (o : Outcome (List A)) {end : ℕ} →
-    ends (andThen s o (λ l. pure (a ∷ l))) ≡ got tt end → itemsOf (andThen s o (λ l. pure (a ∷ l))) ≡ a ∷ itemsOf o
+-- What was decoded and has an end lies there.
+pub ended-lies : {A : Type 0} (o : Outcome A) {end : ℕ} → ends o ≡ got tt end → Lies o
 unfolding ends
-items-cons s a (refused f) e = absurd (never e)
-items-cons s a (got l next) e = refl
+ended-lies (refused f) e = absurd (never e)
+ended-lies (got a next) e = tt
+
+cons-lies : {A : Type 0} (s : List ℕ) (a : A) (o : Outcome (List A)) → Lies (andThen s o (λ l. pure (a ∷ l))) → Lies o
+cons-lies s a (refused f) l = absurd l
+cons-lies s a (got m next) l = tt
+
+cons-items : {A : Type 0} (s : List ℕ) (a : A) (o : Outcome (List A)) → Lies o → itemsOf (andThen s o (λ l. pure (a ∷ l))) ≡ a ∷ itemsOf o
+cons-items s a (refused f) l = absurd l
+cons-items s a (got m next) l = refl
 
 module _ {A : Type 0} (d : Decoder A) (s : List ℕ) where
-  many-items : (n at : ℕ) {a : A} {p end : ℕ} → got a p ≡ d s at → ends (decodeMany (suc n) d s at) ≡ got tt end →
-      itemsOf (decodeMany (suc n) d s at) ≡ a ∷ itemsOf (decodeMany n d s p)
-  many-items n at {a} {p} r e = rw (← r) (items-cons s a (decodeMany n d s p) (rw (← r) at e))
+  first-of : (n at : ℕ) → Lies (decodeMany (suc n) d s at) → Lies (d s at)
+  first-of n at l = go (d s at) l
+    where
+      go : (o : Outcome A) → Lies (andThen s o (λ a s at. andThen s (decodeMany n d s at) (λ l. pure (a ∷ l)))) → Lies o
+      go (refused f) l = absurd l
+      go (got a next) l = tt
 
--- o is the whole list, which lies there and ends
-module _ {A : Type 0} (d : Decoder A) (s : List ℕ) (o : Outcome (List A)) {end : ℕ} (placed : ends o ≡ got tt end) (n i at : ℕ) where
-  pub never-stops : {f : Fault} → i < n → ends o ≡ ends (decodeMany (n - i) d s at) → refused f ≡ d s at → ⊥
-  unfolding ends
-  never-stops h e r = never (ap ends (loop-stop d s o n i at h e r) ∙ placed)
+  rest-of : (n at : ℕ) {next : ℕ} → ends (d s at) ≡ got tt next → Lies (decodeMany (suc n) d s at) → Lies (decodeMany n d s next)
+  rest-of n at {next} e l = let g = ended-got (d s at) (sym e) in cons-lies s (g .0) (decodeMany n d s next) (rw (← g .1) at l)
 
-  items-step : {a : A} {p : ℕ} → i < n → ends o ≡ ends (decodeMany (n - i) d s at) → got a p ≡ d s at →
-      itemsOf (decodeMany (n - i) d s at) ≡ a ∷ itemsOf (decodeMany (n - (i + 1)) d s p)
-  items-step h e r =
-      let m : n - i ≡ suc (n - (i + 1)) = omega arith in
-      rw m (many-items d s (n - (i + 1)) at r (sym (rw m at e) ∙ placed))
+  some-of : (n at : ℕ) (p : A → Bool) {next : ℕ} → ends (d s at) ≡ got tt next → Lies (decodeMany (suc n) d s at) →
+      some p (itemsOf (decodeMany (suc n) d s at)) ≡ pick (onItem p (d s at)) true (some p (itemsOf (decodeMany n d s next)))
+  some-of n at p {next} e l =
+      let g = ended-got (d s at) (sym e) in
+      let m = rest-of n at e l in
+      rw (← g .1) (rw (cons-items s (g .0) (decodeMany n d s next) m) refl)
 
-  module _ (p : A → Bool) where
-    pub some-here : {a : A} {next : ℕ} → i < n → ends o ≡ ends (decodeMany (n - i) d s at) → got a next ≡ d s at → true ≡ p a →
-        some p (itemsOf (decodeMany (n - i) d s at)) ≡ true
-    some-here h e r t = rw (items-step h e r, ← t) refl
+  -- Some items are left.
+  module _ (left at : ℕ) (h : 0 < left) (lie : Lies (decodeMany left d s at)) where
+    whole : left ≡ suc (left - 1)
+    whole = omega arith
 
-    pub some-step : {a : A} {next : ℕ} → i < n → ends o ≡ ends (decodeMany (n - i) d s at) → got a next ≡ d s at → false ≡ p a →
-        some p (itemsOf (decodeMany (n - i) d s at)) ≡ some p (itemsOf (decodeMany (n - (i + 1)) d s next))
-    some-step h e r t = rw (items-step h e r, ← t) refl
+    pub first-lies : Lies (d s at)
+    first-lies = first-of (left - 1) at (rw whole at lie)
 
-    pub some-none : n ≤ i → some p (itemsOf (decodeMany (n - i) d s at)) ≡ false
-    some-none h = let m : n - i ≡ 0 = omega arith in rw m refl
+    module _ {next : ℕ} (e : ends (d s at) ≡ got tt next) where
+      pub rest-lies : Lies (decodeMany (left - 1) d s next)
+      rest-lies = rest-of (left - 1) at e (rw whole at lie)
+
+      pub some-step : (p : A → Bool) → false ≡ onItem p (d s at) → some p (itemsOf (decodeMany left d s at)) ≡ some p (itemsOf (decodeMany (left - 1) d s next))
+      some-step p f = ap (λ n. some p (itemsOf (decodeMany n d s at))) whole ∙ some-of (left - 1) at p e (rw whole at lie) ∙ rw (← f) refl
+
+    pub some-here : (p : A → Bool) → true ≡ onItem p (d s at) → some p (itemsOf (decodeMany left d s at)) ≡ true
+    unfolding ends
+    some-here p t = go (d s at) refl
+      where
+        go : (o : Outcome A) → o ≡ d s at → some p (itemsOf (decodeMany left d s at)) ≡ true
+        go (refused f) r = absurd (rw (← r) at first-lies)
+        go (got a next) r =
+            ap (λ n. some p (itemsOf (decodeMany n d s at))) whole ∙ some-of (left - 1) at p {next = next} (rw (← r) refl) (rw whole at lie) ∙ rw (← t) refl
+
+pub some-none : {A : Type 0} (d : Decoder A) (s : List ℕ) (left at : ℕ) (p : A → Bool) → left ≡ 0 → some p (itemsOf (decodeMany left d s at)) ≡ false
+some-none d s left at p e = rw e refl
+
+pub some-never : {A : Type 0} (p : A → Bool) → ((a : A) → p a ≡ false) → (l : List A) → some p l ≡ false
+some-never p never [] = refl
+some-never p never (a ∷ l) = rw (never a) (some-never p never l)

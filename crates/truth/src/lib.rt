@@ -8,6 +8,7 @@
 // specs/Meaning.antt says what each answer stands for.
 ghost use mathlib.Core.Path.{_≡_};
 ghost use mathlib.Core.List.{[], _∷_};
+ghost use Rattle.format.specs.Decoding.{ends, got};
 ghost use Rattle.format.specs.Order.{decodeTag, decodeQueryIn};
 ghost use Rattle.format.specs.PartTagOrder.{same};
 ghost use Rattle.format.specs.Truth as format;
@@ -15,7 +16,7 @@ ghost use Rattle.format.specs.Truth.{some, prefix, occurs, stringTag, dwordTag,
 ghost use Rattle.wire.specs.Meaning.{ItemsPlaced};
 ghost use Rattle.tags.specs.Meaning.{tagOf, tagsIn};
 ghost use Rattle.query.specs.Meaning.{operatorOf, boundOf, nodeIn};
-ghost use Rattle.truth.specs.Meaning.{tagMeets, truths, truthStepMeaning, truthMeaning, truthFault};
+ghost use Rattle.truth.specs.Meaning.{Lies, LooksFor, Passes, isOf, onItem, tagMeets, tagsFrom, truths, truthStepMeaning, truthMeaning, truthFault};
 use query::Bound;
 use query::Node;
 use query::NodeStep;
@@ -36,6 +37,7 @@ use wire::Rule;
 use wire::bytes_at;
 use wire::no_fault;
 use wire::number;
+use wire::pair;
 
 // The truth of a query, and the cursor behind the query.
 enum TruthStep {
@@ -183,26 +185,126 @@ fn tag_meets(query: &[u8], leaf: Node, tags: &[u8], tag: Tag) -> bool
     }
 }
 
-// Whether some tag of the list is one that the leaf looks for. The list was read before, so that none of its tags is refused.
+// The functions below go through a list that was read before: a tag lies whole at each place that they are given.
+
+// Whether the tag at a place has the type and the name. Its value is not looked at.
+fn is_candidate(tags: &[u8], at: usize, code: u8, name: &[u8]) -> bool
+    requires { ⌜ Lies (decodeTag (now tags) at) ⌝ }
+    ensures { λ r. ⌜ r ≡ onItem (isOf code (now (name .entry))) (decodeTag (now (tags .entry)) at) ⌝ }
+{
+    if tags[at] != code {
+        return false;
+    }
+    let n = pair(tags[at + 1], tags[at + 2]) as usize;
+    if n != name.len() {
+        return false;
+    }
+    equal(bytes_at(tags, at + 3, n), name)
+}
+
+// The place behind the tag at a place. It jumps by the type: a list is gone through once for each leaf, so that the jumps are guessed
+// right, unlike those of a list that is read once.
+fn behind_tag(tags: &[u8], at: usize) -> usize
+    requires { ⌜ Lies (decodeTag (now tags) at) ⌝ }
+    ensures { λ r. ⌜ ends (decodeTag (now (tags .entry)) at) ≡ got tt r ⌝ }
+{
+    let n = pair(tags[at + 1], tags[at + 2]) as usize;
+    let name = at + 3;
+    let value = name + n;
+    let code = tags[at];
+    if code == 2 {
+        let m = pair(tags[value], tags[value + 1]) as usize;
+        let text = value + 2;
+        return text + m;
+    }
+    if code == 1 {
+        return value + 16;
+    }
+    value + 4
+}
+
+// Where in a list: how many tags are left, and where the first of them lies.
+struct Spot {
+    left: u32,
+    at: usize,
+}
+
+// The first tag that has the type and the name, or the end of the list.
+fn next_candidate(tags: &[u8], from: Spot, code: u8, name: &[u8]) -> Spot
+    requires { ⌜ Lies (tagsFrom (now tags) from) ⌝ }
+    ensures { λ r. ⌜ Passes code (now (name .entry)) (now (tags .entry)) from r ⌝ }
+{
+    let mut left = from.left;
+    let mut at = from.at;
+    while 0 < left {
+        if is_candidate(tags, at, code, name) {
+            return Spot { left, at };
+        }
+        at = behind_tag(tags, at);
+        left -= 1;
+    }
+    Spot { left, at }
+}
+
+// Whether the tag at a place is one that the leaf looks for.
+fn meets_at(query: &[u8], leaf: Node, tags: &[u8], at: usize) -> bool
+    ensures { λ r. ⌜ r ≡ onItem (tagMeets (nodeIn (now (query .entry)) leaf)) (decodeTag (now (tags .entry)) at) ⌝ }
+{
+    let t = read_tag(tags, Cursor { at });
+    let TagStep::Got(tag, _) = t else {
+        return false;
+    };
+    tag_meets(query, leaf, tags, tag)
+}
+
+// Whether some tag of the list is one that the leaf looks for. Most tags are of another type or name, and are not read.
+fn some_tag(query: &[u8], leaf: Node, code: u8, name: &[u8], tags: &[u8], list: Items) -> bool
+    requires { ⌜ LooksFor code (now name) (nodeIn (now query) leaf) × ItemsPlaced decodeTag (now tags) list ⌝ }
+    ensures { λ r. ⌜ r ≡ some (tagMeets (nodeIn (now (query .entry)) leaf)) (tagsIn (now (tags .entry)) list) ⌝ }
+{
+    let mut left = list.count;
+    let mut at = list.at;
+    while 0 < left {
+        let found = next_candidate(tags, Spot { left, at }, code, name);
+        let n = found.left;
+        let here = found.at;
+        if n == 0 {
+            return false;
+        }
+        if meets_at(query, leaf, tags, here) {
+            return true;
+        }
+        at = behind_tag(tags, here);
+        left = n - 1;
+    }
+    false
+}
+
+// The truth of a leaf: a keyword and a field look for a String tag, a limit for a DWORD tag. A join is no leaf.
 fn leaf_holds(query: &[u8], leaf: Node, tags: &[u8], list: Items) -> bool
     requires { ⌜ ItemsPlaced decodeTag (now tags) list ⌝ }
     ensures { λ r. ⌜ r ≡ some (tagMeets (nodeIn (now (query .entry)) leaf)) (tagsIn (now (tags .entry)) list) ⌝ }
 {
-    let count = list.count;
-    let mut next = Cursor { at: list.at };
-    let mut i: u32 = 0;
-    while i < count {
-        let t = read_tag(tags, next);
-        let TagStep::Got(tag, after) = t else {
-            return false;
-        };
-        if tag_meets(query, leaf, tags, tag) {
-            return true;
-        }
-        next = after;
-        i += 1;
+    match leaf {
+        Node::Join(_) => false,
+        Node::Keyword(_) => some_tag(query, leaf, 2, b"\x01", tags, list),
+        Node::Field(_, name) => some_tag(
+            query,
+            leaf,
+            2,
+            bytes_at(query, name.at, name.len),
+            tags,
+            list,
+        ),
+        Node::Limit(_, _, name) => some_tag(
+            query,
+            leaf,
+            3,
+            bytes_at(query, name.at, name.len),
+            tags,
+            list,
+        ),
     }
-    false
 }
 
 fn combine(operator: Operator, p: bool, q: bool) -> bool

@@ -3,34 +3,25 @@ use native.Mathlib.Omega.{arith}
 use borrow.Author.Needs.{needs}
 use Rattle.bodychecking.proofs.behind_bytes.Statement.{statement}
 use Rattle.bodychecking.proofs.behind_bytes.Tie as tie
-use Rattle.bodychecking.proofs.behind_bytes.Reads as reads
-use Rattle.bodychecking.proofs.behind_bytes.Lts as lts
 
--- src/lib.rt:79:24
 enum-known-part : tie.Need-enum-known-part
 enum-known-part c = search needs
 
--- src/lib.rt:80:28
 enum-told : tie.Need-enum-told
 enum-told c = search needs
 
--- src/lib.rt:81:23
 enum-known-part-2 : tie.Need-enum-known-part-2
 enum-known-part-2 c = search needs
 
--- src/lib.rt:81:51
 add-t7 : tie.Need-add-t7
 add-t7 c = let h = rw (c .before .part2 .given .1) at (c .before .before .before .pre) in omega arith
 
--- src/lib.rt:74:1
 returns : tie.Need-returns
 returns c = rw (c .before .part .given .1) refl
 
--- src/lib.rt:74:1
 returns-2 : tie.Need-returns-2
 returns-2 c = search needs
 
--- src/lib.rt:74:1
 returns-3 : tie.Need-returns-3
 returns-3 c = rw (c .before .part2 .given .1) refl
 

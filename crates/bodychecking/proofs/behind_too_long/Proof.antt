@@ -2,30 +2,22 @@ use mathlib.Core.Path.{refl}
 use borrow.Author.Needs.{needs}
 use Rattle.bodychecking.proofs.behind_too_long.Statement.{statement}
 use Rattle.bodychecking.proofs.behind_too_long.Tie as tie
-use Rattle.bodychecking.proofs.behind_too_long.Reads as reads
-use Rattle.bodychecking.proofs.behind_too_long.Lts as lts
 
--- src/lib.rt:89:24
 enum-known-part : tie.Need-enum-known-part
 enum-known-part c = search needs
 
--- src/lib.rt:90:28
 enum-told : tie.Need-enum-told
 enum-told c = search needs
 
--- src/lib.rt:91:32
 enum-told-2 : tie.Need-enum-told-2
 enum-told-2 c = search needs
 
--- src/lib.rt:85:1
 returns : tie.Need-returns
 returns c = rw (c .before .part .given .1) refl
 
--- src/lib.rt:85:1
 returns-2 : tie.Need-returns-2
 returns-2 c = search needs
 
--- src/lib.rt:85:1
 returns-3 : tie.Need-returns-3
 returns-3 c = search needs
 

@@ -5,42 +5,33 @@ use Rattle.bodychecking.proofs.Rules.{rules}
 use borrow.Author.Needs.{needs}
 use Rattle.bodychecking.proofs.check_body.Statement.{statement}
 use Rattle.bodychecking.proofs.check_body.Tie as tie
-use Rattle.bodychecking.proofs.check_body.Reads as reads
-use Rattle.bodychecking.proofs.check_body.Lts as lts
-use Rattle.bodychecking.proofs.body_extent.Reads as body-extent-reads
-use Rattle.bodychecking.proofs.broken_rule.Reads as broken-rule-reads
 
--- src/lib.rt:371:9
 body-extent-requires : tie.Need-body-extent-requires
 body-extent-requires c κs = search needs
 
--- src/lib.rt:373:24
 enum-known-extent : tie.Need-enum-known-extent
 enum-known-extent c = search needs
 
--- src/lib.rt:379:28
 enum-told : tie.Need-enum-told
 enum-told c = search needs
 
--- src/lib.rt:385:23
 enum-known-extent-2 : tie.Need-enum-known-extent-2
 enum-known-extent-2 c = search needs
 
--- src/lib.rt:389:19
 broken-rule-requires : tie.Need-broken-rule-requires
 broken-rule-requires c κs = search needs
 
--- src/lib.rt:368:1
 returns : tie.Need-returns
 returns c = absent-checked (rw (c .before .extent .given .1) at (c .before .before .before .body-extent .ensures))
 
--- src/lib.rt:368:1
 returns-2 : tie.Need-returns-2
 returns-2 c = long-checked (rw (c .enum-told .given .1) at (c .before .before .body-extent .ensures))
 
--- src/lib.rt:368:1
 returns-3 : tie.Need-returns-3
-returns-3 c = let s = now (c .before .before .before .before .before .before .args .src) in rw (c .broken-rule .ensures .0) (sized-checked (rules s (slice-bytes s (c .before .before .before .before .before .shared-slice-known .given)) (c .before .before .before .before .before .before .args .b) (c .broken-rule .ensures .1)) (rw (c .before .before .extent2 .given .1) at (c .before .before .before .before .body-extent .ensures)))
+returns-3 c =
+    let s = now (c .before .before .before .before .before .before .args .src) in
+    rw (c .broken-rule .ensures .0)
+    (sized-checked (rules s (slice-bytes s (c .before .before .before .before .before .shared-slice-known .given)) (c .before .before .before .before .before .before .args .b) (c .broken-rule .ensures .1)) (rw (c .before .before .extent2 .given .1) at (c .before .before .before .before .body-extent .ensures)))
 
 pub check-body-spec : {M : Type 1} → statement M
 check-body-spec =

@@ -1,14 +1,10 @@
 use borrow.Author.Tests.{le-leb, lt-leb}
 use Rattle.bodychecking.proofs.flag_rule.Statement.{statement}
 use Rattle.bodychecking.proofs.flag_rule.Tie as tie
-use Rattle.bodychecking.proofs.flag_rule.Reads as reads
-use Rattle.bodychecking.proofs.flag_rule.Lts as lts
 
--- src/lib.rt:245:1
 returns : tie.Need-returns
 returns c = rw (le-leb _ _ (c .if1 .taken))
 
--- src/lib.rt:245:1
 returns-2 : tie.Need-returns-2
 returns-2 c = rw (lt-leb _ _ (c .if1 .left))
 

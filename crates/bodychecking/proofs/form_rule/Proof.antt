@@ -2,30 +2,22 @@ use borrow.Author.Tests.{eq-eqb, ne-eqb}
 use borrow.Author.Needs.{needs}
 use Rattle.bodychecking.proofs.form_rule.Statement.{statement}
 use Rattle.bodychecking.proofs.form_rule.Tie as tie
-use Rattle.bodychecking.proofs.form_rule.Reads as reads
-use Rattle.bodychecking.proofs.form_rule.Lts as lts
 
--- src/lib.rt:278:16
 enum-told : tie.Need-enum-told
 enum-told c = search needs
 
--- src/lib.rt:279:17
 returns : tie.Need-returns
 returns c = rw (c .before .enum-told .given .1, eq-eqb _ _ (c .if1 .taken))
 
--- src/lib.rt:284:16
 enum-told-2 : tie.Need-enum-told-2
 enum-told-2 c = search needs
 
--- src/lib.rt:285:17
 returns-2 : tie.Need-returns-2
 returns-2 c = rw (c .before .enum-told2 .given .1, eq-eqb _ _ (c .if2 .taken))
 
--- src/lib.rt:273:1
 returns-3 : tie.Need-returns-3
 returns-3 c = rw (c .before .enum-told .given .1, ne-eqb _ _ (c .if1 .left))
 
--- src/lib.rt:273:1
 returns-4 : tie.Need-returns-4
 returns-4 c = rw (c .before .enum-told2 .given .1, ne-eqb _ _ (c .if2 .left))
 

@@ -2,22 +2,16 @@ use borrow.Author.Tests.{eq-eqb, le-leb, lt-leb, ne-eqb}
 use borrow.Author.Needs.{needs}
 use Rattle.bodychecking.proofs.range_rule.Statement.{statement}
 use Rattle.bodychecking.proofs.range_rule.Tie as tie
-use Rattle.bodychecking.proofs.range_rule.Reads as reads
-use Rattle.bodychecking.proofs.range_rule.Lts as lts
 
--- src/lib.rt:255:9
 returns : tie.Need-returns
 returns c = rw (lt-leb _ _ (c .if1 .taken))
 
--- src/lib.rt:257:18
 cast-wanted : tie.Need-cast-wanted
 cast-wanted c = search needs
 
--- src/lib.rt:251:1
 returns-2 : tie.Need-returns-2
 returns-2 c = rw (le-leb _ _ (c .before .if1 .left), eq-eqb _ _ (c .if2 .taken))
 
--- src/lib.rt:251:1
 returns-3 : tie.Need-returns-3
 returns-3 c = rw (le-leb _ _ (c .before .if1 .left), ne-eqb _ _ (c .if2 .left))
 

@@ -1,22 +1,16 @@
 use borrow.Author.Tests.{le-leb, lt-leb}
 use Rattle.bodychecking.proofs.ranges_rule.Statement.{statement}
 use Rattle.bodychecking.proofs.ranges_rule.Tie as tie
-use Rattle.bodychecking.proofs.ranges_rule.Reads as reads
-use Rattle.bodychecking.proofs.ranges_rule.Lts as lts
 
--- src/lib.rt:265:9
 returns : tie.Need-returns
 returns c = rw (lt-leb _ _ (c .if1 .taken))
 
--- src/lib.rt:268:9
 returns-2 : tie.Need-returns-2
 returns-2 c = rw (le-leb _ _ (c .before .before .before .if1 .left), lt-leb _ _ (c .if2 .taken))
 
--- src/lib.rt:261:1
 returns-3 : tie.Need-returns-3
 returns-3 c = rw (le-leb _ _ (c .before .before .before .before .before .before .if1 .left), le-leb _ _ (c .before .before .before .if2 .left), lt-leb _ _ (c .if3 .taken))
 
--- src/lib.rt:261:1
 returns-4 : tie.Need-returns-4
 returns-4 c = rw (le-leb _ _ (c .before .before .before .before .before .before .if1 .left), le-leb _ _ (c .before .before .before .if2 .left), le-leb _ _ (c .if3 .left))
 

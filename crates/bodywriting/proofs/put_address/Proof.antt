@@ -25,7 +25,9 @@ same-length c = search needs
 
 returns : tie.Need-returns
 unfolding encodeAddress
-returns c = then (puts (dword (c .before .before .before .before .before .before .before .before .before .args .a .ip)) 4 (length-littleEndian 4 _) (c .before .before .before .before .before .before .put-dword .ensures)) (puts (word (c .before .before .before .before .before .before .before .before .before .args .a .port)) 2 (length-littleEndian 2 _) (c .before .before .put-word .ensures))
+returns c =
+    then (puts (dword (c .before .before .before .before .before .before .before .before .before .args .a .ip)) 4 (length-littleEndian 4 _) (c .before .before .before .before .before .before .put-dword .ensures))
+    (puts (word (c .before .before .before .before .before .before .before .before .before .args .a .port)) 2 (length-littleEndian 2 _) (c .before .before .put-word .ensures))
 
 pub put-address-spec : {M : Type 1} → statement M
 put-address-spec =

@@ -13,13 +13,17 @@ enum-known-b : tie.Need-enum-known-b
 enum-known-b c = search needs
 
 put-query-requires : tie.Need-put-query-requires
-put-query-requires c κs = let s = now (c .before .before .before .before .before .before .args .src) in query-asks s (slice-bytes s (c .before .before .before .before .before .shared-slice-known .given)) (rw (c .before .before .b .given .1) at (c .before .before .before .before .before .before .pre))
+put-query-requires c κs =
+    let s = now (c .before .before .before .before .before .before .args .src) in
+    query-asks s (slice-bytes s (c .before .before .before .before .before .shared-slice-known .given)) (rw (c .before .before .b .given .1) at (c .before .before .before .before .before .before .pre))
 
 enum-known-b-2 : tie.Need-enum-known-b-2
 enum-known-b-2 c = search needs
 
 put-run-requires : tie.Need-put-run-requires
-put-run-requires c κs = let s = now (c .before .before .before .before .before .before .args .src) in hash-asks s (slice-bytes s (c .before .before .before .before .before .shared-slice-known .given)) (rw (c .before .before .b2 .given .1) at (c .before .before .before .before .before .before .pre))
+put-run-requires c κs =
+    let s = now (c .before .before .before .before .before .before .args .src) in
+    hash-asks s (slice-bytes s (c .before .before .before .before .before .shared-slice-known .given)) (rw (c .before .before .b2 .given .1) at (c .before .before .before .before .before .before .pre))
 
 enum-known-b-3 : tie.Need-enum-known-b-3
 enum-known-b-3 c = search needs
@@ -37,13 +41,17 @@ enum-known-b-5 : tie.Need-enum-known-b-5
 enum-known-b-5 c = search needs
 
 put-text-requires : tie.Need-put-text-requires
-put-text-requires c κs = let s = now (c .before .before .before .before .before .before .args .src) in text-asks s (slice-bytes s (c .before .before .before .before .before .shared-slice-known .given)) (rw (c .before .before .b5 .given .1) at (c .before .before .before .before .before .before .pre))
+put-text-requires c κs =
+    let s = now (c .before .before .before .before .before .before .args .src) in
+    text-asks s (slice-bytes s (c .before .before .before .before .before .shared-slice-known .given)) (rw (c .before .before .b5 .given .1) at (c .before .before .before .before .before .before .pre))
 
 enum-known-b-6 : tie.Need-enum-known-b-6
 enum-known-b-6 c = search needs
 
 put-two-texts-requires : tie.Need-put-two-texts-requires
-put-two-texts-requires c κs = let s = now (c .before .before .before .before .before .before .args .src) in two-texts-asks s (slice-bytes s (c .before .before .before .before .before .shared-slice-known .given)) (rw (c .before .before .b6 .given .1) at (c .before .before .before .before .before .before .pre))
+put-two-texts-requires c κs =
+    let s = now (c .before .before .before .before .before .before .args .src) in
+    two-texts-asks s (slice-bytes s (c .before .before .before .before .before .shared-slice-known .given)) (rw (c .before .before .b6 .given .1) at (c .before .before .before .before .before .before .pre))
 
 enum-known-b-7 : tie.Need-enum-known-b-7
 enum-known-b-7 c = search needs
@@ -55,13 +63,17 @@ enum-known-b-8 : tie.Need-enum-known-b-8
 enum-known-b-8 c = search needs
 
 put-byte-list-requires : tie.Need-put-byte-list-requires
-put-byte-list-requires c κs = let s = now (c .before .before .before .before .before .before .args .src) in addresses-asks s (slice-bytes s (c .before .before .before .before .before .shared-slice-known .given)) (rw (c .before .before .b8 .given .1) at (c .before .before .before .before .before .before .pre))
+put-byte-list-requires c κs =
+    let s = now (c .before .before .before .before .before .before .args .src) in
+    addresses-asks s (slice-bytes s (c .before .before .before .before .before .shared-slice-known .given)) (rw (c .before .before .b8 .given .1) at (c .before .before .before .before .before .before .pre))
 
 enum-known-b-9 : tie.Need-enum-known-b-9
 enum-known-b-9 c = search needs
 
 put-hash-addresses-requires : tie.Need-put-hash-addresses-requires
-put-hash-addresses-requires c κs = let s = now (c .before .before .before .before .before .before .args .src) in hash-addresses-asks s (slice-bytes s (c .before .before .before .before .before .shared-slice-known .given)) (rw (c .before .before .b9 .given .1) at (c .before .before .before .before .before .before .pre))
+put-hash-addresses-requires c κs =
+    let s = now (c .before .before .before .before .before .before .args .src) in
+    hash-addresses-asks s (slice-bytes s (c .before .before .before .before .before .shared-slice-known .given)) (rw (c .before .before .b9 .given .1) at (c .before .before .before .before .before .before .pre))
 
 enum-known-b-10 : tie.Need-enum-known-b-10
 enum-known-b-10 c = search needs
@@ -73,67 +85,89 @@ enum-known-b-11 : tie.Need-enum-known-b-11
 enum-known-b-11 c = search needs
 
 put-entry-requires : tie.Need-put-entry-requires
-put-entry-requires c κs = let s = now (c .before .before .before .before .before .before .args .src) in entry-asks s (slice-bytes s (c .before .before .before .before .before .shared-slice-known .given)) (rw (c .before .before .b11 .given .1) at (c .before .before .before .before .before .before .pre))
+put-entry-requires c κs =
+    let s = now (c .before .before .before .before .before .before .args .src) in
+    entry-asks s (slice-bytes s (c .before .before .before .before .before .shared-slice-known .given)) (rw (c .before .before .b11 .given .1) at (c .before .before .before .before .before .before .pre))
 
 enum-known-b-12 : tie.Need-enum-known-b-12
 enum-known-b-12 c = search needs
 
 put-record-requires : tie.Need-put-record-requires
-put-record-requires c κs = let s = now (c .before .before .before .before .before .before .args .src) in record-asks s (slice-bytes s (c .before .before .before .before .before .shared-slice-known .given)) (rw (c .before .before .b12 .given .1) at (c .before .before .before .before .before .before .pre))
+put-record-requires c κs =
+    let s = now (c .before .before .before .before .before .before .args .src) in
+    record-asks s (slice-bytes s (c .before .before .before .before .before .shared-slice-known .given)) (rw (c .before .before .b12 .given .1) at (c .before .before .before .before .before .before .pre))
 
 enum-known-b-13 : tie.Need-enum-known-b-13
 enum-known-b-13 c = search needs
 
 put-dword-list-requires : tie.Need-put-dword-list-requires
-put-dword-list-requires c κs = let s = now (c .before .before .before .before .before .before .args .src) in records-asks s (slice-bytes s (c .before .before .before .before .before .shared-slice-known .given)) (rw (c .before .before .b13 .given .1) at (c .before .before .before .before .before .before .pre))
+put-dword-list-requires c κs =
+    let s = now (c .before .before .before .before .before .before .args .src) in
+    records-asks s (slice-bytes s (c .before .before .before .before .before .shared-slice-known .given)) (rw (c .before .before .b13 .given .1) at (c .before .before .before .before .before .before .pre))
 
 enum-known-b-14 : tie.Need-enum-known-b-14
 enum-known-b-14 c = search needs
 
 put-records-flag-requires : tie.Need-put-records-flag-requires
-put-records-flag-requires c κs = let s = now (c .before .before .before .before .before .before .args .src) in records-flag-asks s (slice-bytes s (c .before .before .before .before .before .shared-slice-known .given)) (rw (c .before .before .b14 .given .1) at (c .before .before .before .before .before .before .pre))
+put-records-flag-requires c κs =
+    let s = now (c .before .before .before .before .before .before .args .src) in
+    records-flag-asks s (slice-bytes s (c .before .before .before .before .before .shared-slice-known .given)) (rw (c .before .before .b14 .given .1) at (c .before .before .before .before .before .before .pre))
 
 enum-known-b-15 : tie.Need-enum-known-b-15
 enum-known-b-15 c = search needs
 
 put-record-address-requires : tie.Need-put-record-address-requires
-put-record-address-requires c κs = let s = now (c .before .before .before .before .before .before .args .src) in record-address-asks s (slice-bytes s (c .before .before .before .before .before .shared-slice-known .given)) (rw (c .before .before .b15 .given .1) at (c .before .before .before .before .before .before .pre))
+put-record-address-requires c κs =
+    let s = now (c .before .before .before .before .before .before .args .src) in
+    record-address-asks s (slice-bytes s (c .before .before .before .before .before .shared-slice-known .given)) (rw (c .before .before .b15 .given .1) at (c .before .before .before .before .before .before .pre))
 
 enum-known-b-16 : tie.Need-enum-known-b-16
 enum-known-b-16 c = search needs
 
 put-hello-requires : tie.Need-put-hello-requires
-put-hello-requires c κs = let s = now (c .before .before .before .before .before .before .args .src) in hello-asks s (slice-bytes s (c .before .before .before .before .before .shared-slice-known .given)) (rw (c .before .before .b16 .given .1) at (c .before .before .before .before .before .before .pre))
+put-hello-requires c κs =
+    let s = now (c .before .before .before .before .before .before .args .src) in
+    hello-asks s (slice-bytes s (c .before .before .before .before .before .shared-slice-known .given)) (rw (c .before .before .b16 .given .1) at (c .before .before .before .before .before .before .pre))
 
 enum-known-b-17 : tie.Need-enum-known-b-17
 enum-known-b-17 c = search needs
 
 put-hash-text-requires : tie.Need-put-hash-text-requires
-put-hash-text-requires c κs = let s = now (c .before .before .before .before .before .before .args .src) in hash-text-asks s (slice-bytes s (c .before .before .before .before .before .shared-slice-known .given)) (rw (c .before .before .b17 .given .1) at (c .before .before .before .before .before .before .pre))
+put-hash-text-requires c κs =
+    let s = now (c .before .before .before .before .before .before .args .src) in
+    hash-text-asks s (slice-bytes s (c .before .before .before .before .before .shared-slice-known .given)) (rw (c .before .before .b17 .given .1) at (c .before .before .before .before .before .before .pre))
 
 enum-known-b-18 : tie.Need-enum-known-b-18
 enum-known-b-18 c = search needs
 
 put-hashset-requires : tie.Need-put-hashset-requires
-put-hashset-requires c κs = let s = now (c .before .before .before .before .before .before .args .src) in hashset-asks s (slice-bytes s (c .before .before .before .before .before .shared-slice-known .given)) (rw (c .before .before .b18 .given .1) at (c .before .before .before .before .before .before .pre))
+put-hashset-requires c κs =
+    let s = now (c .before .before .before .before .before .before .args .src) in
+    hashset-asks s (slice-bytes s (c .before .before .before .before .before .shared-slice-known .given)) (rw (c .before .before .b18 .given .1) at (c .before .before .before .before .before .before .pre))
 
 enum-known-b-19 : tie.Need-enum-known-b-19
 enum-known-b-19 c = search needs
 
 put-sending-part-requires : tie.Need-put-sending-part-requires
-put-sending-part-requires c κs = let s = now (c .before .before .before .before .before .before .args .src) in sending-part-asks s (slice-bytes s (c .before .before .before .before .before .shared-slice-known .given)) (rw (c .before .before .b19 .given .1) at (c .before .before .before .before .before .before .pre))
+put-sending-part-requires c κs =
+    let s = now (c .before .before .before .before .before .before .args .src) in
+    sending-part-asks s (slice-bytes s (c .before .before .before .before .before .shared-slice-known .given)) (rw (c .before .before .b19 .given .1) at (c .before .before .before .before .before .before .pre))
 
 enum-known-b-20 : tie.Need-enum-known-b-20
 enum-known-b-20 c = search needs
 
 put-request-parts-requires : tie.Need-put-request-parts-requires
-put-request-parts-requires c κs = let s = now (c .before .before .before .before .before .before .args .src) in request-parts-asks s (slice-bytes s (c .before .before .before .before .before .shared-slice-known .given)) (rw (c .before .before .b20 .given .1) at (c .before .before .before .before .before .before .pre))
+put-request-parts-requires c κs =
+    let s = now (c .before .before .before .before .before .before .args .src) in
+    request-parts-asks s (slice-bytes s (c .before .before .before .before .before .shared-slice-known .given)) (rw (c .before .before .b20 .given .1) at (c .before .before .before .before .before .before .pre))
 
 enum-known-b-21 : tie.Need-enum-known-b-21
 enum-known-b-21 c = search needs
 
 put-file-status-requires : tie.Need-put-file-status-requires
-put-file-status-requires c κs = let s = now (c .before .before .before .before .before .before .args .src) in file-status-asks s (slice-bytes s (c .before .before .before .before .before .shared-slice-known .given)) (rw (c .before .before .b21 .given .1) at (c .before .before .before .before .before .before .pre))
+put-file-status-requires c κs =
+    let s = now (c .before .before .before .before .before .before .args .src) in
+    file-status-asks s (slice-bytes s (c .before .before .before .before .before .shared-slice-known .given)) (rw (c .before .before .b21 .given .1) at (c .before .before .before .before .before .before .pre))
 
 enum-known-b-22 : tie.Need-enum-known-b-22
 enum-known-b-22 c = search needs
@@ -160,7 +194,10 @@ same-length : tie.Need-same-length
 same-length c = search needs
 
 returns-2 : tie.Need-returns-2
-returns-2 c = let s = now (c .before .before .before .before .before .before .before .before .before .args .src) in rw (c .before .before .before .before .before .b .given .1) (finished (query-bytes s (slice-bytes s (c .before .before .before .before .before .before .before .before .shared-slice-known .given)) (rw (c .before .before .before .before .before .b .given .1) at (c .before .before .before .before .before .before .before .before .before .pre))) (c .before .before .put-query .ensures))
+returns-2 c =
+    let s = now (c .before .before .before .before .before .before .before .before .before .args .src) in
+    let told = c .before .before .before .before .before .b .given .1 in
+    rw told (finished (query-bytes s (slice-bytes s (c .before .before .before .before .before .before .before .before .shared-slice-known .given)) (rw told at (c .before .before .before .before .before .before .before .before .before .pre))) (c .before .before .put-query .ensures))
 
 same-length-2 : tie.Need-same-length-2
 same-length-2 c = search needs
@@ -202,13 +239,19 @@ same-length-8 : tie.Need-same-length-8
 same-length-8 c = search needs
 
 returns-9 : tie.Need-returns-9
-returns-9 c = let s = now (c .before .before .before .before .before .before .before .before .before .args .src) in rw (c .before .before .before .before .before .b8 .given .1) (finished (addresses-bytes s (slice-bytes s (c .before .before .before .before .before .before .before .before .shared-slice-known .given)) (rw (c .before .before .before .before .before .b8 .given .1) at (c .before .before .before .before .before .before .before .before .before .pre))) (c .before .before .put-byte-list .ensures))
+returns-9 c =
+    let s = now (c .before .before .before .before .before .before .before .before .before .args .src) in
+    let told = c .before .before .before .before .before .b8 .given .1 in
+    rw told (finished (addresses-bytes s (slice-bytes s (c .before .before .before .before .before .before .before .before .shared-slice-known .given)) (rw told at (c .before .before .before .before .before .before .before .before .before .pre))) (c .before .before .put-byte-list .ensures))
 
 same-length-9 : tie.Need-same-length-9
 same-length-9 c = search needs
 
 returns-10 : tie.Need-returns-10
-returns-10 c = let s = now (c .before .before .before .before .before .before .before .before .before .args .src) in rw (c .before .before .before .before .before .b9 .given .1) (finished (hash-addresses-bytes s (slice-bytes s (c .before .before .before .before .before .before .before .before .shared-slice-known .given)) (rw (c .before .before .before .before .before .b9 .given .1) at (c .before .before .before .before .before .before .before .before .before .pre))) (c .before .before .put-hash-addresses .ensures))
+returns-10 c =
+    let s = now (c .before .before .before .before .before .before .before .before .before .args .src) in
+    let told = c .before .before .before .before .before .b9 .given .1 in
+    rw told (finished (hash-addresses-bytes s (slice-bytes s (c .before .before .before .before .before .before .before .before .shared-slice-known .given)) (rw told at (c .before .before .before .before .before .before .before .before .before .pre))) (c .before .before .put-hash-addresses .ensures))
 
 same-length-10 : tie.Need-same-length-10
 same-length-10 c = search needs
@@ -220,37 +263,55 @@ same-length-11 : tie.Need-same-length-11
 same-length-11 c = search needs
 
 returns-12 : tie.Need-returns-12
-returns-12 c = let s = now (c .before .before .before .before .before .before .before .before .before .args .src) in rw (c .before .before .before .before .before .b11 .given .1) (finished (entry-bytes s (slice-bytes s (c .before .before .before .before .before .before .before .before .shared-slice-known .given)) (rw (c .before .before .before .before .before .b11 .given .1) at (c .before .before .before .before .before .before .before .before .before .pre))) (c .before .before .put-entry .ensures))
+returns-12 c =
+    let s = now (c .before .before .before .before .before .before .before .before .before .args .src) in
+    let told = c .before .before .before .before .before .b11 .given .1 in
+    rw told (finished (entry-bytes s (slice-bytes s (c .before .before .before .before .before .before .before .before .shared-slice-known .given)) (rw told at (c .before .before .before .before .before .before .before .before .before .pre))) (c .before .before .put-entry .ensures))
 
 same-length-12 : tie.Need-same-length-12
 same-length-12 c = search needs
 
 returns-13 : tie.Need-returns-13
-returns-13 c = let s = now (c .before .before .before .before .before .before .before .before .before .args .src) in rw (c .before .before .before .before .before .b12 .given .1) (finished (record-bytes s (slice-bytes s (c .before .before .before .before .before .before .before .before .shared-slice-known .given)) (rw (c .before .before .before .before .before .b12 .given .1) at (c .before .before .before .before .before .before .before .before .before .pre))) (c .before .before .put-record .ensures))
+returns-13 c =
+    let s = now (c .before .before .before .before .before .before .before .before .before .args .src) in
+    let told = c .before .before .before .before .before .b12 .given .1 in
+    rw told (finished (record-bytes s (slice-bytes s (c .before .before .before .before .before .before .before .before .shared-slice-known .given)) (rw told at (c .before .before .before .before .before .before .before .before .before .pre))) (c .before .before .put-record .ensures))
 
 same-length-13 : tie.Need-same-length-13
 same-length-13 c = search needs
 
 returns-14 : tie.Need-returns-14
-returns-14 c = let s = now (c .before .before .before .before .before .before .before .before .before .args .src) in rw (c .before .before .before .before .before .b13 .given .1) (finished (records-bytes s (slice-bytes s (c .before .before .before .before .before .before .before .before .shared-slice-known .given)) (rw (c .before .before .before .before .before .b13 .given .1) at (c .before .before .before .before .before .before .before .before .before .pre))) (c .before .before .put-dword-list .ensures))
+returns-14 c =
+    let s = now (c .before .before .before .before .before .before .before .before .before .args .src) in
+    let told = c .before .before .before .before .before .b13 .given .1 in
+    rw told (finished (records-bytes s (slice-bytes s (c .before .before .before .before .before .before .before .before .shared-slice-known .given)) (rw told at (c .before .before .before .before .before .before .before .before .before .pre))) (c .before .before .put-dword-list .ensures))
 
 same-length-14 : tie.Need-same-length-14
 same-length-14 c = search needs
 
 returns-15 : tie.Need-returns-15
-returns-15 c = let s = now (c .before .before .before .before .before .before .before .before .before .args .src) in rw (c .before .before .before .before .before .b14 .given .1) (finished (records-flag-bytes s (slice-bytes s (c .before .before .before .before .before .before .before .before .shared-slice-known .given)) (rw (c .before .before .before .before .before .b14 .given .1) at (c .before .before .before .before .before .before .before .before .before .pre))) (c .before .before .put-records-flag .ensures))
+returns-15 c =
+    let s = now (c .before .before .before .before .before .before .before .before .before .args .src) in
+    let told = c .before .before .before .before .before .b14 .given .1 in
+    rw told (finished (records-flag-bytes s (slice-bytes s (c .before .before .before .before .before .before .before .before .shared-slice-known .given)) (rw told at (c .before .before .before .before .before .before .before .before .before .pre))) (c .before .before .put-records-flag .ensures))
 
 same-length-15 : tie.Need-same-length-15
 same-length-15 c = search needs
 
 returns-16 : tie.Need-returns-16
-returns-16 c = let s = now (c .before .before .before .before .before .before .before .before .before .args .src) in rw (c .before .before .before .before .before .b15 .given .1) (finished (record-address-bytes s (slice-bytes s (c .before .before .before .before .before .before .before .before .shared-slice-known .given)) (rw (c .before .before .before .before .before .b15 .given .1) at (c .before .before .before .before .before .before .before .before .before .pre))) (c .before .before .put-record-address .ensures))
+returns-16 c =
+    let s = now (c .before .before .before .before .before .before .before .before .before .args .src) in
+    let told = c .before .before .before .before .before .b15 .given .1 in
+    rw told (finished (record-address-bytes s (slice-bytes s (c .before .before .before .before .before .before .before .before .shared-slice-known .given)) (rw told at (c .before .before .before .before .before .before .before .before .before .pre))) (c .before .before .put-record-address .ensures))
 
 same-length-16 : tie.Need-same-length-16
 same-length-16 c = search needs
 
 returns-17 : tie.Need-returns-17
-returns-17 c = let s = now (c .before .before .before .before .before .before .before .before .before .args .src) in rw (c .before .before .before .before .before .b16 .given .1) (finished (hello-bytes s (slice-bytes s (c .before .before .before .before .before .before .before .before .shared-slice-known .given)) (rw (c .before .before .before .before .before .b16 .given .1) at (c .before .before .before .before .before .before .before .before .before .pre))) (c .before .before .put-hello .ensures))
+returns-17 c =
+    let s = now (c .before .before .before .before .before .before .before .before .before .args .src) in
+    let told = c .before .before .before .before .before .b16 .given .1 in
+    rw told (finished (hello-bytes s (slice-bytes s (c .before .before .before .before .before .before .before .before .shared-slice-known .given)) (rw told at (c .before .before .before .before .before .before .before .before .before .pre))) (c .before .before .put-hello .ensures))
 
 same-length-17 : tie.Need-same-length-17
 same-length-17 c = search needs
@@ -262,7 +323,10 @@ same-length-18 : tie.Need-same-length-18
 same-length-18 c = search needs
 
 returns-19 : tie.Need-returns-19
-returns-19 c = let s = now (c .before .before .before .before .before .before .before .before .before .args .src) in rw (c .before .before .before .before .before .b18 .given .1) (finished (hashset-bytes s (slice-bytes s (c .before .before .before .before .before .before .before .before .shared-slice-known .given)) (rw (c .before .before .before .before .before .b18 .given .1) at (c .before .before .before .before .before .before .before .before .before .pre))) (c .before .before .put-hashset .ensures))
+returns-19 c =
+    let s = now (c .before .before .before .before .before .before .before .before .before .args .src) in
+    let told = c .before .before .before .before .before .b18 .given .1 in
+    rw told (finished (hashset-bytes s (slice-bytes s (c .before .before .before .before .before .before .before .before .shared-slice-known .given)) (rw told at (c .before .before .before .before .before .before .before .before .before .pre))) (c .before .before .put-hashset .ensures))
 
 same-length-19 : tie.Need-same-length-19
 same-length-19 c = search needs
@@ -280,7 +344,10 @@ same-length-21 : tie.Need-same-length-21
 same-length-21 c = search needs
 
 returns-22 : tie.Need-returns-22
-returns-22 c = let s = now (c .before .before .before .before .before .before .before .before .before .args .src) in rw (c .before .before .before .before .before .b21 .given .1) (finished (file-status-bytes s (slice-bytes s (c .before .before .before .before .before .before .before .before .shared-slice-known .given)) (rw (c .before .before .before .before .before .b21 .given .1) at (c .before .before .before .before .before .before .before .before .before .pre))) (c .before .before .put-file-status .ensures))
+returns-22 c =
+    let s = now (c .before .before .before .before .before .before .before .before .before .args .src) in
+    let told = c .before .before .before .before .before .b21 .given .1 in
+    rw told (finished (file-status-bytes s (slice-bytes s (c .before .before .before .before .before .before .before .before .shared-slice-known .given)) (rw told at (c .before .before .before .before .before .before .before .before .before .pre))) (c .before .before .put-file-status .ensures))
 
 same-length-22 : tie.Need-same-length-22
 same-length-22 c = search needs

@@ -8,8 +8,8 @@ use Rattle.bodywriting.proofs.put_byte_list.Tie as tie
 sub-n : tie.Need-sub-n
 sub-n c = search needs
 
-cast-count : tie.Need-cast-count
-cast-count c = search needs
+byte-count-requires : tie.Need-byte-count-requires
+byte-count-requires c κs = search needs
 
 put-byte-requires : tie.Need-put-byte-requires
 put-byte-requires c κs = search needs
@@ -33,14 +33,16 @@ same-length : tie.Need-same-length
 same-length c = search needs
 
 returns : tie.Need-returns
-returns c = then (puts (byte (c .before .before .before .before .before .before .before .before .before .before .before .args .l .count)) 1 (length-littleEndian 1 _) (c .before .before .before .before .before .before .put-byte .ensures)) (c .before .before .put-run .ensures)
+returns c =
+    let counted = rw (c .before .before .before .before .before .before .before .before .byte-count .ensures) at (c .before .before .before .before .before .before .put-byte .ensures) in
+    then (puts (byte (c .before .before .before .before .before .before .before .before .before .before .before .args .l .count)) 1 (length-littleEndian 1 _) counted) (c .before .before .put-run .ensures)
 
 pub put-byte-list-spec : {M : Type 1} → statement M
 put-byte-list-spec =
     tie.close
     (tie.spec
     sub-n
-    cast-count
+    byte-count-requires
     put-byte-requires
     sub-put-run
     part-put-run-start

@@ -63,7 +63,13 @@ same-length : tie.Need-same-length
 same-length c = search needs
 
 returns : tie.Need-returns
-returns c = then (then (then (then (puts (byte (c .before .before .before .before .before .before .before .before .before .before .before .before .before .before .before .before .before .before .before .before .before .before .args .p .first)) 1 (length-littleEndian 1 _) (c .before .before .before .before .before .before .before .before .before .before .before .before .before .before .before .before .before .before .put-byte .ensures)) (puts (byte (c .before .before .before .before .before .before .before .before .before .before .before .before .before .before .before .before .before .before .before .before .before .before .args .p .second)) 1 (length-littleEndian 1 _) (c .before .before .before .before .before .before .before .before .before .before .before .before .before .before .put-byte2 .ensures))) (puts (byte 0xAA) 1 (length-littleEndian 1 _) (c .before .before .before .before .before .before .before .before .before .before .put-byte3 .ensures))) (puts (byte 0x5A) 1 (length-littleEndian 1 _) (c .before .before .before .before .before .before .put-byte4 .ensures))) (c .before .before .put-triple .ensures)
+returns c =
+    let p = c .before .before .before .before .before .before .before .before .before .before .before .before .before .before .before .before .before .before .before .before .before .before .args .p in
+    let first = puts (byte (p .first)) 1 (length-littleEndian 1 _) (c .before .before .before .before .before .before .before .before .before .before .before .before .before .before .before .before .before .before .put-byte .ensures) in
+    let second = puts (byte (p .second)) 1 (length-littleEndian 1 _) (c .before .before .before .before .before .before .before .before .before .before .before .before .before .before .put-byte2 .ensures) in
+    let third = puts (byte 0xAA) 1 (length-littleEndian 1 _) (c .before .before .before .before .before .before .before .before .before .before .put-byte3 .ensures) in
+    let fourth = puts (byte 0x5A) 1 (length-littleEndian 1 _) (c .before .before .before .before .before .before .put-byte4 .ensures) in
+    then (then (then (then first second) third) fourth) (c .before .before .put-triple .ensures)
 
 pub put-extended-status-spec : {M : Type 1} → statement M
 put-extended-status-spec =

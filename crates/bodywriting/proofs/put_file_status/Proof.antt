@@ -48,7 +48,10 @@ same-length : tie.Need-same-length
 same-length c = search needs
 
 returns : tie.Need-returns
-returns c = then (then (c .before .before .before .before .before .before .before .before .before .before .put-run .ensures) (puts (word (c .before .before .before .before .before .before .before .before .before .before .before .before .before .before .args .p .parts)) 2 (length-littleEndian 2 _) (c .before .before .before .before .before .before .put-word .ensures))) (c .before .before .put-run2 .ensures)
+returns c =
+    then
+    (then (c .before .before .before .before .before .before .before .before .before .before .put-run .ensures) (puts (word (c .before .before .before .before .before .before .before .before .before .before .before .before .before .before .args .p .parts)) 2 (length-littleEndian 2 _) (c .before .before .before .before .before .before .put-word .ensures)))
+    (c .before .before .put-run2 .ensures)
 
 pub put-file-status-spec : {M : Type 1} → statement M
 put-file-status-spec =

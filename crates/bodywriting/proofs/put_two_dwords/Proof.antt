@@ -24,7 +24,9 @@ same-length : tie.Need-same-length
 same-length c = search needs
 
 returns : tie.Need-returns
-returns c = then (puts (dword (c .before .before .before .before .before .before .before .before .before .args .a)) 4 (length-littleEndian 4 _) (c .before .before .before .before .before .before .put-dword .ensures)) (puts (dword (c .before .before .before .before .before .before .before .before .before .args .b)) 4 (length-littleEndian 4 _) (c .before .before .put-dword2 .ensures))
+returns c =
+    then (puts (dword (c .before .before .before .before .before .before .before .before .before .args .a)) 4 (length-littleEndian 4 _) (c .before .before .before .before .before .before .put-dword .ensures))
+    (puts (dword (c .before .before .before .before .before .before .before .before .before .args .b)) 4 (length-littleEndian 4 _) (c .before .before .put-dword2 .ensures))
 
 pub put-two-dwords-spec : {M : Type 1} → statement M
 put-two-dwords-spec =

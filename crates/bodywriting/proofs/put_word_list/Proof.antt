@@ -8,8 +8,8 @@ use Rattle.bodywriting.proofs.put_word_list.Tie as tie
 sub-n : tie.Need-sub-n
 sub-n c = search needs
 
-cast-count : tie.Need-cast-count
-cast-count c = search needs
+word-count-requires : tie.Need-word-count-requires
+word-count-requires c κs = search needs
 
 put-word-requires : tie.Need-put-word-requires
 put-word-requires c κs = search needs
@@ -33,14 +33,16 @@ same-length : tie.Need-same-length
 same-length c = search needs
 
 returns : tie.Need-returns
-returns c = then (puts (word (c .before .before .before .before .before .before .before .before .before .before .before .args .l .count)) 2 (length-littleEndian 2 _) (c .before .before .before .before .before .before .put-word .ensures)) (c .before .before .put-run .ensures)
+returns c =
+    let counted = rw (c .before .before .before .before .before .before .before .before .word-count .ensures) at (c .before .before .before .before .before .before .put-word .ensures) in
+    then (puts (word (c .before .before .before .before .before .before .before .before .before .before .before .args .l .count)) 2 (length-littleEndian 2 _) counted) (c .before .before .put-run .ensures)
 
 pub put-word-list-spec : {M : Type 1} → statement M
 put-word-list-spec =
     tie.close
     (tie.spec
     sub-n
-    cast-count
+    word-count-requires
     put-word-requires
     sub-put-run
     part-put-run-start

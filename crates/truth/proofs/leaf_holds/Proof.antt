@@ -1,94 +1,82 @@
-use Prim.Native.Nat.{_≤_, _-_}
-use mathlib.Core.Path.{_≡_, refl, sym, _∙_}
-use native.Mathlib.Nat.{sub-zero}
-use native.Mathlib.Omega.{arith}
-use borrow.Author.Needs.{needs}
-use Rattle.format.specs.Decoding.{decodeMany, itemsOf, ends}
-use Rattle.format.specs.Order.{decodeTag}
-use Rattle.format.specs.Truth.{some}
-use Rattle.format.proofs.Many.{loop-step}
-use Rattle.query.specs.Meaning.{nodeIn}
+use mathlib.Core.Path.{refl, sym}
+use denote.Ref.{now}
+use Rattle.tags.specs.Meaning.{tagsIn}
 use Rattle.truth.specs.Meaning.{tagMeets}
-use Rattle.truth.proofs.Found.{never-stops, some-here, some-step, some-none}
+use Rattle.truth.proofs.Candidates.{looks-for-number, looks-for-text}
+use Rattle.truth.proofs.Found.{some-never}
+use borrow.Author.Needs.{needs}
 use Rattle.truth.proofs.leaf_holds.Statement.{statement}
 use Rattle.truth.proofs.leaf_holds.Tie as tie
 
-abbrev Inv-loop : tie.InvT-loop
-Inv-loop query leaf tags count next₀ i₀ next i =
-    let p = tagMeets (nodeIn query leaf) in
-    let whole = decodeMany count decodeTag tags (next₀ .at) in
-    let rest = decodeMany (count - i) decodeTag tags (next .at) in
-    (i ≤ count) × ((ends whole ≡ ends rest) × (some p (itemsOf whole) ≡ some p (itemsOf rest)))
-
-abbrev μ-loop : tie.MeasureT-loop
-μ-loop query leaf tags count next₀ i₀ next i = count - i
-
-loop-holds : tie.Need-loop-holds Inv-loop μ-loop
-loop-holds c = (omega arith, (rw sub-zero refl, rw sub-zero refl))
-
-read-tag-requires : tie.Need-read-tag-requires Inv-loop μ-loop
-read-tag-requires c κs = search needs
-
-enum-known-t : tie.Need-enum-known-t Inv-loop μ-loop
-enum-known-t c = search needs
-
-enum-told : tie.Need-enum-told Inv-loop μ-loop
+enum-told : tie.Need-enum-told
 enum-told c = search needs
 
-returns : tie.Need-returns Inv-loop μ-loop
+enum-told-2 : tie.Need-enum-told-2
+enum-told-2 c = search needs
+
+slice-aggregate-some-tag : tie.Need-slice-aggregate-some-tag
+slice-aggregate-some-tag c = search needs
+
+some-tag-requires : tie.Need-some-tag-requires
+unfolding tagMeets
+some-tag-requires c κs =
+    let a = c .before .before .before .before .before in
+    (rw (c .before .enum-told2 .given .1) (looks-for-text _ _), a .pre)
+
+enum-known-leaf : tie.Need-enum-known-leaf
+enum-known-leaf c = search needs
+
+bytes-at-requires : tie.Need-bytes-at-requires
+bytes-at-requires c κs = search needs
+
+some-tag-requires-2 : tie.Need-some-tag-requires-2
+unfolding tagMeets
+some-tag-requires-2 c κs =
+    let a = c .before .before .before .before .before .before in
+    (rw (c .bytes-at .ensures) (looks-for-text _ _), a .pre)
+
+enum-known-leaf-2 : tie.Need-enum-known-leaf-2
+enum-known-leaf-2 c = search needs
+
+bytes-at-requires-2 : tie.Need-bytes-at-requires-2
+bytes-at-requires-2 c κs = search needs
+
+some-tag-requires-3 : tie.Need-some-tag-requires-3
+unfolding tagMeets
+some-tag-requires-3 c κs =
+    let a = c .before .before .before .before .before .before in
+    (rw (c .bytes-at2 .ensures) (looks-for-number _ _), a .pre)
+
+returns : tie.Need-returns
+unfolding tagMeets
 returns c =
-    let l = c .before .before .before .before in
-    let read = rw (c .enum-told .given .1) at (c .before .before .read-tag .ensures) in
-    absurd (never-stops decodeTag _ _ (l .before .before .before .pre) _ _ _ (c .before .before .before .loop-test .taken) (l .loop .inv .1 .0) read)
+    let a = c .before .before .before .before .args in
+    rw (c .enum-told .given .1) (sym (some-never _ (λ t. refl) (tagsIn (now (a .tags)) (a .list))))
 
-tag-meets-requires : tie.Need-tag-meets-requires Inv-loop μ-loop
-tag-meets-requires c κs = search needs
+returns-2 : tie.Need-returns-2
+returns-2 c = search needs
 
-returns-2 : tie.Need-returns-2 Inv-loop μ-loop
-returns-2 c =
-    let b = c .before .before .before in
-    let l = b .before .before .before .before in
-    let read = rw (b .t .given .1) at (b .before .before .read-tag .ensures) in
-    let meets = sym (c .if1 .taken) ∙ c .before .tag-meets .ensures in
-    sym (l .loop .inv .1 .1 ∙ some-here decodeTag _ _ (l .before .before .before .pre) _ _ _ _ (b .before .before .before .loop-test .taken) (l .loop .inv .1 .0) read meets)
+returns-3 : tie.Need-returns-3
+returns-3 c = rw (c .before .before .before .leaf .given .1) (c .some-tag2 .ensures)
 
-add-i : tie.Need-add-i Inv-loop μ-loop
-add-i c = search needs
-
-loop-less : tie.Need-loop-less Inv-loop μ-loop
-loop-less c = search needs
-
-loop-again : tie.Need-loop-again Inv-loop μ-loop
-loop-again c =
-    let b = c .before .before .before in
-    let l = b .before .before .before .before in
-    let read = rw (b .t .given .1) at (b .before .before .read-tag .ensures) in
-    let meets = sym (c .if1 .left) ∙ c .before .tag-meets .ensures in
-    let more = b .before .before .before .loop-test .taken in (
-      omega arith,
-      (
-        loop-step decodeTag _ _ _ _ _ more (l .loop .inv .1 .0) read,
-        l .loop .inv .1 .1 ∙ some-step decodeTag _ _ (l .before .before .before .pre) _ _ _ _ more (l .loop .inv .1 .0) read meets,
-      ),
-    )
-
-returns-3 : tie.Need-returns-3 Inv-loop μ-loop
-returns-3 c = sym (c .before .loop .inv .1 .1 ∙ some-none decodeTag _ _ (c .before .before .before .before .pre) _ _ _ _ (c .loop-test .left))
+returns-4 : tie.Need-returns-4
+returns-4 c = rw (c .before .before .before .leaf2 .given .1) (c .some-tag3 .ensures)
 
 pub leaf-holds-spec : {M : Type 1} → statement M
 leaf-holds-spec =
     tie.close
     (tie.spec
-    Inv-loop
-    μ-loop
-    loop-holds
-    read-tag-requires
-    enum-known-t
     enum-told
+    enum-told-2
+    slice-aggregate-some-tag
+    some-tag-requires
+    enum-known-leaf
+    bytes-at-requires
+    some-tag-requires-2
+    enum-known-leaf-2
+    bytes-at-requires-2
+    some-tag-requires-3
     returns
-    tag-meets-requires
     returns-2
-    add-i
-    loop-less
-    loop-again
-    returns-3)
+    returns-3
+    returns-4)
