@@ -1,3 +1,4 @@
 mod Fields
 mod GapNumbers
 mod Writes
+pub mod Links

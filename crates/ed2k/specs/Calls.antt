@@ -29,6 +29,7 @@ use Rattle.records.specs.Meaning.{recordMeaning, RecordStepPlaced}
 use Rattle.met.specs.declared.FileEntryStep.{FileEntryStep}
 use Rattle.met.specs.declared.ServerEntryStep.{ServerEntryStep}
 use Rattle.met.specs.Meaning.{fileEntryMeaning, FileEntryStepPlaced, serverEntryMeaning, ServerEntryStepPlaced}
+use Rattle.packets.specs.declared.Link.{Link}
 use Rattle.reader.specs.declared.Answer.{Answer}
 use Rattle.reader.specs.Meaning.{answerIn, AnswerPlaced}
 use Rattle.ed2k.specs.Fields.{filled, itemsNumbers, queryNumbers, recordNumbers, messageNumbers}
@@ -70,6 +71,11 @@ tagListRead (TagListAnswer.Refused n) old = numbered n old
 abbrev pub MessageRead : messages.Kind → List ℕ → List ℕ → Numbered → Type 0
 MessageRead k s old r =
     (a : Answer) × (answerIn k s a ≡ some (reply (decode k s))) × AnswerPlaced s a × (r ≡ messageRead a old)
+
+abbrev pub linkKind : Link → messages.Kind
+linkKind Link.Server = serverLink
+linkKind Link.Client = clientLink
+linkKind Link.Udp = udpLink
 
 abbrev pub QueryRead : List ℕ → List ℕ → Numbered → Type 0
 QueryRead s old r =

@@ -29,7 +29,7 @@ ghost use Rattle.ed2k.specs.Fields.{filled, placeNumbers, itemsNumbers, 
 ghost use Rattle.ed2k.specs.Fields.{formNumber, bodyNumbers, packetNumbers, knownNumbers, serverNumbers, hashesNumbers, partNumbers};
 ghost use Rattle.ed2k.specs.Fields.{messageNumbers, tagNumbers, fileEntryNumbers, serverEntryNumbers};
 ghost use Rattle.ed2k.specs.Fields.{operatorNumber, boundNumber, nodeNumbers};
-ghost use Rattle.ed2k.specs.Calls.{numbered, handedOut, kinds, ReadOf, MessageRead, QueryRead, TagListRead};
+ghost use Rattle.ed2k.specs.Calls.{numbered, handedOut, kinds, ReadOf, MessageRead, linkKind, QueryRead, TagListRead};
 ghost use Rattle.ed2k.specs.Calls.{TagRead, addressRead, RecordRead, FileEntryRead, ServerEntryRead, NodeRead};
 ghost use Rattle.ed2k.specs.Calls.{Leaves, truthByte, chosen, bounds, operators};
 ghost use Rattle.marking.specs.Numbers.{pairNumbers, numbersOf, recordIn};
@@ -54,7 +54,9 @@ use met::PartMet;
 use met::ServerEntry;
 use met::ServerEntryStep;
 use met::ServerMet;
+use packets::Link;
 use packets::Packet;
+use packets::PacketAnswer;
 use query::Bound;
 use query::Node;
 use query::NodeStep;
@@ -498,6 +500,20 @@ fn node_fields(node: Node, next: Cursor) -> [u64; 16]
 
 // Reading.
 
+// A packet goes straight to its fields: most of what a box reads are packets, and each copy of one is felt.
+fn read_link(link: Link, bytes: &[u8], fields: &mut [u64]) -> u8
+    ensures { λ r. ⌜ MessageRead (linkKind link) (now (bytes .entry)) (now (fields .entry)) (numbered r (now (fields .exit))) ⌝ }
+{
+    let a = packets::read_packet(bytes, link);
+    match a {
+        PacketAnswer::Refused(n) => n,
+        PacketAnswer::Accepted(p) => {
+            let f = packet_fields(p);
+            hand_out(&f, fields)
+        }
+    }
+}
+
 fn read_message(kind: Kind, bytes: &[u8], fields: &mut [u64]) -> u8
     ensures { λ r. ⌜ MessageRead (kindOf kind) (now (bytes .entry)) (now (fields .entry)) (numbered r (now (fields .exit))) ⌝ }
 {
@@ -542,9 +558,9 @@ pub extern "C" fn ed2k_read(kind: u8, bytes: &[u8], fields: &mut [u64]) -> u8
     ensures { λ r. ⌜ ReadOf (lookup kinds kind) (now (bytes .entry)) (now (fields .entry)) (numbered r (now (fields .exit))) ⌝ }
 {
     match kind {
-        0 => read_message(Kind::ServerLink, bytes, fields),
-        1 => read_message(Kind::ClientLink, bytes, fields),
-        2 => read_message(Kind::UdpLink, bytes, fields),
+        0 => read_link(Link::Server, bytes, fields),
+        1 => read_link(Link::Client, bytes, fields),
+        2 => read_link(Link::Udp, bytes, fields),
         3 => read_message(Kind::KnownMet, bytes, fields),
         4 => read_message(Kind::ServerMet, bytes, fields),
         5 => read_message(Kind::PartMet, bytes, fields),

@@ -8,7 +8,7 @@ use borrow.Author.Tests.{le-leb, lt-leb}
 use mir.Syntax.{w8}
 use mir.Val.{Fits}
 use Rattle.format.specs.Layout.{dword, encodeFileEntry, encodeHash, encodeServerEntry, encodeTag, encodeTags, word}
-use Rattle.format.specs.Rules.{Dword, ValidFileEntry, ValidHash, ValidTag}
+use Rattle.format.specs.Rules.{ValidHash, ValidTag}
 use Rattle.format.specs.Decoding.{Fault, bytesAt, got, number, refused}
 use Rattle.format.specs.Order.{decodeHash, decodeTag}
 use Rattle.format.specs.Writing.{overwritten, unwritten}

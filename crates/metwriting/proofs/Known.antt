@@ -1,9 +1,9 @@
 -- known.met: its bytes, its number, and that its write goes both ways.
-use Prim.Native.Nat.{ℕ, _+_, _≤_, _<_}
+use Prim.Native.Nat.{ℕ, _+_, _≤_}
 use mathlib.Core.Path.{_≡_, refl, sym, ap, subst, _∙_}
 use mathlib.Core.Bool.{Bool, true, false}
-use mathlib.Core.Logic.{inl, inr}
-use mathlib.Core.List.{List, [], _∷_, _++_, append-nil}
+use mathlib.Core.Logic.{inl}
+use mathlib.Core.List.{List, _++_}
 use native.Mathlib.Omega.{arith}
 use lib.ListN.{getD, length, length-append}
 use lib.Dec.{eqb, leb}
@@ -14,10 +14,10 @@ use Rattle.format.specs.Tables.{pick}
 use Rattle.format.specs.Messages as messages
 use Rattle.format.specs.Messages.{knownMet}
 use Rattle.format.specs.Layout.{byte, dword, encodeAll, encodeFileEntry, encodeKnownMet}
-use Rattle.format.specs.Rules.{Byte, Bytes, Dword, Valid, ValidFileEntry, ValidKnownMet, metCeiling, metOpenings}
-use Rattle.format.specs.Decoding.{Outcome, Rule, bytesAt, fault, got, refused}
+use Rattle.format.specs.Rules.{Byte, Bytes, Dword, ValidFileEntry, metCeiling, metOpenings}
+use Rattle.format.specs.Decoding.{Rule, bytesAt, fault, got, refused}
 use Rattle.format.specs.PacketOrder.{decodeOpening}
-use Rattle.format.specs.MetOrder.{decode, decodeFileEntry, decodeKnownMet}
+use Rattle.format.specs.MetOrder.{decode, decodeKnownMet}
 use Rattle.format.specs.Writing.{CountsFit, FileEntryFits, Judged, Written, refusedFor}
 use Rattle.format.proofs.Codec.{anywhere, bytes-littleEndian, codec-byte, length-littleEndian}
 use Rattle.format.proofs.MetFiles.{codec-entry}

@@ -6,6 +6,15 @@ use borrow.Author.Needs.{needs}
 use Rattle.ed2k.proofs.ed2k_read.Statement.{statement}
 use Rattle.ed2k.proofs.ed2k_read.Tie as tie
 
+read-link-requires : tie.Need-read-link-requires
+read-link-requires c κs = search needs
+
+read-link-requires-2 : tie.Need-read-link-requires-2
+read-link-requires-2 c κs = search needs
+
+read-link-requires-3 : tie.Need-read-link-requires-3
+read-link-requires-3 c κs = search needs
+
 read-message-requires : tie.Need-read-message-requires
 read-message-requires c κs = search needs
 
@@ -14,15 +23,6 @@ read-message-requires-2 c κs = search needs
 
 read-message-requires-3 : tie.Need-read-message-requires-3
 read-message-requires-3 c κs = search needs
-
-read-message-requires-4 : tie.Need-read-message-requires-4
-read-message-requires-4 c κs = search needs
-
-read-message-requires-5 : tie.Need-read-message-requires-5
-read-message-requires-5 c κs = search needs
-
-read-message-requires-6 : tie.Need-read-message-requires-6
-read-message-requires-6 c κs = search needs
 
 read-lone-query-requires : tie.Need-read-lone-query-requires
 read-lone-query-requires c κs = search needs
@@ -34,37 +34,37 @@ same-length : tie.Need-same-length
 same-length c = search needs
 
 returns : tie.Need-returns
-returns c = rw (c .before .before .before .before .match .keys1) (c .before .before .read-message .ensures)
+returns c = rw (c .before .before .before .before .match .keys1) (c .before .before .read-link .ensures)
 
 same-length-2 : tie.Need-same-length-2
 same-length-2 c = search needs
 
 returns-2 : tie.Need-returns-2
-returns-2 c = rw (c .before .before .before .before .match .keys2) (c .before .before .read-message2 .ensures)
+returns-2 c = rw (c .before .before .before .before .match .keys2) (c .before .before .read-link2 .ensures)
 
 same-length-3 : tie.Need-same-length-3
 same-length-3 c = search needs
 
 returns-3 : tie.Need-returns-3
-returns-3 c = rw (c .before .before .before .before .match .keys3) (c .before .before .read-message3 .ensures)
+returns-3 c = rw (c .before .before .before .before .match .keys3) (c .before .before .read-link3 .ensures)
 
 same-length-4 : tie.Need-same-length-4
 same-length-4 c = search needs
 
 returns-4 : tie.Need-returns-4
-returns-4 c = rw (c .before .before .before .before .match .keys4) (c .before .before .read-message4 .ensures)
+returns-4 c = rw (c .before .before .before .before .match .keys4) (c .before .before .read-message .ensures)
 
 same-length-5 : tie.Need-same-length-5
 same-length-5 c = search needs
 
 returns-5 : tie.Need-returns-5
-returns-5 c = rw (c .before .before .before .before .match .keys5) (c .before .before .read-message5 .ensures)
+returns-5 c = rw (c .before .before .before .before .match .keys5) (c .before .before .read-message2 .ensures)
 
 same-length-6 : tie.Need-same-length-6
 same-length-6 c = search needs
 
 returns-6 : tie.Need-returns-6
-returns-6 c = rw (c .before .before .before .before .match .keys6) (c .before .before .read-message6 .ensures)
+returns-6 c = rw (c .before .before .before .before .match .keys6) (c .before .before .read-message3 .ensures)
 
 same-length-7 : tie.Need-same-length-7
 same-length-7 c = search needs
@@ -87,12 +87,12 @@ pub ed2k-read-spec : {M : Type 1} → statement M
 ed2k-read-spec =
     tie.close
     (tie.spec
+    read-link-requires
+    read-link-requires-2
+    read-link-requires-3
     read-message-requires
     read-message-requires-2
     read-message-requires-3
-    read-message-requires-4
-    read-message-requires-5
-    read-message-requires-6
     read-lone-query-requires
     read-lone-tags-requires
     same-length

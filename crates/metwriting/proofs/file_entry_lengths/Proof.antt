@@ -4,13 +4,6 @@ use Rattle.metwriting.proofs.Lists.{hash-there}
 use borrow.Author.Needs.{needs}
 use Rattle.metwriting.proofs.file_entry_lengths.Statement.{statement}
 use Rattle.metwriting.proofs.file_entry_lengths.Tie as tie
-use Rattle.metwriting.proofs.file_entry_lengths.Reads as reads
-use Rattle.metwriting.proofs.file_entry_lengths.Lts as lts
-use Rattle.metwriting.proofs.LengthStep.fault.Reads as LengthStep-fault-reads
-use Rattle.metwriting.proofs.hashes_length.Reads as hashes-length-reads
-use Rattle.metwriting.proofs.tags_length.Reads as tags-length-reads
-use Rattle.wire.proofs.Cursor.hash.Reads as hash-reads
-use Rattle.wire.proofs.HashStep.fault.Reads as HashStep-fault-reads
 
 hash-requires : tie.Need-hash-requires
 hash-requires c κs = search needs

@@ -14,12 +14,6 @@ use Rattle.metwriting.proofs.Entries.{hash-size, parts-size}
 use borrow.Author.Needs.{needs}
 use Rattle.metwriting.proofs.put_entry_head.Statement.{statement}
 use Rattle.metwriting.proofs.put_entry_head.Tie as tie
-use Rattle.metwriting.proofs.put_entry_head.Reads as reads
-use Rattle.metwriting.proofs.put_entry_head.Lts as lts
-use Rattle.metwriting.proofs.put_hashes.Reads as put-hashes-reads
-use Rattle.put.proofs.copy.Reads as copy-reads
-use Rattle.put.proofs.put_dword.Reads as put-dword-reads
-use Rattle.wire.proofs.bytes_at.Reads as bytes-at-reads
 
 put-dword-requires : tie.Need-put-dword-requires
 put-dword-requires c κs = search needs

@@ -12,11 +12,6 @@ use Rattle.metwriting.specs.Lengths.{entryHead}
 use borrow.Author.Needs.{needs}
 use Rattle.metwriting.proofs.put_file_entry.Statement.{statement}
 use Rattle.metwriting.proofs.put_file_entry.Tie as tie
-use Rattle.metwriting.proofs.put_file_entry.Reads as reads
-use Rattle.metwriting.proofs.put_file_entry.Lts as lts
-use Rattle.metwriting.proofs.put_entry_head.Reads as put-entry-head-reads
-use Rattle.metwriting.proofs.put_items.Reads as put-items-reads
-use Rattle.wire.proofs.bytes_at.Reads as bytes-at-reads
 
 put-entry-head-requires : tie.Need-put-entry-head-requires
 put-entry-head-requires c κs = search needs

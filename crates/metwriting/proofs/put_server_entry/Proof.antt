@@ -12,12 +12,6 @@ use Rattle.metwriting.proofs.Entries.{server-bytes, server-tags-size}
 use borrow.Author.Needs.{needs}
 use Rattle.metwriting.proofs.put_server_entry.Statement.{statement}
 use Rattle.metwriting.proofs.put_server_entry.Tie as tie
-use Rattle.metwriting.proofs.put_server_entry.Reads as reads
-use Rattle.metwriting.proofs.put_server_entry.Lts as lts
-use Rattle.metwriting.proofs.put_items.Reads as put-items-reads
-use Rattle.put.proofs.put_dword.Reads as put-dword-reads
-use Rattle.put.proofs.put_word.Reads as put-word-reads
-use Rattle.wire.proofs.bytes_at.Reads as bytes-at-reads
 
 put-dword-requires : tie.Need-put-dword-requires
 put-dword-requires c κs = search needs

@@ -8,10 +8,6 @@ use Rattle.metwriting.proofs.Known.{entries-size}
 use borrow.Author.Needs.{needs}
 use Rattle.metwriting.proofs.put_server_met.Statement.{statement}
 use Rattle.metwriting.proofs.put_server_met.Tie as tie
-use Rattle.metwriting.proofs.put_server_met.Reads as reads
-use Rattle.metwriting.proofs.put_server_met.Lts as lts
-use Rattle.metwriting.proofs.put_entries.Reads as put-entries-reads
-use Rattle.put.proofs.copy.Reads as copy-reads
 
 put-entries-requires : tie.Need-put-entries-requires
 put-entries-requires c κs = search needs

@@ -9,10 +9,6 @@ use Rattle.metwriting.proofs.Lists.{end-behind}
 use borrow.Author.Needs.{needs}
 use Rattle.metwriting.proofs.tags_length.Statement.{statement}
 use Rattle.metwriting.proofs.tags_length.Tie as tie
-use Rattle.metwriting.proofs.tags_length.Reads as reads
-use Rattle.metwriting.proofs.tags_length.Lts as lts
-use Rattle.wire.proofs.DoneStep.fault.Reads as fault-reads
-use Rattle.writing.proofs.tags_end.Reads as tags-end-reads
 
 tags-end-requires : tie.Need-tags-end-requires
 tags-end-requires c κs = search needs

@@ -6,9 +6,6 @@ use Rattle.metwriting.specs.Lengths.{openingNumber}
 use borrow.Author.Needs.{needs}
 use Rattle.metwriting.proofs.tailed_number.Statement.{statement}
 use Rattle.metwriting.proofs.tailed_number.Tie as tie
-use Rattle.metwriting.proofs.tailed_number.Reads as reads
-use Rattle.metwriting.proofs.tailed_number.Lts as lts
-use Rattle.metwriting.proofs.opening_number.Reads as opening-number-reads
 
 returns : tie.Need-returns
 unfolding openingNumber

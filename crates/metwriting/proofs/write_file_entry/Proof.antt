@@ -1,17 +1,9 @@
-use Prim.Native.Nat.{_+_}
 use native.Mathlib.Omega.{arith}
 use denote.Ref.{now}
 use Rattle.metwriting.proofs.Entries.{entry-missing, entry-overflows, entry-roomless, entry-written, parts-length}
 use borrow.Author.Needs.{needs}
 use Rattle.metwriting.proofs.write_file_entry.Statement.{statement}
 use Rattle.metwriting.proofs.write_file_entry.Tie as tie
-use Rattle.metwriting.proofs.write_file_entry.Reads as reads
-use Rattle.metwriting.proofs.write_file_entry.Lts as lts
-use Rattle.metwriting.proofs.EntryStep.fault.Reads as fault-reads
-use Rattle.metwriting.proofs.file_entry_lengths.Reads as file-entry-lengths-reads
-use Rattle.metwriting.proofs.put_file_entry.Reads as put-file-entry-reads
-use Rattle.wire.proofs.Fault.number.Reads as number-reads
-use Rattle.writing.proofs.refused.Reads as refused-reads
 
 file-entry-lengths-requires : tie.Need-file-entry-lengths-requires
 file-entry-lengths-requires c κs = search needs

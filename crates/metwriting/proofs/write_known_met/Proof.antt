@@ -1,5 +1,4 @@
 use Rattle.metwriting.proofs.Known.{known-promises, known-ready, opening-fits, part-size}
-use Prim.Native.Nat.{_+_}
 use mathlib.Core.Path.{sym, _∙_}
 use native.Mathlib.Omega.{arith}
 use denote.Ref.{now}
@@ -7,15 +6,6 @@ use Rattle.metwriting.proofs.Answers.{faulty, missing, roomless, writte
 use borrow.Author.Needs.{needs}
 use Rattle.metwriting.proofs.write_known_met.Statement.{statement}
 use Rattle.metwriting.proofs.write_known_met.Tie as tie
-use Rattle.metwriting.proofs.write_known_met.Reads as reads
-use Rattle.metwriting.proofs.write_known_met.Lts as lts
-use Rattle.metwriting.proofs.LengthStep.fault.Reads as fault-reads
-use Rattle.metwriting.proofs.file_entries_length.Reads as file-entries-length-reads
-use Rattle.metwriting.proofs.opening_number.Reads as opening-number-reads
-use Rattle.metwriting.proofs.put_entries.Reads as put-entries-reads
-use Rattle.wire.proofs.Fault.number.Reads as number-reads
-use Rattle.wire.proofs.bytes_at.Reads as bytes-at-reads
-use Rattle.writing.proofs.refused.Reads as refused-reads
 
 file-entries-length-requires : tie.Need-file-entries-length-requires
 file-entries-length-requires c κs = search needs

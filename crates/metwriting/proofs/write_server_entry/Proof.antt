@@ -4,13 +4,6 @@ use Rattle.metwriting.proofs.Entries.{server-missing, server-roomless, 
 use borrow.Author.Needs.{needs}
 use Rattle.metwriting.proofs.write_server_entry.Statement.{statement}
 use Rattle.metwriting.proofs.write_server_entry.Tie as tie
-use Rattle.metwriting.proofs.write_server_entry.Reads as reads
-use Rattle.metwriting.proofs.write_server_entry.Lts as lts
-use Rattle.metwriting.proofs.LengthStep.fault.Reads as fault-reads
-use Rattle.metwriting.proofs.put_server_entry.Reads as put-server-entry-reads
-use Rattle.metwriting.proofs.tags_length.Reads as tags-length-reads
-use Rattle.wire.proofs.Fault.number.Reads as number-reads
-use Rattle.writing.proofs.refused.Reads as refused-reads
 
 tags-length-requires : tie.Need-tags-length-requires
 tags-length-requires c κs = search needs

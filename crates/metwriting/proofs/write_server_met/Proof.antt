@@ -1,4 +1,3 @@
-use Prim.Native.Nat.{_+_}
 use mathlib.Core.Path.{sym, _∙_}
 use native.Mathlib.Omega.{arith}
 use denote.Ref.{now}
@@ -8,17 +7,6 @@ use Rattle.metwriting.proofs.Servers.{part-sizes, server-promises, serv
 use borrow.Author.Needs.{needs}
 use Rattle.metwriting.proofs.write_server_met.Statement.{statement}
 use Rattle.metwriting.proofs.write_server_met.Tie as tie
-use Rattle.metwriting.proofs.write_server_met.Reads as reads
-use Rattle.metwriting.proofs.write_server_met.Lts as lts
-use Rattle.metwriting.proofs.LengthStep.fault.Reads as LengthStep-fault-reads
-use Rattle.metwriting.proofs.put_server_met.Reads as put-server-met-reads
-use Rattle.metwriting.proofs.server_entries_length.Reads as server-entries-length-reads
-use Rattle.metwriting.proofs.tailed_number.Reads as tailed-number-reads
-use Rattle.wire.proofs.Cursor.run.Reads as run-reads
-use Rattle.wire.proofs.Fault.number.Reads as number-reads
-use Rattle.wire.proofs.PlaceStep.fault.Reads as PlaceStep-fault-reads
-use Rattle.wire.proofs.bytes_at.Reads as bytes-at-reads
-use Rattle.writing.proofs.refused.Reads as refused-reads
 
 server-entries-length-requires : tie.Need-server-entries-length-requires
 server-entries-length-requires c κs = search needs

@@ -1,0 +1,19 @@
+-- A packet's answer is an answer of the one reading call.
+use Prim.Native.Nat.{ℕ}
+use mathlib.Core.Path.{_≡_, ap}
+use mathlib.Core.List.{List}
+use mathlib.Core.Option.{some}
+use Rattle.packets.specs.declared.Link.{Link}
+use Rattle.packets.specs.declared.PacketAnswer.{PacketAnswer}
+use Rattle.packets.specs.Meaning.{PacketPlaced, linkReply, packetReply}
+use Rattle.reader.specs.Meaning.{fromPacket}
+use Rattle.ed2k.specs.Calls.{MessageRead, Numbered, linkKind, messageRead}
+
+pub link-read : (link : Link) (s old : List ℕ) (a : PacketAnswer) (r : Numbered) → packetReply s a ≡ linkReply link s → PacketPlaced s a →
+    r ≡ messageRead (fromPacket a) old → MessageRead (linkKind link) s old r
+link-read Link.Server s old (PacketAnswer.Accepted p) r e h q = (fromPacket (PacketAnswer.Accepted p), ap some e, h, q)
+link-read Link.Server s old (PacketAnswer.Refused n) r e h q = (fromPacket (PacketAnswer.Refused n), ap some e, h, q)
+link-read Link.Client s old (PacketAnswer.Accepted p) r e h q = (fromPacket (PacketAnswer.Accepted p), ap some e, h, q)
+link-read Link.Client s old (PacketAnswer.Refused n) r e h q = (fromPacket (PacketAnswer.Refused n), ap some e, h, q)
+link-read Link.Udp s old (PacketAnswer.Accepted p) r e h q = (fromPacket (PacketAnswer.Accepted p), ap some e, h, q)
+link-read Link.Udp s old (PacketAnswer.Refused n) r e h q = (fromPacket (PacketAnswer.Refused n), ap some e, h, q)
