@@ -152,10 +152,10 @@ uint8_t ed2k_truth(const uint8_t *query, size_t query_length, const uint8_t *tag
 uint8_t ed2k_write_keyword(const uint8_t *text, size_t text_length, uint8_t *output, size_t room, uint64_t *written);
 uint8_t ed2k_write_field(const uint8_t *text, size_t text_length, const uint8_t *name, size_t name_length, uint8_t *output,
                          size_t room, uint64_t *written);
-/* bound: 1 min, 2 max, else 5. */
+/* bound: 1 min, 2 max; another is refused first (5). */
 uint8_t ed2k_write_limit(uint32_t number, uint8_t bound, const uint8_t *name, size_t name_length, uint8_t *output, size_t room,
                          uint64_t *written);
-/* operation: 0 and, 1 or, 2 and not, else 5; then the refusals of the left query, of the right one, and 6 above depth 24. */
+/* operation: 0 and, 1 or, 2 and not; another is refused first (5); then the refusals of the left query, of the right one, and 6 above depth 24. */
 uint8_t ed2k_write_join(uint8_t operation, const uint8_t *left, size_t left_length, const uint8_t *right, size_t right_length,
                         uint8_t *output, size_t room, uint64_t *written);
 

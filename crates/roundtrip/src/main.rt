@@ -1,28 +1,54 @@
-// Writes again each packet that is read from two files (the data of the program `vectors`): made inputs of every kind, and what
-// a stock client sent or wrote. Prints for each link how many packets were read, and how many of them were written as the same bytes.
+// Writes again each packet and file that is read from two files (the data of the program `vectors`): made inputs of every kind, and what
+// a stock client sent or wrote. Prints for each kind how many were read, and how many of them were written as the same bytes.
 use console::Input;
 use console::next_input;
 use libc::STDOUT_FILENO;
+use metwriting::write_known_met;
+use metwriting::write_server_met;
 use packets::Link;
-use packets::PacketAnswer;
-use packets::read_packet;
+use packets::Packet;
 use packetwriting::write_packet;
+use partwriting::write_part_met;
 use put::same;
+use reader::Answer;
+use reader::Kind;
+use reader::Message;
+use reader::read;
 use std::num::wrapping_add_u64;
 use wire::bytes_at;
+use writing::WriteAnswer;
 
 struct Tally {
     read: u64,
     same: u64,
 }
 
-// Counts the packet that is read from the bytes of s, if there is one, and whether it is written as these.
-fn tally_packet(t: Tally, link: Link, s: &[u8], out: &mut [u8]) -> Tally {
-    let a = read_packet(s, link);
-    let PacketAnswer::Accepted(p) = a else {
+// A packet of a kind that is a link.
+fn write_link(kind: Kind, s: &[u8], p: Packet, out: &mut [u8]) -> WriteAnswer {
+    match kind {
+        Kind::ClientLink => write_packet(s, Link::Client, p, out),
+        Kind::UdpLink => write_packet(s, Link::Udp, p, out),
+        _ => write_packet(s, Link::Server, p, out),
+    }
+}
+
+// What was read from s as a kind.
+fn write_message(kind: Kind, s: &[u8], m: Message, out: &mut [u8]) -> WriteAnswer {
+    match m {
+        Message::Packet(p) => write_link(kind, s, p, out),
+        Message::KnownMet(k) => write_known_met(s, k, out),
+        Message::ServerMet(v) => write_server_met(s, v, out),
+        Message::PartMet(p, _) => write_part_met(s, p, out),
+    }
+}
+
+// Counts the message that is read from the bytes of s, if there is one, and whether it is written as these.
+fn tally_message(t: Tally, kind: Kind, s: &[u8], out: &mut [u8]) -> Tally {
+    let a = read(kind, s);
+    let Answer::Accepted(m) = a else {
         return t;
     };
-    let w = write_packet(s, link, p, out);
+    let w = write_message(kind, s, m, out);
     let read = wrapping_add_u64(t.read, 1);
     let length = w.length;
     if w.number == 0 && same(bytes_at(out, 0, length), s) {
@@ -34,10 +60,10 @@ fn tally_packet(t: Tally, link: Link, s: &[u8], out: &mut [u8]) -> Tally {
     Tally { read, same: t.same }
 }
 
-// The same for an input that is one of the link's, or is not.
-fn tally_input(t: Tally, of_link: bool, link: Link, s: &[u8], out: &mut [u8]) -> Tally {
-    if of_link {
-        return tally_packet(t, link, s, out);
+// The same for an input that is of the kind, or is not.
+fn tally_input(t: Tally, of_kind: bool, kind: Kind, s: &[u8], out: &mut [u8]) -> Tally {
+    if of_kind {
+        return tally_message(t, kind, s, out);
     }
     t
 }
@@ -47,7 +73,7 @@ fn tally_inputs(
     tally: Tally,
     fd: i32,
     letter: u8,
-    link: Link,
+    kind: Kind,
     bytes: &mut [u8],
     out: &mut [u8],
 ) -> Tally {
@@ -55,10 +81,10 @@ fn tally_inputs(
     let mut turns = u64::MAX;
     while turns > 0 {
         let i = next_input(fd, bytes);
-        let Input::Of(kind, n) = i else {
+        let Input::Of(found, n) = i else {
             return t;
         };
-        t = tally_input(t, kind == letter, link, bytes_at(bytes, 0, n), out);
+        t = tally_input(t, found == letter, kind, bytes_at(bytes, 0, n), out);
         turns -= 1;
     }
     t
@@ -68,7 +94,7 @@ fn tally_file(
     t: Tally,
     path: &[u8],
     letter: u8,
-    link: Link,
+    kind: Kind,
     bytes: &mut [u8],
     out: &mut [u8],
 ) -> Tally {
@@ -77,15 +103,15 @@ fn tally_file(
         os::fail(path);
         return t;
     }
-    let after = tally_inputs(t, fd, letter, link, bytes, out);
+    let after = tally_inputs(t, fd, letter, kind, bytes, out);
     libc::close(fd);
     after
 }
 
-fn print_link(name: &[u8], letter: u8, link: Link, bytes: &mut [u8], out: &mut [u8]) {
+fn print_kind(name: &[u8], letter: u8, kind: Kind, bytes: &mut [u8], out: &mut [u8]) {
     let none = Tally { read: 0, same: 0 };
-    let made = tally_file(none, b"vectors.bin", letter, link, bytes, out);
-    let all = tally_file(made, b"samples.bin", letter, link, bytes, out);
+    let made = tally_file(none, b"vectors.bin", letter, kind, bytes, out);
+    let all = tally_file(made, b"samples.bin", letter, kind, bytes, out);
     io::write_all(STDOUT_FILENO, name);
     io::write_all(STDOUT_FILENO, b": ");
     io::print_decimal(STDOUT_FILENO, all.read);
@@ -95,13 +121,20 @@ fn print_link(name: &[u8], letter: u8, link: Link, bytes: &mut [u8], out: &mut [
 }
 
 fn print_links(bytes: &mut [u8], out: &mut [u8]) {
-    print_link(b"server link", b's', Link::Server, bytes, out);
-    print_link(b"client link", b'c', Link::Client, bytes, out);
-    print_link(b"UDP", b'u', Link::Udp, bytes, out);
+    print_kind(b"server link", b's', Kind::ServerLink, bytes, out);
+    print_kind(b"client link", b'c', Kind::ClientLink, bytes, out);
+    print_kind(b"UDP", b'u', Kind::UdpLink, bytes, out);
+}
+
+fn print_met_files(bytes: &mut [u8], out: &mut [u8]) {
+    print_kind(b"known.met", b'k', Kind::KnownMet, bytes, out);
+    print_kind(b"server.met", b'v', Kind::ServerMet, bytes, out);
+    print_kind(b"part.met", b'p', Kind::PartMet, bytes, out);
 }
 
 fn main() {
     let mut bytes = [0u8; 65536];
     let mut out = [0u8; 65536];
     print_links(&mut bytes, &mut out);
+    print_met_files(&mut bytes, &mut out);
 }
