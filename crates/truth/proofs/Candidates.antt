@@ -18,10 +18,10 @@ use Rattle.format.specs.Truth.{onString, onDword, stringTag, dwordTag}
 use Rattle.format.proofs.Codec.{lookup-code, never, same-place, same-value, Went, went}
 use Rattle.format.proofs.There.{byte-there, value-is, word-there}
 use Rattle.tags.specs.Skips.{leastWidth, moreBytes}
-use Rattle.truth.specs.Meaning.{Lies, Passes, isOf, onItem, tagsFrom}
+use Rattle.truth.specs.Meaning.{Lies, LooksFor, Passes, isOf, onItem, tagsFrom}
 use Rattle.truth.specs.declared.Spot.{Spot}
 use Rattle.truth.proofs.Found.{rest-lies, some-step}
-use Rattle.truth.proofs.Texts.{both-false, same-longer}
+use Rattle.truth.proofs.Texts.{same-longer}
 
 not-both : true ≡ false → ⊥
 not-both e = let z : _≡_ {A = ℕ} 0 1 = ap (λ b. pick b 0 1) e in omega arith
@@ -250,7 +250,7 @@ looks-for-number name p t e = go (same (t .name) name) (t .value .0) (t .value .
     go true floatType v e = refl
 
 -- A tag of another type or name is passed.
-none-meets : (code : ℕ) (name : List ℕ) (p : Tag → Bool) → ((t : Tag) → isOf code name t ≡ false → p t ≡ false) → (o : Outcome Tag) →
+none-meets : (code : ℕ) (name : List ℕ) (p : Tag → Bool) → LooksFor code name p → (o : Outcome Tag) →
     false ≡ onItem (isOf code name) o → false ≡ onItem p o
 none-meets code name p looks (refused f) e = refl
 none-meets code name p looks (got t next) e = sym (looks t (sym e))

@@ -14,7 +14,7 @@ use Rattle.format.specs.Decoding.{bytesAt}
 use Rattle.format.specs.PartTagOrder.{same}
 use Rattle.format.specs.Truth.{prefix, occurs}
 
-pub both-false : (x : Bool) → pick x false false ≡ false
+both-false : (x : Bool) → pick x false false ≡ false
 both-false true = refl
 both-false false = refl
 

@@ -29,9 +29,9 @@ tagMeets (limit number bound name) t = dwordTag name (within bound number) t
 unfoldable pub isOf : ℕ → List ℕ → Tag → Bool
 isOf code name t = pick (eqb (typeCode (t .value .0)) code) (same (t .name) name) false
 
--- The leaf looks for tags of this type and name alone.
-abbrev pub LooksFor : ℕ → List ℕ → Node → Type 0
-LooksFor code name leaf = (t : Tag) → isOf code name t ≡ false → tagMeets leaf t ≡ false
+-- The test looks for tags of this type and name alone.
+abbrev pub LooksFor : ℕ → List ℕ → (Tag → Bool) → Type 0
+LooksFor code name p = (t : Tag) → isOf code name t ≡ false → p t ≡ false
 
 -- A test of an item that was decoded: where none was, it is false.
 abbrev pub onItem : {A : Type 0} → (A → Bool) → Outcome A → Bool
@@ -47,13 +47,12 @@ Lies (got a next) = Unit {0}
 abbrev pub tagsFrom : List ℕ → Spot → Outcome (List Tag)
 tagsFrom s p = decodeMany (p .left) decodeTag s (p .at)
 
--- From one spot of a list to a later one no tag of this type and name lies: a test that only such tags can meet is met by some tag from the
--- one on if it is met by some tag from the other on.
+-- No tag of this type and name lies between two spots of a list: a test that looks for such tags alone holds of some tag from the first spot
+-- on if it holds of some tag from the second on.
 pub record Passes (code : ℕ) (name s : List ℕ) (from to : Spot) : Type 0 where
   pub fewer : to .left ≤ from .left
   pub lie : Lies (tagsFrom s to)
-  pub same-truth : (p : Tag → Bool) → ((t : Tag) → isOf code name t ≡ false → p t ≡ false) →
-      some p (itemsOf (tagsFrom s from)) ≡ some p (itemsOf (tagsFrom s to))
+  pub same-truth : (p : Tag → Bool) → LooksFor code name p → some p (itemsOf (tagsFrom s from)) ≡ some p (itemsOf (tagsFrom s to))
 
 -- The truth of a query that was decoded, in place of the query.
 unfoldable pub truths : List Tag → Outcome Query → Outcome Bool

@@ -185,7 +185,7 @@ fn tag_meets(query: &[u8], leaf: Node, tags: &[u8], tag: Tag) -> bool
     }
 }
 
-// The functions below go through a list that was read before: a tag lies whole at each place that they are given.
+// A list is read before the leaves look into it, so that a tag lies whole at each of its places.
 
 // Whether the tag at a place has the type and the name. Its value is not looked at.
 fn is_candidate(tags: &[u8], at: usize, code: u8, name: &[u8]) -> bool
@@ -259,7 +259,7 @@ fn meets_at(query: &[u8], leaf: Node, tags: &[u8], at: usize) -> bool
 
 // Whether some tag of the list is one that the leaf looks for. Most tags are of another type or name, and are not read.
 fn some_tag(query: &[u8], leaf: Node, code: u8, name: &[u8], tags: &[u8], list: Items) -> bool
-    requires { ⌜ LooksFor code (now name) (nodeIn (now query) leaf) × ItemsPlaced decodeTag (now tags) list ⌝ }
+    requires { ⌜ LooksFor code (now name) (tagMeets (nodeIn (now query) leaf)) × ItemsPlaced decodeTag (now tags) list ⌝ }
     ensures { λ r. ⌜ r ≡ some (tagMeets (nodeIn (now (query .entry)) leaf)) (tagsIn (now (tags .entry)) list) ⌝ }
 {
     let mut left = list.count;
