@@ -1,4 +1,3 @@
-mod Fields
 mod GapNumbers
 mod Writes
 pub mod Links

@@ -4,36 +4,47 @@ use mathlib.Core.Path.{_≡_}
 use mathlib.Core.Bool.{cond}
 use mathlib.Core.Option.{Option, none, some}
 use mathlib.Core.List.{List, [], _∷_}
-use lib.ListN.{length}
+use lib.ListN.{length, take}
 use lib.Dec.{leb, eqb}
 use Rattle.format.specs.Tables.{pick}
 use Rattle.format.specs.Messages as messages
 use Rattle.format.specs.Messages.{serverLink, clientLink, udpLink, knownMet, serverMet, partMet, loneQuery, loneTags}
 use Rattle.format.specs.Decoding as decoding
-use Rattle.format.specs.Decoding.{Outcome, refused, got, reply}
-use Rattle.format.specs.Order.{decodeTag, decodeRecord}
+use Rattle.format.specs.Decoding.{Outcome, refused, got, reply, ends}
+use Rattle.format.specs.Order.{decodeTag, decodeRecord, decodeQuery}
 use Rattle.format.specs.MetOrder.{decode, decodeFileEntry, decodeServerEntry}
 use Rattle.format.specs.Writing.{Written, unwritten, overwritten}
 use Rattle.format.specs.Truth.{TruthReply}
 use Rattle.wire.specs.declared.Fault.{Fault}
-use Rattle.wire.specs.Meaning.{ruleMeaning}
+use Rattle.wire.specs.declared.Items.{Items}
+use Rattle.wire.specs.Meaning.{itemsIn, ruleMeaning}
 use Rattle.tags.specs.declared.TagStep.{TagStep}
 use Rattle.tags.specs.declared.TagListAnswer.{TagListAnswer}
 use Rattle.tags.specs.Meaning.{tagMeaning, tagListReply, TagListPlaced}
 use Rattle.query.specs.declared.NodeStep.{NodeStep}
+use Rattle.query.specs.declared.Query.{Query}
 use Rattle.query.specs.declared.QueryAnswer.{QueryAnswer}
 use Rattle.query.specs.Nodes.{decodeNode}
-use Rattle.query.specs.Meaning.{nodeMeaning, queryReply, QueryAnswerPlaced}
+use Rattle.query.specs.Meaning.{nodeMeaning, queryIn, queryReply, QueryAnswerPlaced}
 use Rattle.records.specs.declared.RecordStep.{RecordStep}
 use Rattle.records.specs.Meaning.{recordMeaning, RecordStepPlaced}
 use Rattle.met.specs.declared.FileEntryStep.{FileEntryStep}
 use Rattle.met.specs.declared.ServerEntryStep.{ServerEntryStep}
-use Rattle.met.specs.Meaning.{fileEntryMeaning, FileEntryStepPlaced, serverEntryMeaning, ServerEntryStepPlaced}
+use Rattle.met.specs.Meaning.{fileEntryMeaning, FileEntryStepPlaced, serverEntryMeaning, ServerEntryStepPlaced, knownMetIn, serverMetIn, partMetIn}
 use Rattle.packets.specs.declared.Link.{Link}
 use Rattle.reader.specs.declared.Answer.{Answer}
 use Rattle.reader.specs.Meaning.{answerIn, AnswerPlaced}
-use Rattle.ed2k.specs.Fields.{filled, itemsNumbers, queryNumbers, recordNumbers, messageNumbers}
-use Rattle.ed2k.specs.Fields.{tagNumbers, fileEntryNumbers, serverEntryNumbers, nodeNumbers}
+use Rattle.packets.specs.Meaning.{packetIn}
+use Rattle.writing.specs.There.{itemsThere}
+use Rattle.writing.specs.RoundTrip.{RoundTrip, WritesAt}
+use Rattle.packetwriting.specs.Packets as packetwriting
+use Rattle.packetwriting.specs.Packets.{packetOf, packetThere}
+use Rattle.metwriting.specs.Files.{knownThere, serverThere}
+use Rattle.partwriting.specs.Files.{partThere}
+use Rattle.writing.specs.Writers.{writeQuery, writeTagList}
+use Rattle.fields.specs.Fields.{filled, itemsNumbers, queryNumbers, recordNumbers, packetNumbers, knownNumbers, serverNumbers, partNumbers}
+use Rattle.fields.specs.Fields.{messageNumbers, tagNumbers, fileEntryNumbers, serverEntryNumbers, nodeNumbers}
+use Rattle.fields.specs.Given.{itemsAt, queryAt, packetGiven, knownGiven, serverGiven, partGiven, sizeGiven}
 
 -- The answer of a call that hands out numbers: its own number, and the array afterwards.
 pub record Numbered : Type 0 where
@@ -152,6 +163,75 @@ pub record Leaves (w : Written) (number : ℕ) (output : List ℕ) (old new : �
   pub told : number ≡ w .number
   pub holds : output ≡ w .output
   pub length : new ≡ pick (eqb (w .number) 0) (w .length) old
+
+-- A message that is told by its numbers: the first 16 given ones are those of the message, which is written; or they are no message's, and
+-- the call refuses (5) before all else.
+pub data GivenWrites (numbers given output : List ℕ) (Writes : Written → Type 0) : Written → Type 0 where
+  noMessage : (filled 16 numbers ≡ take 16 given → ⊥) → GivenWrites numbers given output Writes (unwritten 5 output)
+  message : {w : Written} → filled 16 numbers ≡ take 16 given → Writes w → GivenWrites numbers given output Writes w
+
+-- A write of the message that lies at places of s, and its round trip.
+abbrev pub WritesBack : (k : messages.Kind) → Outcome (Unit {0}) → messages.Message k → List ℕ → Written → Type 0
+WritesBack k there m output w = WritesAt k there m output w × RoundTrip k there m output w
+
+abbrev pub QueryWritten : List ℕ → Query → List ℕ → Written → Type 0
+QueryWritten s q output w = (w ≡ writeQuery s q output) × RoundTrip loneQuery (ends (decodeQuery s (q .at))) (queryIn s q) output w
+
+abbrev pub TagListWritten : List ℕ → Items → List ℕ → Written → Type 0
+TagListWritten s l output w = (w ≡ writeTagList s l output) × RoundTrip loneTags (itemsThere decodeTag s l) (itemsIn decodeTag s l) output w
+
+abbrev pub PacketWrites : Link → List ℕ → List ℕ → List ℕ → Written → Type 0
+PacketWrites link s given output w =
+    let p = packetGiven given in
+    GivenWrites (packetNumbers p) given output (WritesBack (packetwriting.kindOf link) (packetThere link s p) (packetOf link s p) output) w
+
+abbrev pub KnownWrites : List ℕ → List ℕ → List ℕ → Written → Type 0
+KnownWrites s given output w =
+    let m = knownGiven given in
+    GivenWrites (knownNumbers m) given output (WritesBack knownMet (knownThere s m) (knownMetIn s m) output) w
+
+abbrev pub ServerWrites : List ℕ → List ℕ → List ℕ → Written → Type 0
+ServerWrites s given output w =
+    let m = serverGiven given in
+    GivenWrites (serverNumbers m) given output (WritesBack serverMet (serverThere s m) (serverMetIn s m) output) w
+
+abbrev pub PartWrites : List ℕ → List ℕ → List ℕ → Written → Type 0
+PartWrites s given output w =
+    let m = partGiven given in
+    GivenWrites (partNumbers m (sizeGiven given)) given output (WritesBack partMet (partThere s m) (partMetIn s m) output) w
+
+abbrev pub QueryWrites : List ℕ → List ℕ → List ℕ → Written → Type 0
+QueryWrites s given output w =
+    let q = queryAt given 0 in
+    GivenWrites (queryNumbers q) given output (QueryWritten s q output) w
+
+abbrev pub TagListWrites : List ℕ → List ℕ → List ℕ → Written → Type 0
+TagListWrites s given output w =
+    let l = itemsAt given 0 in
+    GivenWrites (itemsNumbers l) given output (TagListWritten s l output) w
+
+abbrev pub KindWrites : messages.Kind → List ℕ → List ℕ → List ℕ → Written → Type 0
+KindWrites serverLink s given output w = PacketWrites Link.Server s given output w
+KindWrites clientLink s given output w = PacketWrites Link.Client s given output w
+KindWrites udpLink s given output w = PacketWrites Link.Udp s given output w
+KindWrites knownMet s given output w = KnownWrites s given output w
+KindWrites serverMet s given output w = ServerWrites s given output w
+KindWrites partMet s given output w = PartWrites s given output w
+KindWrites loneQuery s given output w = QueryWrites s given output w
+KindWrites loneTags s given output w = TagListWrites s given output w
+
+-- A kind that is not listed: 4, before all else.
+abbrev pub WriteOf : Option messages.Kind → List ℕ → List ℕ → List ℕ → Written → Type 0
+WriteOf none s given output w = w ≡ unwritten 4 output
+WriteOf (some k) s given output w = KindWrites k s given output w
+
+-- What a call leaves whose write is one of these.
+abbrev pub LeftBy : (Written → Type 0) → (number : ℕ) → (output : List ℕ) → (old new : ℕ) → Type 0
+LeftBy Writes number output old new = (w : Written) × Writes w × Leaves w number output old new
+
+-- A list that is told by its place and count alone: its end is not looked at by any writer.
+abbrev pub itemsFrom : ℕ → ℕ → Items
+itemsFrom at count = record { at = at; end = at; count = count }
 
 -- The truth of a query: the number, and 0 or 1.
 abbrev pub truthByte : TruthReply → ℕ → ℕ

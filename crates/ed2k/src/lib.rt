@@ -3,7 +3,7 @@
 // A call hands on to the crate that does the work, and puts the answer into what C lent: numbers into `fields` or `gaps`, a length
 // into `written`. A refused call changes nothing of it.
 ghost use mathlib.Core.Path.{_≡_};
-ghost use mathlib.Core.List.{[], _∷_, _++_};
+ghost use mathlib.Core.List.{[], _∷_};
 ghost use Prim.Native.Nat.{_+_, _≤_, _<_};
 ghost use lib.ListN.{length, getD};
 ghost use lib.Dec.{eqb};
@@ -25,21 +25,14 @@ ghost use Rattle.reader.specs.Meaning.{kindOf};
 ghost use Rattle.putting.specs.Meaning.{putRecord};
 ghost use Rattle.writing.specs.Writers.{writeTagList, writeQuery, writeKeyword, writeField, writeLimit, writeJoin};
 ghost use Rattle.writing.specs.Writers.{writeTextTag, writeDwordTag, writeFloatTag, writeHashTag};
-ghost use Rattle.ed2k.specs.Fields.{filled, placeNumbers, itemsNumbers, queryNumbers, addressNumbers, recordNumbers, tripleNumbers};
-ghost use Rattle.ed2k.specs.Fields.{formNumber, bodyNumbers, packetNumbers, knownNumbers, serverNumbers, hashesNumbers, partNumbers};
-ghost use Rattle.ed2k.specs.Fields.{messageNumbers, tagNumbers, fileEntryNumbers, serverEntryNumbers};
-ghost use Rattle.ed2k.specs.Fields.{operatorNumber, boundNumber, nodeNumbers};
+ghost use Rattle.bodywriting.specs.Entries.{writeAddress, writeRecord};
+ghost use Rattle.metwriting.specs.Entries.{writeFileEntry, writeServerEntry};
 ghost use Rattle.ed2k.specs.Calls.{numbered, handedOut, kinds, ReadOf, MessageRead, linkKind, QueryRead, TagListRead};
 ghost use Rattle.ed2k.specs.Calls.{TagRead, addressRead, RecordRead, FileEntryRead, ServerEntryRead, NodeRead};
-ghost use Rattle.ed2k.specs.Calls.{Leaves, truthByte, chosen, bounds, operators};
+ghost use Rattle.ed2k.specs.Calls.{Leaves, LeftBy, itemsFrom, truthByte, chosen, bounds, operators};
+ghost use Rattle.ed2k.specs.Calls.{WriteOf, PacketWrites, KnownWrites, ServerWrites, PartWrites, QueryWrites, TagListWrites};
 ghost use Rattle.marking.specs.Numbers.{pairNumbers, numbersOf, recordIn};
 ghost use Rattle.ed2k.specs.Gaps.{gapsRead, allMissingOut, Counts, Marks};
-use bodies::Body;
-use bodies::ExtendedStatus;
-use bodies::Form;
-use bodies::RequestParts;
-use bodies::SendingPart;
-use bodies::StatusRequest;
 use gaps::Gap;
 use gaps::GapRecord;
 use gaps::SIZE_LIMIT;
@@ -48,32 +41,23 @@ use marking::GAP_NUMBERS;
 use marking::mark_numbers;
 use met::FileEntry;
 use met::FileEntryStep;
-use met::HashBlocks;
-use met::KnownMet;
-use met::PartMet;
 use met::ServerEntry;
 use met::ServerEntryStep;
-use met::ServerMet;
 use packets::Link;
-use packets::Packet;
 use packets::PacketAnswer;
 use query::Bound;
-use query::Node;
 use query::NodeStep;
 use query::Operator;
 use query::Query;
 use query::QueryAnswer;
 use reader::Answer;
 use reader::Kind;
-use reader::Message;
 use records::Address;
 use records::AddressStep;
 use records::Record;
 use records::RecordStep;
-use tags::Tag;
 use tags::TagListAnswer;
 use tags::TagStep;
-use tags::TagValue;
 use wire::Cursor;
 use wire::Items;
 
@@ -112,392 +96,6 @@ fn report(number: u8, length: usize, written: &mut u64) -> u8
     0
 }
 
-// What a body's shape and values are as numbers.
-
-// The shape and four values, and 0 behind them.
-fn row(shape: u64, a: u64, b: u64, c: u64, d: u64) -> [u64; 9]
-    ensures { λ r. ⌜ r ≡ filled 9 (shape ∷ a ∷ b ∷ c ∷ d ∷ []) ⌝ }
-{
-    [shape, a, b, c, d, 0, 0, 0, 0]
-}
-
-fn record_row(shape: u64, r: Record, a: Address) -> [u64; 9]
-    ensures { λ s. ⌜ s ≡ shape ∷ recordNumbers r ++ addressNumbers a ⌝ }
-{
-    let l = r.tags;
-    [
-        shape,
-        r.hash as u64,
-        r.client as u64,
-        r.port as u64,
-        l.at as u64,
-        l.end as u64,
-        l.count as u64,
-        a.ip as u64,
-        a.port as u64,
-    ]
-}
-
-fn form_number(form: Form) -> u64
-    ensures { λ r. ⌜ r ≡ formNumber form ⌝ }
-{
-    match form {
-        Form::Plain => 0,
-        Form::Extended => 1,
-    }
-}
-
-fn status_request_row(r: StatusRequest) -> [u64; 9]
-    ensures { λ s. ⌜ s ≡ filled 9 (22 ∷ formNumber (r .form) ∷ r .number ∷ []) ⌝ }
-{
-    let form = r.form;
-    row(22, form_number(form), r.number as u64, 0, 0)
-}
-
-fn sending_part_row(p: SendingPart) -> [u64; 9]
-    ensures { λ r. ⌜ r ≡ filled 9 (19 ∷ p .hash ∷ p .start ∷ p .end ∷ placeNumbers (p .data)) ⌝ }
-{
-    let d = p.data;
-    let hash = p.hash as u64;
-    let start = p.start as u64;
-    let end = p.end as u64;
-    [19, hash, start, end, d.at as u64, d.len as u64, 0, 0, 0]
-}
-
-fn request_parts_row(p: RequestParts) -> [u64; 9]
-    ensures { λ r. ⌜ r ≡ filled 9 (20 ∷ p .hash ∷ tripleNumbers (p .starts) ++ tripleNumbers (p .ends)) ⌝ }
-{
-    let s = p.starts;
-    let e = p.ends;
-    [
-        20,
-        p.hash as u64,
-        s.first as u64,
-        s.second as u64,
-        s.third as u64,
-        e.first as u64,
-        e.second as u64,
-        e.third as u64,
-        0,
-    ]
-}
-
-fn extended_status_row(e: ExtendedStatus) -> [u64; 9]
-    ensures { λ r. ⌜ r ≡ filled 9 (24 ∷ e .first ∷ e .second ∷ tripleNumbers (e .numbers)) ⌝ }
-{
-    let t = e.numbers;
-    let a = e.first as u64;
-    let b = e.second as u64;
-    let first = t.first as u64;
-    let second = t.second as u64;
-    let third = t.third as u64;
-    [24, a, b, first, second, third, 0, 0, 0]
-}
-
-fn hash_address_tags_row(hash: usize, a: Address, l: Items) -> [u64; 9]
-    ensures { λ r. ⌜ r ≡ filled 9 (11 ∷ hash ∷ addressNumbers a ++ itemsNumbers l) ⌝ }
-{
-    let hash = hash as u64;
-    let ip = a.ip as u64;
-    let port = a.port as u64;
-    let at = l.at as u64;
-    let end = l.end as u64;
-    let count = l.count as u64;
-    [11, hash, ip, port, at, end, count, 0, 0]
-}
-
-fn body_row(body: Body) -> [u64; 9]
-    ensures { λ r. ⌜ r ≡ filled 9 (bodyNumbers body) ⌝ }
-{
-    match body {
-        Body::Nothing => row(0, 0, 0, 0, 0),
-        Body::Query(q) => row(1, q.at as u64, q.end as u64, q.depth as u64, 0),
-        Body::Hash(h) => row(2, h as u64, 0, 0, 0),
-        Body::Dword(n) => row(3, n as u64, 0, 0, 0),
-        Body::TwoDwords(m, n) => row(4, m as u64, n as u64, 0, 0),
-        Body::Text(t) => row(5, t.at as u64, t.len as u64, 0, 0),
-        Body::TwoTexts(t, u) => row(6, t.at as u64, t.len as u64, u.at as u64, u.len as u64),
-        Body::Address(a) => row(7, a.ip as u64, a.port as u64, 0, 0),
-        Body::Addresses(l) => row(8, l.at as u64, l.end as u64, l.count as u64, 0),
-        Body::HashAddresses(h, l) => { row(9, h as u64, l.at as u64, l.end as u64, l.count as u64) }
-        Body::AddressDword(a, n) => row(10, a.ip as u64, a.port as u64, n as u64, 0),
-        Body::HashAddressTags(h, a, l) => hash_address_tags_row(h, a, l),
-        Body::Record(r) => record_row(12, r, Address { ip: 0, port: 0 }),
-        Body::Records(l) => row(13, l.at as u64, l.end as u64, l.count as u64, 0),
-        Body::RecordsFlag(l, b) => { row(14, l.at as u64, l.end as u64, l.count as u64, b as u64) }
-        Body::RecordAddress(r, a) => record_row(15, r, a),
-        Body::Hello(r, a) => record_row(16, r, a),
-        Body::HashText(h, t) => row(17, h as u64, t.at as u64, t.len as u64, 0),
-        Body::Hashset(h, l) => row(18, h as u64, l.at as u64, l.end as u64, l.count as u64),
-        Body::SendingPart(p) => sending_part_row(p),
-        Body::RequestParts(p) => request_parts_row(p),
-        Body::FileStatus(f) => row(21, f.hash as u64, f.parts as u64, f.bits as u64, 0),
-        Body::StatusRequest(r) => status_request_row(r),
-        Body::Status(t) => row(23, t.first as u64, t.second as u64, t.third as u64, 0),
-        Body::ExtendedStatus(e) => extended_status_row(e),
-    }
-}
-
-// The numbers of a message.
-
-// Nine numbers and 0 behind them.
-fn row_of_fields(
-    a: u64,
-    b: u64,
-    c: u64,
-    d: u64,
-    e: u64,
-    f: u64,
-    g: u64,
-    h: u64,
-    i: u64,
-) -> [u64; 16]
-    ensures { λ r. ⌜ r ≡ filled 16 (a ∷ b ∷ c ∷ d ∷ e ∷ f ∷ g ∷ h ∷ i ∷ []) ⌝ }
-{
-    [a, b, c, d, e, f, g, h, i, 0, 0, 0, 0, 0, 0, 0]
-}
-
-fn packet_fields(p: Packet) -> [u64; 16]
-    ensures { λ r. ⌜ r ≡ filled 16 (packetNumbers p) ⌝ }
-{
-    let body = p.body;
-    let b = body_row(body);
-    [
-        p.opening as u64,
-        p.opcode as u64,
-        b[0],
-        b[1],
-        b[2],
-        b[3],
-        b[4],
-        b[5],
-        b[6],
-        b[7],
-        b[8],
-        0,
-        0,
-        0,
-        0,
-        0,
-    ]
-}
-
-fn known_fields(m: KnownMet) -> [u64; 16]
-    ensures { λ r. ⌜ r ≡ filled 16 (knownNumbers m) ⌝ }
-{
-    let l = m.entries;
-    let opening = m.opening as u64;
-    let at = l.at as u64;
-    let end = l.end as u64;
-    let count = l.count as u64;
-    row_of_fields(opening, at, end, count, 0, 0, 0, 0, 0)
-}
-
-fn server_fields(m: ServerMet) -> [u64; 16]
-    ensures { λ r. ⌜ r ≡ filled 16 (serverNumbers m) ⌝ }
-{
-    let l = m.entries;
-    let t = m.tail;
-    let opening = m.opening as u64;
-    let at = l.at as u64;
-    let end = l.end as u64;
-    let count = l.count as u64;
-    row_of_fields(opening, at, end, count, t.at as u64, t.len as u64, 0, 0, 0)
-}
-
-// A part.met, the same for each of its two layouts.
-fn part_row(
-    opening: u64,
-    size: u32,
-    date: u32,
-    hash: usize,
-    tags: Items,
-    which: u64,
-    parts: Items,
-    blocks: Items,
-) -> [u64; 16]
-    ensures { λ r. ⌜ r ≡ filled 16 (opening ∷ size ∷ date ∷ hash ∷ itemsNumbers tags ++ hashesNumbers which parts blocks) ⌝ }
-{
-    [
-        opening,
-        size as u64,
-        date as u64,
-        hash as u64,
-        tags.at as u64,
-        tags.end as u64,
-        tags.count as u64,
-        which,
-        parts.at as u64,
-        parts.end as u64,
-        parts.count as u64,
-        blocks.at as u64,
-        blocks.end as u64,
-        blocks.count as u64,
-        0,
-        0,
-    ]
-}
-
-fn part_fields(m: PartMet, size: u32) -> [u64; 16]
-    ensures { λ r. ⌜ r ≡ filled 16 (partNumbers m size) ⌝ }
-{
-    let none = Items {
-        at: 0,
-        end: 0,
-        count: 0,
-    };
-    match m {
-        PartMet::E0(e) => part_row(0xE0, size, e.date, e.hash, e.tags, 4, e.parts, none),
-        PartMet::E1(f) => {
-            let blocks = f.blocks;
-            match blocks {
-                HashBlocks::Nothing => {
-                    part_row(0xE1, size, f.date, f.hash, f.tags, 0, none, none)
-                }
-                HashBlocks::Parts(p) => { part_row(0xE1, size, f.date, f.hash, f.tags, 1, p, none) }
-                HashBlocks::Blocks(b) => {
-                    part_row(0xE1, size, f.date, f.hash, f.tags, 2, none, b)
-                }
-                HashBlocks::Both(p, b) => part_row(0xE1, size, f.date, f.hash, f.tags, 3, p, b),
-            }
-        }
-    }
-}
-
-fn message_fields(m: Message) -> [u64; 16]
-    ensures { λ r. ⌜ r ≡ filled 16 (messageNumbers m) ⌝ }
-{
-    match m {
-        Message::Packet(p) => packet_fields(p),
-        Message::KnownMet(k) => known_fields(k),
-        Message::ServerMet(v) => server_fields(v),
-        Message::PartMet(p, size) => part_fields(p, size),
-    }
-}
-
-fn query_fields(q: Query) -> [u64; 16]
-    ensures { λ r. ⌜ r ≡ filled 16 (queryNumbers q) ⌝ }
-{
-    row_of_fields(q.at as u64, q.end as u64, q.depth as u64, 0, 0, 0, 0, 0, 0)
-}
-
-fn list_fields(l: Items) -> [u64; 16]
-    ensures { λ r. ⌜ r ≡ filled 16 (itemsNumbers l) ⌝ }
-{
-    row_of_fields(l.at as u64, l.end as u64, l.count as u64, 0, 0, 0, 0, 0, 0)
-}
-
-// The numbers of an item and of the place behind it.
-
-fn tag_row(next: Cursor, code: u64, tag: Tag, a: u64, b: u64) -> [u64; 16]
-    ensures { λ r. ⌜ r ≡ filled 16 (next .at ∷ code ∷ tag .«name_at» ∷ tag .«name_len» ∷ a ∷ b ∷ []) ⌝ }
-{
-    let at = next.at as u64;
-    let name_at = tag.name_at as u64;
-    let name_len = tag.name_len as u64;
-    row_of_fields(at, code, name_at, name_len, a, b, 0, 0, 0)
-}
-
-fn tag_fields(tag: Tag, next: Cursor) -> [u64; 16]
-    ensures { λ r. ⌜ r ≡ filled 16 (tagNumbers tag next) ⌝ }
-{
-    let value = tag.value;
-    match value {
-        TagValue::Hash(h) => tag_row(next, 1, tag, h as u64, 16),
-        TagValue::Text(t) => tag_row(next, 2, tag, t.at as u64, t.len as u64),
-        TagValue::Dword(n) => tag_row(next, 3, tag, n as u64, 0),
-        TagValue::Float(n) => tag_row(next, 4, tag, n as u64, 0),
-    }
-}
-
-fn address_fields(a: Address, next: Cursor) -> [u64; 16]
-    ensures { λ r. ⌜ r ≡ filled 16 (next .at ∷ addressNumbers a) ⌝ }
-{
-    row_of_fields(next.at as u64, a.ip as u64, a.port as u64, 0, 0, 0, 0, 0, 0)
-}
-
-fn record_fields(r: Record, next: Cursor) -> [u64; 16]
-    ensures { λ s. ⌜ s ≡ filled 16 (next .at ∷ recordNumbers r) ⌝ }
-{
-    let t = r.tags;
-    let hash = r.hash as u64;
-    let client = r.client as u64;
-    let port = r.port as u64;
-    let at = t.at as u64;
-    let end = t.end as u64;
-    let count = t.count as u64;
-    row_of_fields(next.at as u64, hash, client, port, at, end, count, 0, 0)
-}
-
-fn file_entry_fields(e: FileEntry, next: Cursor) -> [u64; 16]
-    ensures { λ r. ⌜ r ≡ filled 16 (fileEntryNumbers e next) ⌝ }
-{
-    let p = e.parts;
-    let t = e.tags;
-    row_of_fields(
-        next.at as u64,
-        e.date as u64,
-        e.hash as u64,
-        p.at as u64,
-        p.end as u64,
-        p.count as u64,
-        t.at as u64,
-        t.end as u64,
-        t.count as u64,
-    )
-}
-
-fn server_entry_fields(e: ServerEntry, next: Cursor) -> [u64; 16]
-    ensures { λ r. ⌜ r ≡ filled 16 (serverEntryNumbers e next) ⌝ }
-{
-    let t = e.tags;
-    let ip = e.ip as u64;
-    let port = e.port as u64;
-    let at = t.at as u64;
-    let end = t.end as u64;
-    let count = t.count as u64;
-    row_of_fields(next.at as u64, ip, port, at, end, count, 0, 0, 0)
-}
-
-fn operator_number(o: Operator) -> u64
-    ensures { λ r. ⌜ r ≡ operatorNumber o ⌝ }
-{
-    match o {
-        Operator::And => 0,
-        Operator::Or => 1,
-        Operator::AndNot => 2,
-    }
-}
-
-fn bound_number(b: Bound) -> u64
-    ensures { λ r. ⌜ r ≡ boundNumber b ⌝ }
-{
-    match b {
-        Bound::AtLeast => 1,
-        Bound::AtMost => 2,
-    }
-}
-
-fn node_fields(node: Node, next: Cursor) -> [u64; 16]
-    ensures { λ r. ⌜ r ≡ filled 16 (nodeNumbers node next) ⌝ }
-{
-    let at = next.at as u64;
-    match node {
-        Node::Join(o) => row_of_fields(at, 0, operator_number(o), 0, 0, 0, 0, 0, 0),
-        Node::Keyword(t) => row_of_fields(at, 1, 0, t.at as u64, t.len as u64, 0, 0, 0, 0),
-        Node::Field(t, n) => {
-            let name = n.at as u64;
-            let length = n.len as u64;
-            row_of_fields(at, 2, 0, t.at as u64, t.len as u64, 0, 0, name, length)
-        }
-        Node::Limit(v, b, n) => {
-            let name = n.at as u64;
-            let length = n.len as u64;
-            row_of_fields(at, 3, 0, 0, 0, v as u64, bound_number(b), name, length)
-        }
-    }
-}
-
 // Reading.
 
 // A packet goes straight to its fields: most of what a box reads are packets, and each copy of one is felt.
@@ -508,7 +106,7 @@ fn read_link(link: Link, bytes: &[u8], fields: &mut [u64]) -> u8
     match a {
         PacketAnswer::Refused(n) => n,
         PacketAnswer::Accepted(p) => {
-            let f = packet_fields(p);
+            let f = fields::packet_fields(p);
             hand_out(&f, fields)
         }
     }
@@ -521,7 +119,7 @@ fn read_message(kind: Kind, bytes: &[u8], fields: &mut [u64]) -> u8
     match a {
         Answer::Refused(n) => n,
         Answer::Accepted(m) => {
-            let f = message_fields(m);
+            let f = fields::message_fields(m);
             hand_out(&f, fields)
         }
     }
@@ -534,7 +132,7 @@ fn read_lone_query(bytes: &[u8], fields: &mut [u64]) -> u8
     match a {
         QueryAnswer::Refused(n) => n,
         QueryAnswer::Accepted(q) => {
-            let f = query_fields(q);
+            let f = fields::query_fields(q);
             hand_out(&f, fields)
         }
     }
@@ -547,7 +145,7 @@ fn read_lone_tags(bytes: &[u8], fields: &mut [u64]) -> u8
     match a {
         TagListAnswer::Refused(n) => n,
         TagListAnswer::Accepted(l) => {
-            let f = list_fields(l);
+            let f = fields::list_fields(l);
             hand_out(&f, fields)
         }
     }
@@ -578,7 +176,7 @@ pub extern "C" fn ed2k_read_tag(bytes: &[u8], at: usize, fields: &mut [u64]) -> 
     let TagStep::Got(tag, next) = t else {
         return t.fault().number();
     };
-    let f = tag_fields(tag, next);
+    let f = fields::tag_fields(tag, next);
     hand_out(&f, fields)
 }
 
@@ -590,7 +188,7 @@ pub extern "C" fn ed2k_read_address(bytes: &[u8], at: usize, fields: &mut [u64])
     let AddressStep::Got(address, next) = a else {
         return a.fault().number();
     };
-    let f = address_fields(address, next);
+    let f = fields::address_fields(address, next);
     hand_out(&f, fields)
 }
 
@@ -602,7 +200,7 @@ pub extern "C" fn ed2k_read_record(bytes: &[u8], at: usize, fields: &mut [u64]) 
     let RecordStep::Got(record, next) = r else {
         return r.fault().number();
     };
-    let f = record_fields(record, next);
+    let f = fields::record_fields(record, next);
     hand_out(&f, fields)
 }
 
@@ -614,7 +212,7 @@ pub extern "C" fn ed2k_read_file_entry(bytes: &[u8], at: usize, fields: &mut [u6
     let FileEntryStep::Got(entry, next) = e else {
         return e.fault().number();
     };
-    let f = file_entry_fields(entry, next);
+    let f = fields::file_entry_fields(entry, next);
     hand_out(&f, fields)
 }
 
@@ -626,7 +224,7 @@ pub extern "C" fn ed2k_read_server_entry(bytes: &[u8], at: usize, fields: &mut [
     let ServerEntryStep::Got(entry, next) = e else {
         return e.fault().number();
     };
-    let f = server_entry_fields(entry, next);
+    let f = fields::server_entry_fields(entry, next);
     hand_out(&f, fields)
 }
 
@@ -638,7 +236,7 @@ pub extern "C" fn ed2k_read_query_node(bytes: &[u8], at: usize, fields: &mut [u6
     let NodeStep::Got(node, next) = n else {
         return n.fault().number();
     };
-    let f = node_fields(node, next);
+    let f = fields::node_fields(node, next);
     hand_out(&f, fields)
 }
 
@@ -777,6 +375,104 @@ pub extern "C" fn ed2k_mark(gaps: &mut [u64], start: u64, end: u64, missing: &mu
 }
 
 // Writing.
+
+// What is told by 16 numbers, as ed2k_read hands them out.
+
+fn write_link(link: Link, bytes: &[u8], given: &[u64], output: &mut [u8], written: &mut u64) -> u8
+    ensures { λ r. ⌜ LeftBy (PacketWrites link (now (bytes .entry)) (now (given .entry)) (now (output .entry))) r (now (output .exit)) (now (written .entry)) (now (written .exit)) ⌝ }
+{
+    let p = fields::packet_given(given);
+    let f = fields::packet_fields(p);
+    if !fields::same_fields(&f, given) {
+        return 5;
+    }
+    let a = packetwriting::write_packet(bytes, link, p, output);
+    report(a.number, a.length, written)
+}
+
+fn write_known(bytes: &[u8], given: &[u64], output: &mut [u8], written: &mut u64) -> u8
+    ensures { λ r. ⌜ LeftBy (KnownWrites (now (bytes .entry)) (now (given .entry)) (now (output .entry))) r (now (output .exit)) (now (written .entry)) (now (written .exit)) ⌝ }
+{
+    let m = fields::known_given(given);
+    let f = fields::known_fields(m);
+    if !fields::same_fields(&f, given) {
+        return 5;
+    }
+    let a = metwriting::write_known_met(bytes, m, output);
+    report(a.number, a.length, written)
+}
+
+fn write_server(bytes: &[u8], given: &[u64], output: &mut [u8], written: &mut u64) -> u8
+    ensures { λ r. ⌜ LeftBy (ServerWrites (now (bytes .entry)) (now (given .entry)) (now (output .entry))) r (now (output .exit)) (now (written .entry)) (now (written .exit)) ⌝ }
+{
+    let m = fields::server_given(given);
+    let f = fields::server_fields(m);
+    if !fields::same_fields(&f, given) {
+        return 5;
+    }
+    let a = metwriting::write_server_met(bytes, m, output);
+    report(a.number, a.length, written)
+}
+
+fn write_part(bytes: &[u8], given: &[u64], output: &mut [u8], written: &mut u64) -> u8
+    ensures { λ r. ⌜ LeftBy (PartWrites (now (bytes .entry)) (now (given .entry)) (now (output .entry))) r (now (output .exit)) (now (written .entry)) (now (written .exit)) ⌝ }
+{
+    let m = fields::part_given(given);
+    let size = fields::size_given(given);
+    let f = fields::part_fields(m, size);
+    if !fields::same_fields(&f, given) {
+        return 5;
+    }
+    let a = partwriting::write_part_met(bytes, m, output);
+    report(a.number, a.length, written)
+}
+
+fn write_lone_query(bytes: &[u8], given: &[u64], output: &mut [u8], written: &mut u64) -> u8
+    ensures { λ r. ⌜ LeftBy (QueryWrites (now (bytes .entry)) (now (given .entry)) (now (output .entry))) r (now (output .exit)) (now (written .entry)) (now (written .exit)) ⌝ }
+{
+    let q = fields::query_given(given);
+    let f = fields::query_fields(q);
+    if !fields::same_fields(&f, given) {
+        return 5;
+    }
+    let a = writing::write_query(bytes, q, output);
+    report(a.number, a.length, written)
+}
+
+fn write_lone_tags(bytes: &[u8], given: &[u64], output: &mut [u8], written: &mut u64) -> u8
+    ensures { λ r. ⌜ LeftBy (TagListWrites (now (bytes .entry)) (now (given .entry)) (now (output .entry))) r (now (output .exit)) (now (written .entry)) (now (written .exit)) ⌝ }
+{
+    let l = fields::list_given(given);
+    let f = fields::list_fields(l);
+    if !fields::same_fields(&f, given) {
+        return 5;
+    }
+    let a = writing::write_tag_list(bytes, l, output);
+    report(a.number, a.length, written)
+}
+
+#[no_mangle]
+pub extern "C" fn ed2k_write(
+    kind: u8,
+    bytes: &[u8],
+    given: &[u64],
+    output: &mut [u8],
+    written: &mut u64,
+) -> u8
+    ensures { λ r. ⌜ LeftBy (WriteOf (lookup kinds kind) (now (bytes .entry)) (now (given .entry)) (now (output .entry))) r (now (output .exit)) (now (written .entry)) (now (written .exit)) ⌝ }
+{
+    match kind {
+        0 => write_link(Link::Server, bytes, given, output, written),
+        1 => write_link(Link::Client, bytes, given, output, written),
+        2 => write_link(Link::Udp, bytes, given, output, written),
+        3 => write_known(bytes, given, output, written),
+        4 => write_server(bytes, given, output, written),
+        5 => write_part(bytes, given, output, written),
+        6 => write_lone_query(bytes, given, output, written),
+        7 => write_lone_tags(bytes, given, output, written),
+        _ => 4,
+    }
+}
 
 #[no_mangle]
 pub extern "C" fn ed2k_put_gaps(
@@ -954,7 +650,7 @@ pub extern "C" fn ed2k_write_tag_list(
     output: &mut [u8],
     written: &mut u64,
 ) -> u8
-    ensures { λ r. ⌜ Leaves (writeTagList (now (bytes .entry)) (record { at = at; end = at; count = count }) (now (output .entry))) r (now (output .exit)) (now (written .entry)) (now (written .exit)) ⌝ }
+    ensures { λ r. ⌜ Leaves (writeTagList (now (bytes .entry)) (itemsFrom at count) (now (output .entry))) r (now (output .exit)) (now (written .entry)) (now (written .exit)) ⌝ }
 {
     let a = writing::write_tag_list(bytes, Items { at, end: at, count }, output);
     report(a.number, a.length, written)
@@ -975,5 +671,99 @@ pub extern "C" fn ed2k_write_query(
         depth: 0,
     };
     let a = writing::write_query(bytes, q, output);
+    report(a.number, a.length, written)
+}
+
+// Entries, to compose lists. A list's end is not looked at: the list is read again.
+
+#[no_mangle]
+pub extern "C" fn ed2k_write_address(ip: u32, port: u16, output: &mut [u8], written: &mut u64) -> u8
+    ensures { λ r. ⌜ Leaves (writeAddress (record { ip = ip; port = port }) (now (output .entry))) r (now (output .exit)) (now (written .entry)) (now (written .exit)) ⌝ }
+{
+    let a = bodywriting::write_address(Address { ip, port }, output);
+    report(a.number, a.length, written)
+}
+
+#[no_mangle]
+pub extern "C" fn ed2k_write_record(
+    bytes: &[u8],
+    hash: usize,
+    client: u32,
+    port: u16,
+    tags_at: usize,
+    tag_count: u32,
+    output: &mut [u8],
+    written: &mut u64,
+) -> u8
+    ensures { λ r. ⌜ Leaves (writeRecord (now (bytes .entry)) (record { hash = hash; client = client; port = port; tags = itemsFrom «tags_at» «tag_count» }) (now (output .entry))) r (now (output .exit)) (now (written .entry)) (now (written .exit)) ⌝ }
+{
+    let tags = Items {
+        at: tags_at,
+        end: tags_at,
+        count: tag_count,
+    };
+    let record = Record {
+        hash,
+        client,
+        port,
+        tags,
+    };
+    let a = bodywriting::write_record(bytes, record, output);
+    report(a.number, a.length, written)
+}
+
+#[no_mangle]
+pub extern "C" fn ed2k_write_file_entry(
+    bytes: &[u8],
+    date: u32,
+    hash: usize,
+    hashes_at: usize,
+    hash_count: u32,
+    tags_at: usize,
+    tag_count: u32,
+    output: &mut [u8],
+    written: &mut u64,
+) -> u8
+    ensures { λ r. ⌜ Leaves (writeFileEntry (now (bytes .entry)) (record { date = date; hash = hash; parts = itemsFrom «hashes_at» «hash_count»; tags = itemsFrom «tags_at» «tag_count» }) (now (output .entry))) r (now (output .exit)) (now (written .entry)) (now (written .exit)) ⌝ }
+{
+    let parts = Items {
+        at: hashes_at,
+        end: hashes_at,
+        count: hash_count,
+    };
+    let tags = Items {
+        at: tags_at,
+        end: tags_at,
+        count: tag_count,
+    };
+    let entry = FileEntry {
+        date,
+        hash,
+        parts,
+        tags,
+    };
+    let a = metwriting::write_file_entry(bytes, entry, output);
+    report(a.number, a.length, written)
+}
+
+#[no_mangle]
+pub extern "C" fn ed2k_write_server_entry(
+    bytes: &[u8],
+    ip: u32,
+    port: u16,
+    tags_at: usize,
+    tag_count: u32,
+    output: &mut [u8],
+    written: &mut u64,
+) -> u8
+    ensures { λ r. ⌜ Leaves (writeServerEntry (now (bytes .entry)) (record { ip = ip; port = port; tags = itemsFrom «tags_at» «tag_count» }) (now (output .entry))) r (now (output .exit)) (now (written .entry)) (now (written .exit)) ⌝ }
+{
+    let tags = Items {
+        at: tags_at,
+        end: tags_at,
+        count: tag_count,
+    };
+    let entry = ServerEntry { ip, port, tags };
+    let a = metwriting::write_server_entry(bytes, entry, output);
     report(a.number, a.length, written)
 }

@@ -1,3 +1,4 @@
+use mathlib.Core.Path.{refl}
 use mathlib.Core.List.{[], _∷_}
 use Rattle.packets.proofs.Arms.{unlisted}
 use Rattle.ed2k.proofs.Writes.{leaves-all}
@@ -34,7 +35,7 @@ returns-3 : tie.Need-returns-3
 returns-3 c = rw (c .before .before .before .before .before .match .keys3) (c .before .before .write-join3 .ensures)
 
 returns-4 : tie.Need-returns-4
-returns-4 c = rw (← unlisted operators ((2 ∷ []) ∷ (1 ∷ []) ∷ (0 ∷ []) ∷ []) _ tt (c .match .rest)) (leaves-all _ _)
+returns-4 c = rw (← unlisted operators ((2 ∷ []) ∷ (1 ∷ []) ∷ (0 ∷ []) ∷ []) _ tt (c .match .rest)) (leaves-all 5 _ _ refl)
 
 pub ed2k-write-join-spec : {M : Type 1} → statement M
 ed2k-write-join-spec =

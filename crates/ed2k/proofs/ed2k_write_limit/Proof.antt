@@ -1,3 +1,4 @@
+use mathlib.Core.Path.{refl}
 use mathlib.Core.List.{[], _∷_}
 use Rattle.packets.proofs.Arms.{unlisted}
 use Rattle.ed2k.proofs.Writes.{leaves-all}
@@ -25,7 +26,7 @@ returns-2 : tie.Need-returns-2
 returns-2 c = rw (c .before .before .before .before .before .match .keys2) (c .before .before .write-limit2 .ensures)
 
 returns-3 : tie.Need-returns-3
-returns-3 c = rw (← unlisted bounds ((2 ∷ []) ∷ (1 ∷ []) ∷ []) _ tt (c .match .rest)) (leaves-all _ _)
+returns-3 c = rw (← unlisted bounds ((2 ∷ []) ∷ (1 ∷ []) ∷ []) _ tt (c .match .rest)) (leaves-all 5 _ _ refl)
 
 pub ed2k-write-limit-spec : {M : Type 1} → statement M
 ed2k-write-limit-spec =

@@ -1,0 +1,143 @@
+-- The message that 16 given numbers would be those of. A number is taken as its field can hold it, by its low part; the shape or list of
+-- hashes that no message has is taken as none. So the numbers of what is found here are the given ones exactly where these are a
+-- message's (proofs/Given, `given-back`).
+use Prim.Native.Nat.{ℕ, _+_, _%_}
+use mathlib.Core.Option.{Option, none, some}
+use mathlib.Core.List.{List, [], _∷_}
+use lib.ListN.{getD}
+use lib.Dec.{eqb}
+use Rattle.format.specs.Tables.{pick, lookup}
+use Rattle.wire.specs.declared.Place.{Place}
+use Rattle.wire.specs.declared.Items.{Items}
+use Rattle.query.specs.declared.Query.{Query}
+use Rattle.records.specs.declared.Address.{Address}
+use Rattle.records.specs.declared.Record.{Record}
+use Rattle.bodies.specs.declared.Triple.{Triple}
+use Rattle.bodies.specs.declared.Form.{Form}
+use Rattle.bodies.specs.declared.Body.{Body}
+use Rattle.packets.specs.declared.Packet.{Packet}
+use Rattle.met.specs.declared.KnownMet.{KnownMet}
+use Rattle.met.specs.declared.ServerMet.{ServerMet}
+use Rattle.met.specs.declared.HashBlocks.{HashBlocks}
+use Rattle.met.specs.declared.PartMet.{PartMet}
+
+abbrev pub numberAt : List ℕ → ℕ → ℕ
+numberAt f i = getD f i 0
+
+abbrev pub byteAt : List ℕ → ℕ → ℕ
+byteAt f i = numberAt f i % 256
+
+abbrev pub wordAt : List ℕ → ℕ → ℕ
+wordAt f i = numberAt f i % 65536
+
+abbrev pub dwordAt : List ℕ → ℕ → ℕ
+dwordAt f i = numberAt f i % 4294967296
+
+abbrev pub placeAt : List ℕ → ℕ → Place
+placeAt f i = record { at = numberAt f i; len = numberAt f (i + 1) }
+
+abbrev pub itemsAt : List ℕ → ℕ → Items
+itemsAt f i = record { at = numberAt f i; end = numberAt f (i + 1); count = dwordAt f (i + 2) }
+
+abbrev pub queryAt : List ℕ → ℕ → Query
+queryAt f i = record { at = numberAt f i; end = numberAt f (i + 1); depth = numberAt f (i + 2) }
+
+abbrev pub addressAt : List ℕ → ℕ → Address
+addressAt f i = record { ip = dwordAt f i; port = wordAt f (i + 1) }
+
+abbrev pub recordAt : List ℕ → ℕ → Record
+recordAt f i = record { hash = numberAt f i; client = dwordAt f (i + 1); port = wordAt f (i + 2); tags = itemsAt f (i + 3) }
+
+abbrev pub tripleAt : List ℕ → ℕ → Triple
+tripleAt f i = record { first = dwordAt f i; second = dwordAt f (i + 1); third = dwordAt f (i + 2) }
+
+abbrev pub formAt : List ℕ → ℕ → Form
+formAt f i = pick (eqb (numberAt f i) 0) Form.Plain Form.Extended
+
+abbrev pub sendingPartGiven : List ℕ → Body
+sendingPartGiven f = Body.SendingPart (record { hash = numberAt f 3; start = dwordAt f 4; end = dwordAt f 5; «data» = placeAt f 6 })
+
+abbrev pub requestPartsGiven : List ℕ → Body
+requestPartsGiven f = Body.RequestParts (record { hash = numberAt f 3; starts = tripleAt f 4; ends = tripleAt f 7 })
+
+abbrev pub fileStatusGiven : List ℕ → Body
+fileStatusGiven f = Body.FileStatus (record { hash = numberAt f 3; parts = wordAt f 4; bits = numberAt f 5 })
+
+abbrev pub statusRequestGiven : List ℕ → Body
+statusRequestGiven f = Body.StatusRequest (record { form = formAt f 3; number = dwordAt f 4 })
+
+abbrev pub extendedStatusGiven : List ℕ → Body
+extendedStatusGiven f = Body.ExtendedStatus (record { first = byteAt f 3; second = byteAt f 4; numbers = tripleAt f 5 })
+
+-- The bodies that hold something, by their shapes, in the order of include/ed2k.h.
+abbrev pub bodiesGiven : List ℕ → List (ℕ × Body)
+bodiesGiven f =
+    (1, Body.Query (queryAt f 3)) ∷
+    (2, Body.Hash (numberAt f 3)) ∷
+    (3, Body.Dword (dwordAt f 3)) ∷
+    (4, Body.TwoDwords (dwordAt f 3) (dwordAt f 4)) ∷
+    (5, Body.Text (placeAt f 3)) ∷
+    (6, Body.TwoTexts (placeAt f 3) (placeAt f 5)) ∷
+    (7, Body.Address (addressAt f 3)) ∷
+    (8, Body.Addresses (itemsAt f 3)) ∷
+    (9, Body.HashAddresses (numberAt f 3) (itemsAt f 4)) ∷
+    (10, Body.AddressDword (addressAt f 3) (dwordAt f 5)) ∷
+    (11, Body.HashAddressTags (numberAt f 3) (addressAt f 4) (itemsAt f 6)) ∷
+    (12, Body.Record (recordAt f 3)) ∷
+    (13, Body.Records (itemsAt f 3)) ∷
+    (14, Body.RecordsFlag (itemsAt f 3) (byteAt f 6)) ∷
+    (15, Body.RecordAddress (recordAt f 3) (addressAt f 9)) ∷
+    (16, Body.Hello (recordAt f 3) (addressAt f 9)) ∷
+    (17, Body.HashText (numberAt f 3) (placeAt f 4)) ∷
+    (18, Body.Hashset (numberAt f 3) (itemsAt f 4)) ∷
+    (19, sendingPartGiven f) ∷
+    (20, requestPartsGiven f) ∷
+    (21, fileStatusGiven f) ∷
+    (22, statusRequestGiven f) ∷
+    (23, Body.Status (tripleAt f 3)) ∷
+    (24, extendedStatusGiven f) ∷
+    []
+
+abbrev pub listedBody : Option Body → Body
+listedBody none = Body.Nothing
+listedBody (some b) = b
+
+unfoldable pub bodyGiven : List ℕ → Body
+bodyGiven f = listedBody (lookup (bodiesGiven f) (numberAt f 2))
+
+abbrev pub packetGiven : List ℕ → Packet
+packetGiven f = record { opening = byteAt f 0; opcode = byteAt f 1; body = bodyGiven f }
+
+abbrev pub knownGiven : List ℕ → KnownMet
+knownGiven f = record { opening = byteAt f 0; entries = itemsAt f 1 }
+
+abbrev pub serverGiven : List ℕ → ServerMet
+serverGiven f = record { opening = byteAt f 0; entries = itemsAt f 1; tail = placeAt f 4 }
+
+-- The hash lists of a part.met that opens with E1, by which it has.
+abbrev pub listsGiven : List ℕ → List (ℕ × HashBlocks)
+listsGiven f =
+    (1, HashBlocks.Parts (itemsAt f 8)) ∷
+    (2, HashBlocks.Blocks (itemsAt f 11)) ∷
+    (3, HashBlocks.Both (itemsAt f 8) (itemsAt f 11)) ∷
+    []
+
+abbrev pub listedBlocks : Option HashBlocks → HashBlocks
+listedBlocks none = HashBlocks.Nothing
+listedBlocks (some b) = b
+
+unfoldable pub blocksGiven : List ℕ → HashBlocks
+blocksGiven f = listedBlocks (lookup (listsGiven f) (numberAt f 7))
+
+abbrev pub e0Given : List ℕ → PartMet
+e0Given f = PartMet.E0 (record { date = dwordAt f 2; hash = numberAt f 3; parts = itemsAt f 8; tags = itemsAt f 4 })
+
+abbrev pub e1Given : List ℕ → PartMet
+e1Given f = PartMet.E1 (record { date = dwordAt f 2; hash = numberAt f 3; tags = itemsAt f 4; blocks = blocksGiven f })
+
+unfoldable pub partGiven : List ℕ → PartMet
+partGiven f = pick (eqb (numberAt f 0) 0xE0) (e0Given f) (e1Given f)
+
+-- The size of a part.met is told by its tags, and is not a value of its own: any number that a size can be is taken.
+abbrev pub sizeGiven : List ℕ → ℕ
+sizeGiven f = dwordAt f 1
