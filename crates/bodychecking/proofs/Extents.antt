@@ -22,7 +22,7 @@ use Rattle.query.specs.Meaning.{queryIn}
 use Rattle.bodies.specs.declared.Body.{Body}
 use Rattle.bodies.specs.Meaning.{bodyIn, heldAt}
 use Rattle.writing.specs.There.{bothThere, hashThere, itemsThere, placeThere}
-use Rattle.writing.specs.RoundTrip.{IsThere}
+use Rattle.format.specs.RoundTrip.{IsThere}
 use Rattle.bodychecking.specs.declared.Extent.{Extent}
 use Rattle.bodychecking.specs.Extents.{Adds, BothAdd, Extends, NoEnd, absent, behindBytes, bothExtents, listBound, sized, tooLong}
 use Rattle.bodychecking.specs.Bodies.{BodyChecked, BodyEnds, BodyRule, EndsAt, bodyThere, bytesOf, queryThere}

@@ -21,7 +21,7 @@ use Rattle.wire.specs.Meaning.{hashAt, itemsIn}
 use Rattle.query.specs.declared.Query.{Query}
 use Rattle.query.specs.Meaning.{queryIn, queryOf}
 use Rattle.writing.specs.There.{bothThere, hashThere, itemsThere}
-use Rattle.writing.specs.RoundTrip.{IsThere}
+use Rattle.format.specs.RoundTrip.{IsThere}
 use Rattle.bodychecking.specs.Bodies.{queryThere}
 
 pub got-ends : {A : Type 0} {o : Outcome A} {a : A} {next : ℕ} → got a next ≡ o → ends o ≡ got tt next

@@ -29,7 +29,7 @@ use Rattle.bodies.specs.declared.SendingPart.{SendingPart}
 use Rattle.bodies.specs.declared.StatusRequest.{StatusRequest}
 use Rattle.bodies.specs.Meaning.{bodyIn, formMeaning}
 use Rattle.writing.specs.There.{bothThere, hashThere, itemsThere, placeThere}
-use Rattle.writing.specs.RoundTrip.{IsThere}
+use Rattle.format.specs.RoundTrip.{IsThere}
 use Rattle.bodychecking.specs.Bodies.{BodyRule, bodyThere, queryThere, recordThere, breaks, differs, keeps}
 use Rattle.bodychecking.specs.Extents.{Bounded, brokenRule, flagRule, formRule, rangeRule}
 use Rattle.bodychecking.proofs.Places.{addresses-listed, both-first, both-last, hash-valid, hashes-listed, query-listed, records-listed, run-bytes, run-size, tags-listed, there-at}

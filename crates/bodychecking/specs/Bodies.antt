@@ -15,7 +15,7 @@ use Rattle.records.specs.declared.Record.{Record}
 use Rattle.bodies.specs.declared.Body.{Body}
 use Rattle.bodies.specs.Meaning.{bodyIn}
 use Rattle.writing.specs.There.{bothThere, hashThere, itemsThere, placeThere}
-use Rattle.writing.specs.RoundTrip.{IsThere}
+use Rattle.format.specs.RoundTrip.{IsThere}
 use Rattle.bodychecking.specs.declared.BodyCheck.{BodyCheck}
 
 abbrev pub queryThere : List ℕ → Query → Outcome (Unit {0})

@@ -10,7 +10,7 @@ use Rattle.bodies.specs.declared.Body.{Body}
 use Rattle.bodies.specs.declared.Form.{Form}
 use Rattle.bodies.specs.declared.Triple.{Triple}
 use Rattle.bodies.specs.Meaning.{tripleOf}
-use Rattle.writing.specs.RoundTrip.{IsThere}
+use Rattle.format.specs.RoundTrip.{IsThere}
 use Rattle.bodychecking.specs.declared.Extent.{Extent}
 
 -- The extent of a part: the number of a place that does not hold what it should; that a count field cannot hold it; or its size, which is

@@ -34,7 +34,7 @@ use Rattle.bodies.specs.declared.StatusRequest.{StatusRequest}
 use Rattle.bodies.specs.declared.Triple.{Triple}
 use Rattle.bodies.specs.Meaning.{bodyIn, heldAt, tripleOf}
 use Rattle.writing.specs.There.{hashThere, itemsThere, placeThere}
-use Rattle.writing.specs.RoundTrip.{IsThere}
+use Rattle.format.specs.RoundTrip.{IsThere}
 use Rattle.writing.proofs.Pieces.{length-string}
 use Rattle.bodychecking.specs.Bodies.{bytesOf}
 use Rattle.bodychecking.proofs.Extents.{held-size}

@@ -19,7 +19,7 @@ use Rattle.records.specs.declared.Record.{Record}
 use Rattle.bodies.specs.declared.Body.{Body}
 use Rattle.bodies.specs.Meaning.{bodyIn}
 use Rattle.writing.specs.There.{hashThere, itemsThere}
-use Rattle.writing.specs.RoundTrip.{IsThere}
+use Rattle.format.specs.RoundTrip.{IsThere}
 use Rattle.writing.specs.Writers.{writeChecked}
 use Rattle.bodychecking.specs.declared.BodyCheck.{BodyCheck}
 use Rattle.bodychecking.specs.Bodies.{BodyChecked, BodyEnds, bodyThere, bytesOf, recordThere}

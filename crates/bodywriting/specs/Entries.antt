@@ -18,7 +18,7 @@ use Rattle.records.specs.Meaning.{recordIn}
 use Rattle.bodies.specs.declared.Body.{Body}
 use Rattle.bodies.specs.Meaning.{bodyIn}
 use Rattle.writing.specs.There.{itemsThere}
-use Rattle.writing.specs.RoundTrip.{IsThere}
+use Rattle.format.specs.RoundTrip.{IsThere}
 use Rattle.writing.specs.Writers.{writeChecked}
 use Rattle.bodychecking.specs.Bodies.{bodyThere, bytesOf, recordThere}
 

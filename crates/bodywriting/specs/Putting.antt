@@ -8,7 +8,7 @@ use Rattle.format.specs.Writing.{ValuesFit, overwritten}
 use Rattle.wire.specs.declared.Items.{Items}
 use Rattle.bodies.specs.declared.Body.{Body}
 use Rattle.bodies.specs.Meaning.{bodyIn}
-use Rattle.writing.specs.RoundTrip.{IsThere}
+use Rattle.format.specs.RoundTrip.{IsThere}
 use Rattle.bodychecking.specs.Bodies.{BodyEnds, bodyThere, bytesOf}
 
 -- n bytes lie at a place. Where n is 0, any place will do.

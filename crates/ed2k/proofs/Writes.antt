@@ -6,9 +6,8 @@ use mathlib.Core.List.{List}
 use lib.ListN.{take}
 use lib.Dec.{eqb}
 use mir.Val.{boolByte}
-use Rattle.format.specs.Tables.{pick}
+use Rattle.format.specs.Tables.{pick, same}
 use Rattle.format.specs.Writing.{Written, unwritten}
-use Rattle.format.specs.PartTagOrder.{same}
 use Rattle.format.proofs.PartTags.{no-true, same-true, same-refl}
 use Rattle.fields.specs.Fields.{filled}
 use Rattle.ed2k.specs.Calls.{Leaves, LeftBy, GivenWrites, noMessage, message}

@@ -36,7 +36,7 @@ use Rattle.reader.specs.declared.Answer.{Answer}
 use Rattle.reader.specs.Meaning.{answerIn, AnswerPlaced}
 use Rattle.packets.specs.Meaning.{packetIn}
 use Rattle.writing.specs.There.{itemsThere}
-use Rattle.writing.specs.RoundTrip.{RoundTrip, WritesAt}
+use Rattle.format.specs.RoundTrip.{RoundTrip, WritesAt}
 use Rattle.packetwriting.specs.Packets as packetwriting
 use Rattle.packetwriting.specs.Packets.{packetOf, packetThere}
 use Rattle.metwriting.specs.Files.{knownThere, serverThere}

@@ -1,12 +1,13 @@
 -- The message that 16 given numbers would be those of. A number is taken as its field can hold it, by its low part; the shape or list of
--- hashes that no message has is taken as none. So the numbers of what is found here are the given ones exactly where these are a
--- message's (proofs/Given, `given-back`).
+-- hashes that no message has is taken as none. So the numbers of what is found here are the given ones exactly where these are the numbers
+-- of a message whose own numbers its fields can hold (`PacketFits` and its like): proofs/Given has that such a message is found again.
 use Prim.Native.Nat.{ℕ, _+_, _%_}
 use mathlib.Core.Option.{Option, none, some}
 use mathlib.Core.List.{List, [], _∷_}
 use lib.ListN.{getD}
 use lib.Dec.{eqb}
 use Rattle.format.specs.Tables.{pick, lookup}
+use Rattle.format.specs.Rules.{Byte, Word, Dword}
 use Rattle.wire.specs.declared.Place.{Place}
 use Rattle.wire.specs.declared.Items.{Items}
 use Rattle.query.specs.declared.Query.{Query}
@@ -141,3 +142,62 @@ partGiven f = pick (eqb (numberAt f 0) 0xE0) (e0Given f) (e1Given f)
 -- The size of a part.met is told by its tags, and is not a value of its own: any number that a size can be is taken.
 abbrev pub sizeGiven : List ℕ → ℕ
 sizeGiven f = dwordAt f 1
+
+-- Each number of a message is one that its field can hold. Places and lengths are 64-bit numbers, as the given ones are.
+abbrev pub ItemsFit : Items → Type 0
+ItemsFit l = Dword (l .count)
+
+abbrev pub AddressFits : Address → Type 0
+AddressFits a = Dword (a .ip) × Word (a .port)
+
+abbrev pub RecordFits : Record → Type 0
+RecordFits r = Dword (r .client) × Word (r .port) × ItemsFit (r .tags)
+
+abbrev pub TripleFits : Triple → Type 0
+TripleFits t = Dword (t .first) × Dword (t .second) × Dword (t .third)
+
+abbrev pub BodyFits : Body → Type 0
+BodyFits Body.Nothing = Unit {0}
+BodyFits (Body.Query q) = Unit {0}
+BodyFits (Body.Hash h) = Unit {0}
+BodyFits (Body.Dword n) = Dword n
+BodyFits (Body.TwoDwords m n) = Dword m × Dword n
+BodyFits (Body.Text t) = Unit {0}
+BodyFits (Body.TwoTexts t u) = Unit {0}
+BodyFits (Body.Address a) = AddressFits a
+BodyFits (Body.Addresses l) = ItemsFit l
+BodyFits (Body.HashAddresses h l) = ItemsFit l
+BodyFits (Body.AddressDword a n) = AddressFits a × Dword n
+BodyFits (Body.HashAddressTags h a l) = AddressFits a × ItemsFit l
+BodyFits (Body.Record r) = RecordFits r
+BodyFits (Body.Records l) = ItemsFit l
+BodyFits (Body.RecordsFlag l b) = ItemsFit l × Byte b
+BodyFits (Body.RecordAddress r a) = RecordFits r × AddressFits a
+BodyFits (Body.Hello r a) = RecordFits r × AddressFits a
+BodyFits (Body.HashText h t) = Unit {0}
+BodyFits (Body.Hashset h l) = ItemsFit l
+BodyFits (Body.SendingPart p) = Dword (p .start) × Dword (p .end)
+BodyFits (Body.RequestParts p) = TripleFits (p .starts) × TripleFits (p .ends)
+BodyFits (Body.FileStatus f) = Word (f .parts)
+BodyFits (Body.StatusRequest r) = Dword (r .number)
+BodyFits (Body.Status t) = TripleFits t
+BodyFits (Body.ExtendedStatus e) = Byte (e .first) × Byte (e .second) × TripleFits (e .numbers)
+
+abbrev pub PacketFits : Packet → Type 0
+PacketFits p = Byte (p .opening) × Byte (p .opcode) × BodyFits (p .body)
+
+abbrev pub KnownFits : KnownMet → Type 0
+KnownFits m = Byte (m .opening) × ItemsFit (m .entries)
+
+abbrev pub ServerFits : ServerMet → Type 0
+ServerFits m = Byte (m .opening) × ItemsFit (m .entries)
+
+abbrev pub BlocksFit : HashBlocks → Type 0
+BlocksFit HashBlocks.Nothing = Unit {0}
+BlocksFit (HashBlocks.Parts l) = ItemsFit l
+BlocksFit (HashBlocks.Blocks k) = ItemsFit k
+BlocksFit (HashBlocks.Both l k) = ItemsFit l × ItemsFit k
+
+abbrev pub PartFits : PartMet → Type 0
+PartFits (PartMet.E0 e) = Dword (e .date) × ItemsFit (e .tags) × ItemsFit (e .parts)
+PartFits (PartMet.E1 m) = Dword (m .date) × ItemsFit (m .tags) × BlocksFit (m .blocks)

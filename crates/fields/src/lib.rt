@@ -7,7 +7,7 @@ ghost use mathlib.Core.Bool.{Bool};
 ghost use mathlib.Core.List.{[], _∷_, _++_};
 ghost use Prim.Native.Nat.{_≤_, _<_};
 ghost use lib.ListN.{length, take};
-ghost use Rattle.format.specs.PartTagOrder.{same};
+ghost use Rattle.format.specs.Tables.{same};
 ghost use Rattle.fields.specs.Fields.{filled, placeNumbers, itemsNumbers, queryNumbers, addressNumbers, recordNumbers, tripleNumbers};
 ghost use Rattle.fields.specs.Fields.{formNumber, bodyNumbers, packetNumbers, knownNumbers, serverNumbers, hashesNumbers, partNumbers};
 ghost use Rattle.fields.specs.Fields.{messageNumbers, tagNumbers, fileEntryNumbers, serverEntryNumbers};

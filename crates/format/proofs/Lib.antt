@@ -15,3 +15,4 @@ pub mod There
 pub mod Cases
 pub mod Truth
 pub mod Writing
+pub mod RoundTrip

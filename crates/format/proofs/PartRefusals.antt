@@ -8,12 +8,12 @@ use native.Mathlib.Omega.{arith}
 use lib.ListN.{length, length-reverseAux}
 use lib.Dec.{leb, ltb, eqb}
 use borrow.Author.Tests.{le-leb, leb-true, lt-leb, leb-false}
-use Rattle.format.specs.Tables.{pick}
+use Rattle.format.specs.Tables.{pick, same}
 use Rattle.format.specs.Messages.{Tag}
 use Rattle.format.specs.Rules.{GapPair, NoGapTag, SizeIs, ValidGapTags, done, gapOf, pair}
 use Rattle.format.specs.Decoding.{Check, Rule, andCheck, passes, violates}
 use Rattle.format.specs.GapTags.{Role, end, odd, plain, role, start}
-use Rattle.format.specs.PartTagOrder.{Progress, between, checkEnd, checkPartTags, checkStart, nextStart, numbered, same, scan, sizes, sole, step, used, within}
+use Rattle.format.specs.PartTagOrder.{Progress, between, checkEnd, checkPartTags, checkStart, nextStart, numbered, scan, sizes, sole, step, used, within}
 use Rattle.format.proofs.PartTags.{violates-passes, passes-same, either-test, sizes-means, size-sizes, sole-fine, Means, role-means, Good, Front, Half, Left, back-between, back-within, scan-front, good-plain, gaps-good, check-means, means-check, gaps-lawful}
 
 violates-same : {A : Type 0} {r q : Rule} → _≡_ {A = Check A} (violates r) (violates q) → r ≡ q

@@ -9,13 +9,13 @@ use native.Mathlib.Omega.{arith}
 use lib.ListN.{length, length-map}
 use lib.Dec.{leb, ltb, eqb}
 use borrow.Author.Tests.{le-leb, leb-true, lt-leb, leb-false, lt-ltb, ltb-true, eqb-true, eqb-false, eq-eqb, ne-eqb}
-use Rattle.format.specs.Tables.{pick}
+use Rattle.format.specs.Tables.{pick, same}
 use Rattle.format.specs.Gaps.{Ordered}
 use Rattle.format.specs.Messages.{Tag, TagType, TagValue, dwordType, floatType, hashType, stringType}
 use Rattle.format.specs.Rules.{All, Apart, Digits, Distinct, GapPair, NoGapTag, NoSizeTag, Paired, SizeIs, ValidGapTags, done, dwordTag, endTag, gapOf, other, pair, sizeTag, startTag}
 use Rattle.format.specs.Decoding.{Check, Rule, andCheck, passes, violates}
 use Rattle.format.specs.GapTags.{Role, end, ending, gapEnds, gapStarts, gapsOf, numberOf, odd, plain, role, roleIn, start, starting, zipGaps}
-use Rattle.format.specs.PartTagOrder.{Progress, afterFull, between, checkPartTags, checkStart, decimal, nextStart, numbered, same, scan, sizeIn, sizes, sole, step, used, within}
+use Rattle.format.specs.PartTagOrder.{Progress, afterFull, between, checkPartTags, checkStart, decimal, nextStart, numbered, scan, sizeIn, sizes, sole, step, used, within}
 use Rattle.format.proofs.Codec.{if-passes, unless-violates, if-violates}
 
 -- Checks

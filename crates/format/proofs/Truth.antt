@@ -7,9 +7,8 @@ use Prim.Native.Nat.{ℕ, _≤_}
 use native.Mathlib.Omega.{arith}
 use lib.Dec.{leb, eqb}
 use borrow.Author.Tests.{le-leb, leb-true, eqb-true, eq-eqb}
-use Rattle.format.specs.Tables.{pick}
+use Rattle.format.specs.Tables.{pick, same}
 use Rattle.format.specs.Messages.{TagType, hashType, stringType, dwordType, floatType, TagValue, Tag, Operator, and, or, andNot, Bound, atLeast, atMost, Query, join, keyword, field, limit}
-use Rattle.format.specs.PartTagOrder.{same}
 use Rattle.format.specs.Truth.{Some, Occurs, StringTag, DwordTag, Within, LeafHolds, Both, Holds, some, prefix, occurs, onString, onDword, stringTag, dwordTag, within, leafHolds, combine, holds}
 use Rattle.format.proofs.PartTags.{no-true, both-true, either-test, same-true, same-refl}
 

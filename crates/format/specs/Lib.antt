@@ -13,5 +13,6 @@ pub mod MetOrder
 pub mod Cases
 pub mod Truth
 pub mod Writing
+pub mod RoundTrip
 pub mod Saving
 pub mod Putting

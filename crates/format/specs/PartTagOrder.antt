@@ -5,19 +5,13 @@ use mathlib.Core.List.{List, [], _∷_, _++_}
 use Prim.Native.Nat.{ℕ, suc}
 use lib.ListN.{length}
 use lib.Dec.{leb, ltb, eqb}
-use Rattle.format.specs.Tables.{pick}
+use Rattle.format.specs.Tables.{pick, same}
 use Rattle.format.specs.Messages.{Tag}
 use Rattle.format.specs.Rules.{gapLimit, GapPair}
 use Rattle.format.specs.Decoding.{Rule, order, gapCeiling, Check, passes, violates, andCheck}
 use Rattle.format.specs.GapTags.{numberOf, Role, plain, odd, start, end, role}
 
 -- Tests on names.
-unfoldable pub same : List ℕ → List ℕ → Bool
-same [] [] = true
-same [] (b ∷ l) = false
-same (a ∷ k) [] = false
-same (a ∷ k) (b ∷ l) = pick (eqb a b) (same k l) false
-
 unfoldable pub decimal : List ℕ → Bool
 decimal [] = true
 decimal (b ∷ l) = pick (leb 0x30 b) (pick (leb b 0x39) (decimal l) false) false

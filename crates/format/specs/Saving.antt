@@ -1,11 +1,10 @@
 -- Saving a part.met (01, "Marking, saving, searching"): over the file that was opened, and over no other.
 use mathlib.Core.List.{List}
 use Prim.Native.Nat.{ℕ}
-use Rattle.format.specs.Tables.{pick}
+use Rattle.format.specs.Tables.{pick, same}
 use Rattle.format.specs.Messages.{PartMet, partMet}
 use Rattle.format.specs.Decoding.{number, Answer, refusal, accepted}
 use Rattle.format.specs.MetOrder.{decode}
-use Rattle.format.specs.PartTagOrder.{same}
 use Rattle.format.specs.Writing.{Written, unwritten, writtenInto}
 
 -- 11 if stored and opened differ anywhere, length included; two empty ones are equal: a first save.

@@ -12,6 +12,13 @@ abbrev pub pick : {A : Type 0} → Bool → A → A → A
 pick true a b = a
 pick false a b = b
 
+-- The lists are equal.
+unfoldable pub same : List ℕ → List ℕ → Bool
+same [] [] = true
+same [] (b ∷ l) = false
+same (a ∷ k) [] = false
+same (a ∷ k) (b ∷ l) = pick (eqb a b) (same k l) false
+
 -- The number is one of the list.
 abbrev pub OneOf : List ℕ → ℕ → Type 0
 OneOf [] n = ⊥

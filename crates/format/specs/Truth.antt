@@ -5,12 +5,11 @@ use mathlib.Core.Logic.{_⊎_}
 use mathlib.Core.List.{List, [], _∷_, _++_}
 use Prim.Native.Nat.{ℕ, _≤_}
 use lib.Dec.{leb, eqb}
-use Rattle.format.specs.Tables.{pick}
+use Rattle.format.specs.Tables.{pick, same}
 use Rattle.format.specs.Messages.{TagType, hashType, stringType, dwordType, floatType, TagValue, Tag, Operator, and, or, andNot, Bound, atLeast, atMost, Query, join, keyword, field, limit}
 use Rattle.format.specs.Decoding.{number, Answer, refusal, accepted}
 use Rattle.format.specs.MetOrder.{decode}
 use Rattle.format.specs.Messages.{loneQuery, loneTags}
-use Rattle.format.specs.PartTagOrder.{same}
 
 -- In plain words
 

@@ -9,7 +9,7 @@ use Rattle.format.specs.Layout.{encode}
 use Rattle.format.specs.Decoding.{Outcome, Fault, ends, got, number, refused}
 use Rattle.format.specs.Writing.{Judged, Writes, overwritten, refuses, tries, unwritten, writtenInto}
 use Rattle.writing.specs.There.{bothThere}
-use Rattle.writing.specs.RoundTrip.{WritesAt, absent, present}
+use Rattle.format.specs.RoundTrip.{WritesAt, absent, present}
 
 -- The places of a message are there, `n` is the number that code works out for it, and these are its bytes.
 pub record Ready (k : Kind) (there : Outcome (Unit {0})) (m : Message k) (n : ℕ) (bytes : List ℕ) (size : ℕ) : Type 0 where

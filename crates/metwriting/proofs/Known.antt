@@ -24,8 +24,8 @@ use Rattle.format.proofs.MetFiles.{codec-entry}
 use Rattle.format.proofs.Writing.{ceiling-judged, tags-fit, valid-judged}
 use Rattle.met.specs.declared.KnownMet.{KnownMet}
 use Rattle.met.specs.Meaning.{knownMetIn}
-use Rattle.writing.specs.RoundTrip.{RoundTrip, WritesAt}
-use Rattle.writing.proofs.RoundTrip.{round-trip}
+use Rattle.format.specs.RoundTrip.{RoundTrip, WritesAt}
+use Rattle.format.proofs.RoundTrip.{round-trip}
 use Rattle.metwriting.specs.Files.{knownThere}
 use Rattle.metwriting.specs.Lengths.{openingNumber}
 use Rattle.metwriting.proofs.Answers.{Ready}

@@ -24,8 +24,8 @@ use Rattle.wire.proofs.Replies.{slice-bytes}
 use Rattle.met.specs.declared.ServerMet.{ServerMet}
 use Rattle.met.specs.Meaning.{serverMetIn}
 use Rattle.writing.specs.There.{itemsThere}
-use Rattle.writing.specs.RoundTrip.{RoundTrip, WritesAt}
-use Rattle.writing.proofs.RoundTrip.{round-trip}
+use Rattle.format.specs.RoundTrip.{RoundTrip, WritesAt}
+use Rattle.format.proofs.RoundTrip.{round-trip}
 use Rattle.metwriting.specs.Files.{serverThere}
 use Rattle.metwriting.specs.Lengths.{openingNumber}
 use Rattle.metwriting.proofs.Answers.{Ready, run-there, then-there}

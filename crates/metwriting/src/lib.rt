@@ -19,7 +19,7 @@ ghost use Rattle.format.specs.Writing.{overwritten};
 ghost use Rattle.met.specs.Meaning.{fileEntryIn, serverEntryIn, knownMetIn, serverMetIn};
 ghost use Rattle.writing.specs.There.{hashThere, itemsThere};
 ghost use Rattle.writing.specs.Writers.{answered};
-ghost use Rattle.writing.specs.RoundTrip.{RoundTrip, WritesAt};
+ghost use Rattle.format.specs.RoundTrip.{RoundTrip, WritesAt};
 ghost use Rattle.metwriting.specs.Files.{serverEntryThere, knownThere, serverThere};
 ghost use Rattle.metwriting.specs.Lengths.{lengthMeaning, lengthFault, itemsEnd, EndsBehind, EntryMeaning, entryFault, entryHead, openingNumber};
 ghost use Rattle.metwriting.specs.Entries.{writeFileEntry, writeServerEntry};

@@ -18,8 +18,8 @@ use Rattle.bodies.specs.Meaning.{bodyIn}
 use Rattle.packets.specs.declared.Link.{Link}
 use Rattle.packets.specs.declared.Packet.{Packet}
 use Rattle.packets.specs.Meaning.{packetIn}
-use Rattle.writing.specs.RoundTrip.{IsThere, RoundTrip, WritesAt, absent, present}
-use Rattle.writing.proofs.RoundTrip.{round-trip}
+use Rattle.format.specs.RoundTrip.{IsThere, RoundTrip, WritesAt, absent, present}
+use Rattle.format.proofs.RoundTrip.{round-trip}
 use Rattle.bodychecking.specs.declared.BodyCheck.{BodyCheck}
 use Rattle.bodychecking.specs.Bodies as findings
 use Rattle.bodychecking.specs.Bodies.{BodyChecked, bodyThere, bytesOf}

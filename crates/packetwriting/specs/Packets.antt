@@ -18,7 +18,7 @@ use Rattle.bodies.specs.Meaning.{bodyIn}
 use Rattle.packets.specs.declared.Link.{Link}
 use Rattle.packets.specs.declared.Packet.{Packet}
 use Rattle.packets.specs.Meaning.{opcodesOf, packetIn}
-use Rattle.writing.specs.RoundTrip.{IsThere}
+use Rattle.format.specs.RoundTrip.{IsThere}
 use Rattle.bodychecking.specs.declared.BodyCheck.{BodyCheck}
 use Rattle.bodychecking.specs.Bodies.{BodyEnds, BodyRule, bodyThere, bytesOf}
 

@@ -12,7 +12,7 @@ ghost use Rattle.format.specs.Layout.{byte, dword};
 ghost use Rattle.format.specs.Writing.{overwritten};
 ghost use Rattle.bodies.specs.Meaning.{bodyIn, shapeOf};
 ghost use Rattle.writing.specs.Writers.{answered};
-ghost use Rattle.writing.specs.RoundTrip.{RoundTrip, WritesAt};
+ghost use Rattle.format.specs.RoundTrip.{RoundTrip, WritesAt};
 ghost use Rattle.packetwriting.specs.Packets.{Ready, anotherShape, headBytes, headSize, kindOf, packetOf, packetThere, readerNumber, shapeNumber};
 use bodies::Body;
 use bodies::Shape;

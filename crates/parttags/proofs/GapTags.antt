@@ -9,13 +9,13 @@ use mathlib.Core.List.{List, [], _∷_, _++_, map, map-append, reverse, reverse-
 use lib.ListN.{length, getD, set, replicate, length-append, length-map}
 use lib.Seq.{getD-set-same, getD-set-other, set-at, append-snoc}
 use lib.Dec.{eqb}
-use Rattle.format.specs.Tables.{pick}
+use Rattle.format.specs.Tables.{pick, same}
 use Rattle.format.specs.Messages as messages
 use Rattle.format.specs.Rules as rules
 use Rattle.format.specs.Rules.{gapLimit}
 use Rattle.format.specs.Decoding.{passes, violates, andCheck, bytesAt}
 use Rattle.format.specs.GapTags.{numberOf, role, roleIn, plain, starting, ending}
-use Rattle.format.specs.PartTagOrder.{Progress, between, within, same, used, step, scan}
+use Rattle.format.specs.PartTagOrder.{Progress, between, within, used, step, scan}
 use Rattle.gaps.specs.declared.Gap.{Gap as Place}
 use Rattle.gaps.specs.declared.GapRecord.{GapRecord}
 use Rattle.gaps.specs.Records.{place, placeOf, recordOf}

@@ -8,29 +8,9 @@ use native.Mathlib.Omega.{arith}
 use lib.ListN.{length, getD, drop, length-take, length-drop, drop-of-length-le}
 use lib.Seq.{drop-cons}
 use lib.Dec.{leb, eqb}
-use Rattle.format.specs.Tables.{pick}
+use Rattle.format.specs.Tables.{pick, same}
 use Rattle.format.specs.Decoding.{bytesAt}
-use Rattle.format.specs.PartTagOrder.{same, decimal}
-
-pick-same : {A : Type 0} (t : Bool) {a : A} → pick t a a ≡ a
-pick-same true = refl
-pick-same false = refl
-
-pub same-lengths : (k l : List ℕ) → (length k ≡ length l → ⊥) → same k l ≡ false
-unfolding same
-same-lengths [] [] h = absurd (h refl)
-same-lengths [] (b ∷ l) h = refl
-same-lengths (a ∷ k) [] h = refl
-same-lengths (a ∷ k) (b ∷ l) h = rw (same-lengths k l (λ e. h (omega arith))) (pick-same (eqb a b))
-
-pub same-next : (k l : List ℕ) (i : ℕ) → i < length k → i < length l
-    → same (drop i k) (drop i l) ≡ pick (eqb (getD k i 0) (getD l i 0)) (same (drop (i + 1) k) (drop (i + 1) l)) false
-unfolding same
-same-next k l i h g = rw (drop-cons k i 0 h, drop-cons l i 0 g, add-one) refl
-
-pub same-end : (k l : List ℕ) (i : ℕ) → length k ≤ i → length l ≤ i → same (drop i k) (drop i l) ≡ true
-unfolding same
-same-end k l i h g = rw (drop-of-length-le k {i = i} h, drop-of-length-le l {i = i} g) refl
+use Rattle.format.specs.PartTagOrder.{decimal}
 
 -- a name of one byte
 pub same-one : (k : List ℕ) (b : ℕ) → length k ≡ 1 → eqb (getD k 0 0) b ≡ same k (b ∷ [])

@@ -6,7 +6,8 @@ use mathlib.Core.Option.{Option, none, some}
 use mathlib.Core.List.{List, [], _∷_, _++_}
 use Rattle.format.specs.Messages.{Tag}
 use Rattle.format.specs.GapTags.{numberOf}
-use Rattle.format.specs.PartTagOrder.{same, sizeIn, sizes}
+use Rattle.format.specs.Tables.{same}
+use Rattle.format.specs.PartTagOrder.{sizeIn, sizes}
 use Rattle.tags.specs.declared.TagValue.{TagValue}
 use Rattle.tags.specs.Meaning.{valueOf}
 use Rattle.parttags.specs.declared.Number.{Number}

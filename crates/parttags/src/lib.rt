@@ -16,7 +16,8 @@ ghost use Rattle.format.specs.Rules.{gapLimit};
 ghost use Rattle.format.specs.Order.{decodeTag};
 ghost use Rattle.format.specs.GapTags as gapTags;
 ghost use Rattle.format.specs.PartTagOrder as order;
-ghost use Rattle.format.specs.PartTagOrder.{same, numbered, used, sizes, sole, nextStart, afterFull, checkStart, checkEnd};
+ghost use Rattle.format.specs.Tables.{same};
+ghost use Rattle.format.specs.PartTagOrder.{numbered, used, sizes, sole, nextStart, afterFull, checkStart, checkEnd};
 ghost use Rattle.format.specs.PartTagOrder.{between, within, scan, checkPartTags};
 ghost use Rattle.wire.specs.Meaning.{ruleMeaning, placeBytes, itemsIn, ItemsPlaced};
 ghost use Rattle.tags.specs.Meaning.{tagOf};
@@ -222,23 +223,6 @@ fn role_of(s: &[u8], tag: Tag) -> Role
     Role::Plain
 }
 
-fn same_bytes(a: &[u8], b: &[u8]) -> bool
-    ensures { λ r. ⌜ r ≡ same (now (a .entry)) (now (b .entry)) ⌝ }
-{
-    let n = a.len();
-    if n != b.len() {
-        return false;
-    }
-    let mut i = 0;
-    while i < n {
-        if a[i] != b[i] {
-            return false;
-        }
-        i += 1;
-    }
-    true
-}
-
 // Whether the bytes are 1 to 10 decimal digits.
 fn is_numbered(digits: &[u8]) -> bool
     ensures { λ r. ⌜ r ≡ numbered (now (digits .entry)) ⌝ }
@@ -275,7 +259,7 @@ fn is_used(s: &[u8], digits: Place, pairs: Pairs) -> bool
         i -= 1;
         let p = pairs.pairs[i];
         let theirs = p.digits;
-        if same_bytes(mine, bytes_at(s, theirs.at, theirs.len)) {
+        if put::same(mine, bytes_at(s, theirs.at, theirs.len)) {
             return true;
         }
     }
@@ -375,7 +359,7 @@ fn step_end(
         (placeBytes (now (s .entry)) digits) start (placeBytes (now (s .entry)) own) end ⌝ }
     ensures fits { λ r. ⌜ Fits (r .pairs) (r .pending) ⌝ }
 {
-    if !same_bytes(
+    if !put::same(
         bytes_at(s, digits.at, digits.len),
         bytes_at(s, own.at, own.len),
     ) {

@@ -32,8 +32,8 @@ use Rattle.met.specs.declared.PartE1.{PartE1}
 use Rattle.met.specs.declared.PartMet.{PartMet}
 use Rattle.met.specs.Meaning.{blocksIn, partE1In, partMetIn}
 use Rattle.writing.specs.There.{bothThere, itemsThere}
-use Rattle.writing.specs.RoundTrip.{RoundTrip, WritesAt}
-use Rattle.writing.proofs.RoundTrip.{round-trip}
+use Rattle.format.specs.RoundTrip.{RoundTrip, WritesAt}
+use Rattle.format.proofs.RoundTrip.{round-trip}
 use Rattle.metwriting.proofs.Answers.{Ready, then-there}
 use Rattle.metwriting.proofs.Lists.{Here, bytes-append, bytes-part, hash-needed, hash-valid, list-bytes, list-here, run-needed}
 use Rattle.partwriting.specs.declared.Area.{Area}

@@ -22,7 +22,7 @@ ghost use Rattle.parttags.specs.Meaning.{verdictMeaning};
 ghost use Rattle.met.specs.Meaning.{fileEntryIn, partE1In, partMetIn};
 ghost use Rattle.writing.specs.There.{hashThere, itemsThere};
 ghost use Rattle.writing.specs.Writers.{answered};
-ghost use Rattle.writing.specs.RoundTrip.{RoundTrip, WritesAt};
+ghost use Rattle.format.specs.RoundTrip.{RoundTrip, WritesAt};
 ghost use Rattle.metwriting.specs.Files.{fileEntryThere};
 ghost use Rattle.metwriting.specs.Lengths.{EntryMeaning, lengthMeaning};
 ghost use Rattle.met.specs.declared.HashBlocks.{HashBlocks};

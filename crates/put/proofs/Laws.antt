@@ -11,9 +11,8 @@ use borrow.Author.Tests.{eq-eqb, ne-eqb}
 use lib.ListN.{drop-of-length-le, length, take, drop, set, getD, length-append, length-drop}
 use lib.Seq.{take-all, sets, sets-eq, take-length, take-append-seam, drop-append-seam, drop-drop, drop-cons}
 use lib.Dec.{eqb}
-use Rattle.format.specs.Tables.{pick}
+use Rattle.format.specs.Tables.{pick, same}
 use Rattle.format.specs.Layout.{littleEndian}
-use Rattle.format.specs.PartTagOrder.{same}
 use Rattle.format.specs.Writing.{overwritten}
 
 -- The bytes of a number, as code works them out.

@@ -6,7 +6,7 @@ ghost use mathlib.Core.Path.{_≡_};
 ghost use Prim.Native.Nat.{_+_, _≤_, _<_};
 ghost use lib.ListN.{length};
 ghost use Rattle.format.specs.Layout.{byte, word, dword, encodeString};
-ghost use Rattle.format.specs.PartTagOrder.{same};
+ghost use Rattle.format.specs.Tables.{same};
 ghost use Rattle.format.specs.Writing.{overwritten};
 
 pub fn put_byte(out: &mut [u8], v: u8)

@@ -8,12 +8,12 @@ use native.Mathlib.Omega.{arith}
 use lib.ListN.{length}
 use lib.Dec.{eqb}
 use borrow.Author.Tests.{eqb-true}
-use Rattle.format.specs.Tables.{pick}
+use Rattle.format.specs.Tables.{pick, same}
 use Rattle.format.specs.Gaps.{Gap, Ordered, Lawful}
 use Rattle.format.specs.Messages.{Tag}
 use Rattle.format.specs.Rules.{All, Apart, Digits, Distinct, GapPair, Paired, SizeIs, ValidPartTags, done, gapOf, other, pair}
 use Rattle.format.specs.GapTags.{Role, plain, odd, start, end, role, roleIn, gapsOf, numberOf}
-use Rattle.format.specs.PartTagOrder.{same, sizeIn, sizes}
+use Rattle.format.specs.PartTagOrder.{sizeIn, sizes}
 use Rattle.format.specs.Putting.{isPlain, plainTags, decimalOf, gapTags, regapped}
 use Rattle.format.proofs.PartTags.{Means, either-test, gaps-of, no-true, role-means, size-sizes, sizes-means}
 use Rattle.putting.proofs.Decimals.{decimal-digits, same-decimal}

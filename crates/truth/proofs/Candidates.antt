@@ -8,12 +8,11 @@ use native.Mathlib.Omega.{arith}
 use lib.ListN.{length, getD, length-take, length-drop}
 use lib.Dec.{eqb, leb}
 use borrow.Author.Tests.{eq-eqb, ne-eqb, leb-true}
-use Rattle.format.specs.Tables.{lookup, pick}
+use Rattle.format.specs.Tables.{lookup, pick, same}
 use Rattle.format.specs.Messages.{Tag, TagType, TagValue, hashType, stringType, dwordType, floatType}
 use Rattle.format.specs.Layout.{typeCode}
 use Rattle.format.specs.Decoding.{Outcome, refused, got, settled, found, passes, violates, choice, nameCeiling, short, fault, checked, ends, fromLittleEndian, pure, bytesAt, decodeNumber, decodeRun}
 use Rattle.format.specs.Order.{checkNameLength, decodeByte, decodeCode, decodeDword, decodeHash, decodeName, decodeString, decodeTag, decodeType, decodeValue, decodeValueOf, decodeWord, tagTypes}
-use Rattle.format.specs.PartTagOrder.{same}
 use Rattle.format.specs.Truth.{onString, onDword, stringTag, dwordTag}
 use Rattle.format.proofs.Codec.{lookup-code, never, same-place, same-value, Went, went}
 use Rattle.format.proofs.There.{byte-there, value-is, word-there}

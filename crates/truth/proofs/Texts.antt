@@ -9,9 +9,8 @@ use lib.ListN.{length, drop, getD, length-drop, drop-of-length-le}
 use lib.Seq.{drop-cons, take-all}
 use lib.Dec.{eqb}
 use borrow.Author.Tests.{eq-eqb, ne-eqb}
-use Rattle.format.specs.Tables.{pick}
+use Rattle.format.specs.Tables.{pick, same}
 use Rattle.format.specs.Decoding.{bytesAt}
-use Rattle.format.specs.PartTagOrder.{same}
 use Rattle.format.specs.Truth.{prefix, occurs}
 
 both-false : (x : Bool) → pick x false false ≡ false

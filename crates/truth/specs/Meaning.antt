@@ -4,12 +4,11 @@ use mathlib.Core.Path.{_≡_}
 use mathlib.Core.Bool.{Bool, false}
 use mathlib.Core.List.{List, [], _∷_}
 use lib.Dec.{eqb}
-use Rattle.format.specs.Tables.{pick}
+use Rattle.format.specs.Tables.{pick, same}
 use Rattle.format.specs.Messages.{Query, Tag}
 use Rattle.format.specs.Layout.{typeCode}
 use Rattle.format.specs.Decoding.{Outcome, decodeMany, itemsOf, refused, got}
 use Rattle.format.specs.Order.{decodeTag}
-use Rattle.format.specs.PartTagOrder.{same}
 use Rattle.format.specs.Truth.{occurs, stringTag, dwordTag, within, holds, some, TruthReply}
 use Rattle.wire.specs.Meaning.{faultMeaning, noFault}
 use Rattle.wire.specs.declared.Fault.{Fault}

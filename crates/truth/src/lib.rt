@@ -10,7 +10,7 @@ ghost use mathlib.Core.Path.{_≡_};
 ghost use mathlib.Core.List.{[], _∷_};
 ghost use Rattle.format.specs.Decoding.{ends, got};
 ghost use Rattle.format.specs.Order.{decodeTag, decodeQueryIn};
-ghost use Rattle.format.specs.PartTagOrder.{same};
+ghost use Rattle.format.specs.Tables.{same};
 ghost use Rattle.format.specs.Truth as format;
 ghost use Rattle.format.specs.Truth.{some, prefix, occurs, stringTag, dwordTag, within};
 ghost use Rattle.wire.specs.Meaning.{ItemsPlaced};

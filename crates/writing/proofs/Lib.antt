@@ -1,5 +1,4 @@
 pub mod Laws
-pub mod RoundTrip
 pub mod Writes
 pub mod Pieces
 pub mod Leaves

@@ -20,8 +20,8 @@ use Rattle.query.specs.declared.Query as place
 use Rattle.query.specs.Meaning.{queryIn, queryOf}
 use Rattle.writing.specs.Writers.{fieldNumber, joinOf, keywordNumber, limitNumber, sidesThere, writeChecked, writeField, writeFound, writeJoin, writeKeyword, writeLimit, writeQuery, writeSides, writeTagList}
 use Rattle.writing.specs.There.{itemsThere}
-use Rattle.writing.specs.RoundTrip.{RoundTrip, absent, present}
-use Rattle.writing.proofs.RoundTrip.{round-trip}
+use Rattle.format.specs.RoundTrip.{RoundTrip, absent, present}
+use Rattle.format.proofs.RoundTrip.{round-trip}
 use Rattle.writing.proofs.Joins.{join-judged}
 use Rattle.writing.proofs.Leaves.{field-judged, keyword-judged, limit-judged}
 

@@ -19,7 +19,7 @@ ghost use Rattle.format.specs.MetOrder.{decode};
 ghost use Rattle.format.specs.Writing.{overwritten};
 ghost use Rattle.wire.specs.Meaning.{doneMeaning, itemsIn};
 ghost use Rattle.query.specs.Meaning.{boundOf, operatorOf, queryIn};
-ghost use Rattle.writing.specs.RoundTrip.{RoundTrip};
+ghost use Rattle.format.specs.RoundTrip.{RoundTrip};
 ghost use Rattle.writing.specs.There.{itemsThere};
 ghost use Rattle.writing.specs.Writers.{answered, joinOf, refusedBy, sidesThere, boundByte, operatorByte, answerNumber};
 ghost use Rattle.writing.specs.Writers.{countNumber, nameNumber, keywordNumber, fieldNumber, limitNumber, joinNumber, tagNumber};

@@ -2,7 +2,7 @@ use native.Mathlib.Omega.{arith}
 use mathlib.Core.Path.{sym, _∙_, ap}
 use lib.Seq.{length-take-le, take-all}
 use denote.Ref.{now}
-use Rattle.format.specs.PartTagOrder.{same}
+use Rattle.format.specs.Tables.{same}
 use borrow.Author.Needs.{needs}
 use Rattle.fields.proofs.same_fields.Statement.{statement}
 use Rattle.fields.proofs.same_fields.Tie as tie

@@ -1,7 +1,8 @@
 use mathlib.Core.Path.{sym}
 use mathlib.Core.List.{[], _∷_}
 use denote.Ref.{now}
-use Rattle.parttags.proofs.Names.{same-one, same-lengths}
+use Rattle.put.proofs.Laws.{same-lengths}
+use Rattle.parttags.proofs.Names.{same-one}
 use borrow.Author.Needs.{needs}
 use Rattle.parttags.proofs.is_size_name.Statement.{statement}
 use Rattle.parttags.proofs.is_size_name.Tie as tie

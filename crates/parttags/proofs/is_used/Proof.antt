@@ -36,14 +36,14 @@ element-copy-out-p c = search needs
 bytes-at-requires-2 : tie.Need-bytes-at-requires-2 Inv-loop μ-loop
 bytes-at-requires-2 c κs = search needs
 
-same-bytes-requires : tie.Need-same-bytes-requires Inv-loop μ-loop
-same-bytes-requires c κs = search needs
+same-requires : tie.Need-same-requires Inv-loop μ-loop
+same-requires c κs = search needs
 
 returns : tie.Need-returns Inv-loop μ-loop
 returns c =
     let l = c .before .before .before .before .before .before in
     let a = l .before .before .before .args in
-    let e = rw (c .before .before .bytes-at2 .ensures) at (sym (c .before .same-bytes .ensures) ∙ c .if1 .taken) in
+    let e = rw (c .before .before .bytes-at2 .ensures) at (sym (c .before .same .ensures) ∙ c .if1 .taken) in
     rw (← l .before .bytes-at .ensures, l .loop .inv .1, used-last (now (a .s)) (l .loop .i) (a .t3 .pairs) _ (omega arith), e) refl
 
 loop-less : tie.Need-loop-less Inv-loop μ-loop
@@ -53,7 +53,7 @@ loop-again : tie.Need-loop-again Inv-loop μ-loop
 loop-again c =
     let l = c .before .before .before .before .before .before in
     let a = l .before .before .before .args in
-    let e = rw (c .before .before .bytes-at2 .ensures) at (sym (c .before .same-bytes .ensures) ∙ c .if1 .left) in
+    let e = rw (c .before .before .bytes-at2 .ensures) at (sym (c .before .same .ensures) ∙ c .if1 .left) in
     (omega arith, l .loop .inv .1 ∙ rw (used-last (now (a .s)) (l .loop .i) (a .t3 .pairs) _ (omega arith), e) refl)
 
 returns-2 : tie.Need-returns-2 Inv-loop μ-loop
@@ -75,7 +75,7 @@ is-used-spec =
     mul-p
     element-copy-out-p
     bytes-at-requires-2
-    same-bytes-requires
+    same-requires
     returns
     loop-less
     loop-again

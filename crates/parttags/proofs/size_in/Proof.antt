@@ -5,7 +5,7 @@ use denote.Ref.{now}
 use borrow.Author.Tests.{not-true, not-false}
 use Rattle.format.specs.GapTags.{numberOf}
 use Rattle.format.specs.Messages as messages
-use Rattle.format.specs.PartTagOrder.{same}
+use Rattle.format.specs.Tables.{same}
 use Rattle.tags.specs.Meaning.{tagOf}
 use Rattle.parttags.specs.Steps.{numberIn}
 use Rattle.parttags.proofs.SizeTags.{number-of, other-name, size-name}

@@ -2,20 +2,20 @@ use mathlib.Core.Bool.{Bool}
 use mathlib.Core.Path.{_≡_, refl, sym, _∙_}
 use borrow.Author.Tests.{lt-ltb, le-ltb, le-leb, lt-leb, not-true, not-false}
 use denote.Ref.{now}
-use Rattle.format.specs.PartTagOrder.{same}
+use Rattle.format.specs.Tables.{same}
 use Rattle.wire.specs.Meaning.{placeBytes}
 use borrow.Author.Needs.{needs}
 use native.Mathlib.Omega.{arith}
 use Rattle.parttags.proofs.step_end.Statement.{statement}
 use Rattle.parttags.proofs.step_end.Tie as tie
 
-abbrev start : tie.After-same-bytes → tie.Start
+abbrev start : tie.After-same → tie.Start
 start c = c .before .before .before .before
 
 -- what the comparison of the digits says
-digits : (c : tie.After-same-bytes) (t : Bool) → c .same-bytes .result ≡ t
+digits : (c : tie.After-same) (t : Bool) → c .same .result ≡ t
     → same (placeBytes (now (start c .args .s)) (start c .args .digits)) (placeBytes (now (start c .args .s)) (start c .args .own)) ≡ t
-digits c t e = rw (c .before .before .bytes-at .ensures, c .before .bytes-at2 .ensures) at (sym (c .same-bytes .ensures) ∙ e)
+digits c t e = rw (c .before .before .bytes-at .ensures, c .before .bytes-at2 .ensures) at (sym (c .same .ensures) ∙ e)
 
 bytes-at-requires : tie.Need-bytes-at-requires
 bytes-at-requires c κs = search needs
@@ -23,8 +23,8 @@ bytes-at-requires c κs = search needs
 bytes-at-requires-2 : tie.Need-bytes-at-requires-2
 bytes-at-requires-2 c κs = search needs
 
-same-bytes-requires : tie.Need-same-bytes-requires
-same-bytes-requires c κs = search needs
+same-requires : tie.Need-same-requires
+same-requires c κs = search needs
 
 violation-requires : tie.Need-violation-requires
 violation-requires c κs = search needs
@@ -83,7 +83,7 @@ step-end-spec =
     (tie.spec
     bytes-at-requires
     bytes-at-requires-2
-    same-bytes-requires
+    same-requires
     violation-requires
     returns
     violation-requires-2

@@ -3,7 +3,7 @@ use mathlib.Core.Path.{_≡_, refl, sym}
 use native.Mathlib.Omega.{arith}
 use lib.ListN.{drop}
 use denote.Ref.{now}
-use Rattle.format.specs.PartTagOrder.{same}
+use Rattle.format.specs.Tables.{same}
 use Rattle.put.proofs.Laws.{same-lengths, same-next, same-stop, same-done}
 use Rattle.put.proofs.same.Statement.{statement}
 use Rattle.put.proofs.same.Tie as tie

@@ -1,5 +1,5 @@
 use mathlib.Core.Path.{refl}
-use Rattle.format.specs.PartTagOrder.{same}
+use Rattle.format.specs.Tables.{same}
 use Rattle.format.specs.Truth.{stringTag}
 use Rattle.truth.proofs.Values.{no-text}
 use borrow.Author.Needs.{needs}

@@ -9,15 +9,15 @@ use lib.ListN.{length, take, drop}
 use lib.Seq.{take-append-seam}
 use lib.Dec.{leb}
 use borrow.Author.Tests.{le-leb, leb-true}
 use Rattle.format.specs.Tables.{pick}
 use Rattle.format.specs.Messages.{Kind, Message}
 use Rattle.format.specs.Layout.{encode}
 use Rattle.format.specs.Rules.{Bytes, Valid}
 use Rattle.format.specs.Decoding.{Fault, Outcome, accepted, got, number, refused}
 use Rattle.format.specs.MetOrder.{decode}
 use Rattle.format.specs.Writing.{Judged, Written, Writes, overwritten, refuses, tries, unwritten, writtenInto}
 use Rattle.format.proofs.Writing.{judged-once, judged-valid, number-some, reads-writes, valid-judged, writes-reads}
-use Rattle.writing.specs.RoundTrip.{IsThere, RoundTrip, WritesAt, absent, present}
+use Rattle.format.specs.RoundTrip.{IsThere, RoundTrip, WritesAt, absent, present}
 
 module _ (k : Kind) (m : Message k) (output : List ℕ) where
   abbrev bytes : List ℕ
