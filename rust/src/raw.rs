@@ -54,6 +54,12 @@ unsafe extern "C" {
     fn ed2k_write_hash_tag(name: *const u8, name_length: usize, hash: *const u8, hash_length: usize, output: *mut u8, room: usize, written: *mut u64) -> u8;
     fn ed2k_write_tag_list(bytes: *const u8, length: usize, at: usize, count: u32, output: *mut u8, room: usize, written: *mut u64) -> u8;
     fn ed2k_write_query(bytes: *const u8, length: usize, at: usize, output: *mut u8, room: usize, written: *mut u64) -> u8;
+
+    fn ed2k_write(kind: u8, bytes: *const u8, length: usize, fields: *const u64, field_count: usize, output: *mut u8, room: usize, written: *mut u64) -> u8;
+    fn ed2k_write_address(ip: u32, port: u16, output: *mut u8, room: usize, written: *mut u64) -> u8;
+    fn ed2k_write_record(bytes: *const u8, length: usize, hash: usize, client: u32, port: u16, tags_at: usize, tag_count: u32, output: *mut u8, room: usize, written: *mut u64) -> u8;
+    fn ed2k_write_file_entry(bytes: *const u8, length: usize, date: u32, hash: usize, hashes_at: usize, hash_count: u32, tags_at: usize, tag_count: u32, output: *mut u8, room: usize, written: *mut u64) -> u8;
+    fn ed2k_write_server_entry(bytes: *const u8, length: usize, ip: u32, port: u16, tags_at: usize, tag_count: u32, output: *mut u8, room: usize, written: *mut u64) -> u8;
 }
 
 /// The items that are read one by one.
@@ -78,6 +84,13 @@ impl Item {
             Item::QueryNode => ed2k_read_query_node,
         }
     }
+}
+
+/// Where a list lies: the place of its first entry, and how many it has.
+#[derive(Clone, Copy)]
+pub(crate) struct Listed {
+    pub(crate) at: usize,
+    pub(crate) count: u32,
 }
 
 /// What a call answers with, by its number.
@@ -305,5 +318,100 @@ pub(crate) fn write_query(bytes: &[u8], at: usize, output: &mut [u8]) -> Result<
     // SAFETY: lent slices, and a reference to the number that is left behind; `at` may be any number.
     length_of(|written| unsafe {
         ed2k_write_query(bytes.as_ptr(), bytes.len(), at, output.as_mut_ptr(), output.len(), written)
+    })
+}
+
+pub(crate) fn write(kind: u8, bytes: &[u8], fields: &Fields, output: &mut [u8]) -> Result<usize, Refusal> {
+    // SAFETY: lent slices, and a reference to the number that is left behind; `kind` and `fields` may be any numbers.
+    length_of(|written| unsafe {
+        ed2k_write(
+            kind,
+            bytes.as_ptr(),
+            bytes.len(),
+            fields.as_ptr(),
+            FIELDS,
+            output.as_mut_ptr(),
+            output.len(),
+            written,
+        )
+    })
+}
+
+pub(crate) fn write_address(ip: u32, port: u16, output: &mut [u8]) -> Result<usize, Refusal> {
+    // SAFETY: a lent slice, and a reference to the number that is left behind.
+    length_of(|written| unsafe { ed2k_write_address(ip, port, output.as_mut_ptr(), output.len(), written) })
+}
+
+pub(crate) fn write_record(
+    bytes: &[u8],
+    hash: usize,
+    client: u32,
+    port: u16,
+    tags: Listed,
+    output: &mut [u8],
+) -> Result<usize, Refusal> {
+    // SAFETY: lent slices, and a reference to the number that is left behind; the places may be any numbers.
+    length_of(|written| unsafe {
+        ed2k_write_record(
+            bytes.as_ptr(),
+            bytes.len(),
+            hash,
+            client,
+            port,
+            tags.at,
+            tags.count,
+            output.as_mut_ptr(),
+            output.len(),
+            written,
+        )
+    })
+}
+
+pub(crate) fn write_file_entry(
+    bytes: &[u8],
+    date: u32,
+    hash: usize,
+    hashes: Listed,
+    tags: Listed,
+    output: &mut [u8],
+) -> Result<usize, Refusal> {
+    // SAFETY: lent slices, and a reference to the number that is left behind; the places may be any numbers.
+    length_of(|written| unsafe {
+        ed2k_write_file_entry(
+            bytes.as_ptr(),
+            bytes.len(),
+            date,
+            hash,
+            hashes.at,
+            hashes.count,
+            tags.at,
+            tags.count,
+            output.as_mut_ptr(),
+            output.len(),
+            written,
+        )
+    })
+}
+
+pub(crate) fn write_server_entry(
+    bytes: &[u8],
+    ip: u32,
+    port: u16,
+    tags: Listed,
+    output: &mut [u8],
+) -> Result<usize, Refusal> {
+    // SAFETY: lent slices, and a reference to the number that is left behind; the places may be any numbers.
+    length_of(|written| unsafe {
+        ed2k_write_server_entry(
+            bytes.as_ptr(),
+            bytes.len(),
+            ip,
+            port,
+            tags.at,
+            tags.count,
+            output.as_mut_ptr(),
+            output.len(),
+            written,
+        )
     })
 }

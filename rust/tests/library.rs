@@ -212,7 +212,7 @@ fn lists_know_their_bytes_and_can_be_walked_twice() {
     assert_eq!(first.part_hashes.collect::<Vec<_>>(), [Hash([0x5A; 16]); 2]);
     assert_eq!((first.date, first.hash), (1_253_225_404, Hash(HASH)));
     let second = entries.next().unwrap();
-    assert_eq!((second.part_hashes.len(), second.tags.encoded()), (0, &[0, 0, 0, 0][..]));
+    assert_eq!((second.part_hashes.len(), &second.tags.encoded()[..]), (0, &[0, 0, 0, 0][..]));
     assert_eq!(second.tags.file_name(), None);
     assert!(entries.next().is_none());
 }
