@@ -181,11 +181,12 @@ uint8_t ed2k_write_query(const uint8_t *bytes, size_t length, size_t at, uint8_t
  * `bytes`. What lies at a place is read again, and the ends of lists and queries and the depths of queries are not looked at; nor is
  * the size of a part.met, which its tags tell. In this order:
  *   4   the kind is none of those above
- *   5   the first 16 numbers, or fewer if so many are not lent, are those of no message of the kind: a number above what its field
- *       holds (32 bits for the count of a list, 16 for that of status bits), one that the message does not use and that is not 0, an unlisted
- *       shape, form or hash lists, a part.met that opens with neither E0 nor E1, an E0 without ED2K_HASHES_COUNTED or an E1 with it
+ *   5   the first 16 numbers, or fewer where so many are not lent, are those of no message of the kind: a number above what its field
+ *       holds (32 bits for the count of a list, 16 for that of status bits), one that the message does not use and that is not 0, an
+ *       unlisted shape, form or hash lists, a part.met that opens with neither E0 nor E1, an E0 without ED2K_HASHES_COUNTED or an E1
+ *       with it
  *   4   the link lists the opcode with another shape
- *   1.. a place does not hold what it should: the number of its own reading, the first at fault in the order of the bytes written
+ *   ..  a place does not hold what it should: the number of its own reading, the first at fault in the order of the bytes written
  *   6   a text above 65,535 bytes, more than 255 addresses, more than 65,535 hashes behind a count
  *   5   the bytes would be another message: a status request of the other form, or hash lists of a part.met that is read otherwise
  *   ..  the number that ed2k_read has for the bytes

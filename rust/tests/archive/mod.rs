@@ -130,6 +130,53 @@ mod ffi {
             room: usize,
             written: *mut u64,
         ) -> u8;
+        pub fn ed2k_write(
+            kind: u8,
+            bytes: *const u8,
+            length: usize,
+            fields: *const u64,
+            field_count: usize,
+            output: *mut u8,
+            room: usize,
+            written: *mut u64,
+        ) -> u8;
+        pub fn ed2k_write_address(ip: u32, port: u16, output: *mut u8, room: usize, written: *mut u64) -> u8;
+        pub fn ed2k_write_record(
+            bytes: *const u8,
+            length: usize,
+            hash: usize,
+            client: u32,
+            port: u16,
+            tags_at: usize,
+            tag_count: u32,
+            output: *mut u8,
+            room: usize,
+            written: *mut u64,
+        ) -> u8;
+        pub fn ed2k_write_file_entry(
+            bytes: *const u8,
+            length: usize,
+            date: u32,
+            hash: usize,
+            hashes_at: usize,
+            hash_count: u32,
+            tags_at: usize,
+            tag_count: u32,
+            output: *mut u8,
+            room: usize,
+            written: *mut u64,
+        ) -> u8;
+        pub fn ed2k_write_server_entry(
+            bytes: *const u8,
+            length: usize,
+            ip: u32,
+            port: u16,
+            tags_at: usize,
+            tag_count: u32,
+            output: *mut u8,
+            room: usize,
+            written: *mut u64,
+        ) -> u8;
     }
 
     macro_rules! item_readers {
@@ -180,6 +227,11 @@ pub const ARCHIVE: Calls = Calls {
     write_hash_tag: |name, hash, output, written| call!(ed2k_write_hash_tag slice name, slice hash, lent output, written),
     write_tag_list: |bytes, at, count, output, written| call!(ed2k_write_tag_list slice bytes, at, count, lent output, written),
     write_query: |bytes, at, output, written| call!(ed2k_write_query slice bytes, at, lent output, written),
+    write: |kind, bytes, fields, output, written| call!(ed2k_write kind, slice bytes, slice fields, lent output, written),
+    write_address: |ip, port, output, written| call!(ed2k_write_address ip, port, lent output, written),
+    write_record: |bytes, hash, (client, port), (tags, count), output, written| call!(ed2k_write_record slice bytes, hash, client, port, tags, count, lent output, written),
+    write_file_entry: |bytes, (date, hash), (hashes, hash_count), (tags, count), output, written| call!(ed2k_write_file_entry slice bytes, date, hash, hashes, hash_count, tags, count, lent output, written),
+    write_server_entry: |bytes, (ip, port), (tags, count), output, written| call!(ed2k_write_server_entry slice bytes, ip, port, tags, count, lent output, written),
 };
 
 fn read_item(item: Item, bytes: &[u8], at: usize, fields: &mut [u64]) -> u8 {
