@@ -181,7 +181,7 @@ impl Draft {
         self.count::<2>(parts);
         self.run(source, at, parts.div_ceil(8))?;
         let last = self.bytes.last().copied().unwrap_or_default();
-        let unused = parts % 8 > 0 && last >> (parts % 8) != 0;
+        let unused = !parts.is_multiple_of(8) && last >> (parts % 8) != 0;
         if unused { Err(Refusal::Choice) } else { Ok(()) }
     }
 
