@@ -200,13 +200,15 @@ fn injure(random: &mut Random, source: &[u8], fields: &mut Vec<u64>) {
         if fields.len() < plain::FIELDS {
             return;
         }
-        let at = random.pick(&[0, 1, 2, 3, 3, 4, 4, 5, 5, 6, 7, 8, 9, 10, 11, 12, 13, 14, 15]);
+        let used = 1 + fields.iter().rposition(|number| *number != 0).unwrap_or(0);
+        let reached = random.pick(&[used, used, used, used, used, used, used, plain::FIELDS]);
+        let at = random.below(reached);
         match random.below(12) {
             0 => fields[at] = random.next(),
             1..=3 => fields[at] = edge(random, source),
             4 | 5 => fields[at] = fields[at].wrapping_add(1),
             6 => fields[at] = fields[at].wrapping_sub(1),
-            7 => fields.swap(at, random.below(plain::FIELDS)),
+            7 => fields.swap(at, random.below(used)),
             8 | 9 => fields[at] = random.within(0, source.len()) as u64,
             10 => {
                 let link = random.pick(&[0, 1, 2]);
@@ -255,8 +257,8 @@ fn wide_length(random: &mut Random) -> u64 {
 
 /// The numbers of a body of this layout over the wide source; the letters are those of the inputs.
 fn wide_body(random: &mut Random, layout: &str, fields: &mut Vec<u64>) {
-    let place = random.pick(&[0, 0, 7, 84_464]);
     for letter in layout.chars() {
+        let place = random.pick(&[0, 0, 0, 0, 7, 84_464, 1_149_990, 1_150_001]);
         match letter {
             'h' => fields.push(place),
             'd' => fields.push(random.dword().into()),
@@ -362,7 +364,7 @@ fn server_met() {
 
 #[test]
 fn part_met() {
-    compare_kind(plain::PART_MET, &[0, 1, 5, 6, 7, 8, 9, 10]);
+    compare_kind(plain::PART_MET, &[0, 1, 5, 6, 8, 9, 10]);
 }
 
 #[test]
@@ -459,6 +461,57 @@ fn block_hashes_alone_that_look_like_part_hashes() {
         assert_eq!(compare_write(&mut comparison, plain::PART_MET, &source, &fields), None);
     }
     comparison.assert_seen(NAMES[5], &[5]);
+}
+
+/// A source with a hash at 0, a tag that says a size at 16, a tag of no type at 24, and a tag whose name is too long at 25.
+fn faulty_source() -> Vec<u8> {
+    [&[7; 16][..], &[3, 1, 0, 2, 100, 0, 0, 0], &[9], &[2, 0, 1]].concat()
+}
+
+/// Where tags lie, and where they do not: 5, 6 or 1.
+const TAG_PLACES: [usize; 4] = [16, 24, 25, 1_000];
+const HASH_PLACES: [usize; 2] = [0, 1_000];
+
+/// Every pair of places, each of which holds what it should or is at fault in its own way.
+#[test]
+fn the_first_place_at_fault_decides() {
+    let mut comparison = Comparison::new(55_000_000);
+    let source = faulty_source();
+    let mut seen = |kind, fields: &[u64]| {
+        let fields: Vec<u64> = fields.iter().copied().chain([0; 16]).take(plain::FIELDS).collect();
+        compare_write(&mut comparison, kind, &source, &fields);
+    };
+    for (hash, tags, hashes) in places() {
+        let (hash, tags, hashes) = (hash as u64, tags as u64, u64::from(hashes));
+        seen(plain::SERVER_LINK, &[0xE3, 0x41, 11, hash, 1, 2, tags, 0, 1]);
+        seen(plain::SERVER_LINK, &[0xE3, 0x01, 12, hash, 1, 2, tags, 0, 1]);
+        seen(plain::CLIENT_LINK, &[0xE3, 0x01, 16, hash, 1, 2, tags, 0, 1, 3, 4]);
+        seen(plain::CLIENT_LINK, &[0xE3, 0x52, 18, hash, 0, 0, hashes]);
+        seen(plain::UDP_LINK, &[0xE3, 0xA3, 6, hash, 16, hash, 17 * hashes]);
+        seen(plain::PART_MET, &[0xE0, 0, 0, hash, tags, 0, 1, 4, 0, 0, hashes]);
+        seen(plain::PART_MET, &[0xE1, 0, 0, hash, tags, 0, 1, 1, 0, 0, hashes]);
+        seen(plain::PART_MET, &[0xE1, 0, 0, hash, tags, 0, 1, 3, 0, 0, 1, 0, 0, hashes]);
+    }
+    comparison.assert_seen(NAMES[0], &[0, 1, 5, 6, 10]);
+    comparison.assert_seen(NAMES[5], &[0, 1, 5, 6, 10]);
+}
+
+/// A hash's place, a tag's, and how many hashes lie at 0.
+fn places() -> impl Iterator<Item = (usize, usize, u32)> {
+    let pairs = HASH_PLACES.iter().flat_map(|hash| TAG_PLACES.map(|tags| (*hash, tags)));
+    pairs.flat_map(|(hash, tags)| [0, 1, 3, 99].map(|hashes| (hash, tags, hashes)))
+}
+
+#[test]
+fn the_first_place_of_an_entry_at_fault_decides() {
+    let mut comparison = Comparison::new(56_000_000);
+    let source = faulty_source();
+    for (hash, tags, hashes) in places() {
+        let mut random = comparison.next_input();
+        compare_entries(&mut comparison, &mut random, &source, hash, (0, hashes), (tags, 1));
+    }
+    comparison.assert_seen("file entry", &[0, 1, 5, 6]);
+    comparison.assert_seen("record", &[0, 1, 5, 6]);
 }
 
 /// A 96 of each form with numbers of each form.
