@@ -81,7 +81,8 @@ impl Comparison {
         (number == 0).then_some(fields)
     }
 
-    /// A call that writes, with room to spare, with just enough room, and with too little: what it writes if it accepts.
+    /// A call that writes, with room to spare, with just enough room, and with too little: what it writes if it accepts. One that refuses
+    /// does so with no room too.
     pub fn writing(
         &mut self,
         call: &'static str,
@@ -99,6 +100,8 @@ impl Comparison {
         let most = 4_096 + input.iter().map(|bytes| bytes.len()).sum::<usize>();
         let (number, (written, _)) = self.same(call, input, lent(most));
         if number != 0 {
+            let (again, _) = self.same(call, input, lent(0));
+            assert_eq!(again, number, "seed {}, {call}: room is asked for last", self.seed);
             return None;
         }
         let length = written as usize;
