@@ -8,9 +8,8 @@ mod inputs;
 mod plain;
 
 use comparison::Comparison;
-// Links the archive.
-use ed2k as _;
-use inputs::{Random, damaged, lone_query, lone_tags, long_length, message};
+use ed2k::{Body, FileEntries, Kind, Message, Records, Refusal, ServerEntries, write};
+use inputs::{Random, damaged, input, lone_query, lone_tags, long_input, long_length, message};
 
 const ROUNDS: u64 = 20_000;
 const LONG_ROUNDS: u64 = 60;
@@ -588,4 +587,61 @@ fn compare_entries(
     comparison.writing("server entry", &input, |calls, output, written| {
         (calls.write_server_entry)(source, (number, port), tags, output, written)
     });
+}
+
+/// The entries of a list, written one by one, and how many they are.
+fn entries<T>(
+    list: impl Iterator<Item = T>,
+    entry: impl Fn(&T) -> Result<Vec<u8>, Refusal>,
+) -> Result<(Vec<u8>, u32), Refusal> {
+    let written: Vec<Vec<u8>> = list.map(|one| entry(&one)).collect::<Result<_, _>>()?;
+    Ok((written.concat(), written.len() as u32))
+}
+
+/// A message that the crate read, written anew: its lists of records and entries are composed of entries written one by one.
+fn recomposed(message: Message<'_>) -> Result<Vec<u8>, Refusal> {
+    match message {
+        Message::Packet(link, mut packet) => {
+            let Body::Records(records) = packet.body else {
+                return write::packet(link, &packet);
+            };
+            let (bytes, count) = entries(records, write::record)?;
+            packet.body = Body::Records(Records::new(&bytes, count)?);
+            write::packet(link, &packet)
+        }
+        Message::KnownMet(mut met) => {
+            let (bytes, count) = entries(met.entries, write::file_entry)?;
+            met.entries = FileEntries::new(&bytes, count)?;
+            write::known_met(&met)
+        }
+        Message::ServerMet(mut met) => {
+            let (bytes, count) = entries(met.entries, write::server_entry)?;
+            met.entries = ServerEntries::new(&bytes, count)?;
+            write::server_met(&met)
+        }
+        other => write::message(&other),
+    }
+}
+
+/// The crate gathers what its values point at: what it reads it writes as it was, whole and recomposed.
+#[test]
+fn the_crate_writes_what_it_reads() {
+    let mut comparison = Comparison::new(57_000_000);
+    for (kind, number) in Kind::ALL.into_iter().zip(0..) {
+        let mut accepted = 0;
+        let mut check = |bytes: &[u8]| {
+            if let Ok(message) = ed2k::read(kind, bytes) {
+                assert_eq!(write::message(&message).as_deref(), Ok(bytes));
+                assert_eq!(recomposed(message).as_deref(), Ok(bytes));
+                accepted += 1;
+            }
+        };
+        comparison.rounds(ROUNDS / 8, |_, random| check(&input(random, number)));
+        comparison.rounds(LONG_ROUNDS / 4, |_, random| {
+            let length = long_length(random, number);
+            check(&long_input(random, number, length));
+        });
+        println!("{kind}: {accepted} accepted and written back");
+        assert!(accepted > ROUNDS / 50);
+    }
 }
