@@ -1,4 +1,5 @@
-/* A tour of the library: a packet is read, a query is composed and evaluated on a tag list, and arrived bytes are marked. */
+/* A tour of the library: a packet is read, a query is composed and evaluated on a tag list, an offer of two files is composed and read
+ * back, and arrived bytes are marked. */
 #include <inttypes.h>
 #include <stdio.h>
 #include <string.h>
@@ -33,34 +34,40 @@ static size_t compose_query(uint8_t *query, size_t room)
     return length;
 }
 
+/* The tags of a name and a size, one behind the other in `tags`; how many bytes they have. */
+static size_t compose_two_tags(const char *name, uint32_t size, uint8_t *tags, size_t room)
+{
+    uint64_t name_length = 0, size_length = 0;
+    const uint8_t *text = (const uint8_t *)name;
+    uint8_t number = ed2k_write_text_tag(TEXT("\x01"), text, strlen(name), tags, room, &name_length);
+    if (number == 0)
+        number = ed2k_write_dword_tag(TEXT("\x02"), size, tags + name_length, room - name_length, &size_length);
+    return number == 0 ? name_length + size_length : 0;
+}
+
 /* A tag list of a name and a size, in `list`; how many bytes it has. */
 static size_t compose_tags(uint8_t *list, size_t room)
 {
     uint8_t tags[128];
-    uint64_t name_length = 0, size_length = 0, length = 0;
-    uint8_t number = ed2k_write_text_tag(TEXT("\x01"), TEXT("a shoe last"), tags, sizeof tags, &name_length);
-    if (number == 0)
-        number = ed2k_write_dword_tag(TEXT("\x02"), 4096, tags + name_length, sizeof tags - name_length, &size_length);
-    if (number == 0)
-        number = ed2k_write_tag_list(tags, name_length + size_length, 0, 2, list, room, &length);
+    uint64_t length = 0;
+    size_t tags_length = compose_two_tags("a shoe last", 4096, tags, sizeof tags);
+    uint8_t number = ed2k_write_tag_list(tags, tags_length, 0, 2, list, room, &length);
     printf("tag list: number %u, %" PRIu64 " bytes\n", number, length);
     return length;
 }
 
-static void print_tags(const uint8_t *list, size_t length)
+/* The tags of a list that was read, of which `place` holds the offset, the end and the count. */
+static void print_tags(const uint8_t *bytes, size_t length, const uint64_t *place)
 {
-    uint64_t fields[ED2K_FIELDS];
-    if (ed2k_read(ED2K_LONE_TAGS, list, length, fields, ED2K_FIELDS) != 0)
-        return;
-    size_t at = fields[0];
-    for (uint64_t left = fields[2]; left > 0; left--) {
+    size_t at = place[0];
+    for (uint64_t left = place[2]; left > 0; left--) {
         uint64_t tag[ED2K_FIELDS];
-        if (ed2k_read_tag(list, length, at, tag, ED2K_FIELDS) != 0)
+        if (ed2k_read_tag(bytes, length, at, tag, ED2K_FIELDS) != 0)
             return;
         if (tag[1] == 2)
-            printf("  tag %02X: \"%.*s\"\n", list[tag[2]], (int)tag[5], (const char *)list + tag[4]);
+            printf("  tag %02X: \"%.*s\"\n", bytes[tag[2]], (int)tag[5], (const char *)bytes + tag[4]);
         if (tag[1] == 3)
-            printf("  tag %02X: %" PRIu64 "\n", list[tag[2]], tag[4]);
+            printf("  tag %02X: %" PRIu64 "\n", bytes[tag[2]], tag[4]);
         at = tag[0];
     }
 }
@@ -70,10 +77,58 @@ static void search(void)
     uint8_t query[128], list[128];
     size_t query_length = compose_query(query, sizeof query);
     size_t list_length = compose_tags(list, sizeof list);
-    print_tags(list, list_length);
+    uint64_t fields[ED2K_FIELDS];
+    if (ed2k_read(ED2K_LONE_TAGS, list, list_length, fields, ED2K_FIELDS) == 0)
+        print_tags(list, list_length, fields);
     uint8_t truth = 0;
     uint8_t number = ed2k_truth(query, query_length, list, list_length, &truth);
     printf("query on tag list: number %u, truth %u\n", number, truth);
+}
+
+/* A file of this name and size, in `record`; how many bytes it has. The record's hash and tags are lent in one run of bytes. */
+static size_t compose_record(uint8_t first, const char *name, uint32_t size, uint8_t *record, size_t room)
+{
+    uint8_t bytes[16 + 128] = {first};
+    uint64_t length = 0;
+    size_t tags_length = compose_two_tags(name, size, bytes + 16, sizeof bytes - 16);
+    uint8_t number = ed2k_write_record(bytes, 16 + tags_length, 0, 0, 4662, 16, 2, record, room, &length);
+    printf("record: number %u, %" PRIu64 " bytes\n", number, length);
+    return length;
+}
+
+/* An offer of two files (server link, 15), in `packet`; how many bytes it has. */
+static size_t compose_offer(uint8_t *packet, size_t room)
+{
+    uint8_t records[256];
+    size_t first = compose_record(0xaa, "left last.stl", 5000, records, sizeof records);
+    size_t both = first + compose_record(0xbb, "right last.stl", 6000, records + first, sizeof records - first);
+    const uint64_t fields[ED2K_FIELDS] = {0xe3, 0x15, ED2K_BODY_RECORDS, 0, both, 2};
+    uint64_t length = 0;
+    uint8_t number = ed2k_write(ED2K_SERVER_LINK, records, both, fields, ED2K_FIELDS, packet, room, &length);
+    printf("offer: number %u, %" PRIu64 " bytes\n", number, length);
+    const uint64_t three[ED2K_FIELDS] = {0xe3, 0x15, ED2K_BODY_RECORDS, 0, both, 3};
+    uint64_t none = 0;
+    number = ed2k_write(ED2K_SERVER_LINK, records, both, three, ED2K_FIELDS, packet, room, &none);
+    printf("offer of three: number %u, %" PRIu64 " bytes\n", number, none);
+    return length;
+}
+
+static void offer(void)
+{
+    uint8_t packet[256];
+    uint64_t fields[ED2K_FIELDS];
+    size_t length = compose_offer(packet, sizeof packet);
+    if (ed2k_read(ED2K_SERVER_LINK, packet, length, fields, ED2K_FIELDS) != 0)
+        return;
+    size_t at = fields[3];
+    for (uint64_t left = fields[5]; left > 0; left--) {
+        uint64_t record[ED2K_FIELDS];
+        if (ed2k_read_record(packet, length, at, record, ED2K_FIELDS) != 0)
+            return;
+        printf("file %02X.., port %" PRIu64 "\n", packet[record[1]], record[3]);
+        print_tags(packet, length, record + 4);
+        at = record[0];
+    }
 }
 
 static void mark(void)
@@ -94,6 +149,7 @@ int main(void)
 {
     read_status();
     search();
+    offer();
     mark();
     return 0;
 }

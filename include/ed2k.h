@@ -176,6 +176,36 @@ uint8_t ed2k_write_tag_list(const uint8_t *bytes, size_t length, size_t at, uint
 /* The lone query that lies at the offset `at` of `bytes`. */
 uint8_t ed2k_write_query(const uint8_t *bytes, size_t length, size_t at, uint8_t *output, size_t room, uint64_t *written);
 
+/*
+ * A whole packet, file, query or tag list from its numbers, which are those that ed2k_read hands out for its kind; places are offsets in
+ * `bytes`. What lies at a place is read again, and the ends of lists and queries and the depths of queries are not looked at; nor is
+ * the size of a part.met, which its tags tell. In this order:
+ *   4   the kind is none of those above
+ *   5   the first 16 numbers, or fewer where so many are not lent, are those of no message of the kind: a number above what its field
+ *       holds (32 bits for the count of a list, 16 for that of status bits), one that the message does not use and that is not 0, an
+ *       unlisted shape, form or hash lists, a part.met that opens with neither E0 nor E1, an E0 without ED2K_HASHES_COUNTED or an E1
+ *       with it
+ *   4   the link lists the opcode with another shape
+ *   ..  a place does not hold what it should: the number of its own reading, the first at fault in the order of the bytes written
+ *   6   a text above 65,535 bytes, more than 255 addresses, more than 65,535 hashes behind a count
+ *   5   the bytes would be another message: a status request of the other form, or hash lists of a part.met that is read otherwise
+ *   ..  the number that ed2k_read has for the bytes
+ *   10
+ */
+uint8_t ed2k_write(uint8_t kind, const uint8_t *bytes, size_t length, const uint64_t *fields, size_t field_count, uint8_t *output,
+                   size_t room, uint64_t *written);
+
+/* Single entries, to compose a list of them. Places are offsets in `bytes`; one that does not hold what it should has the number of its
+ * own reading, the first in the order of the bytes written. An entry by itself has no byte ceiling; 10 comes last. */
+uint8_t ed2k_write_address(uint32_t ip, uint16_t port, uint8_t *output, size_t room, uint64_t *written);
+uint8_t ed2k_write_record(const uint8_t *bytes, size_t length, size_t hash, uint32_t client, uint16_t port, size_t tags_at,
+                          uint32_t tag_count, uint8_t *output, size_t room, uint64_t *written);
+/* 6 for more than 65,535 part hashes, behind the places. */
+uint8_t ed2k_write_file_entry(const uint8_t *bytes, size_t length, uint32_t date, size_t hash, size_t hashes_at, uint32_t hash_count,
+                              size_t tags_at, uint32_t tag_count, uint8_t *output, size_t room, uint64_t *written);
+uint8_t ed2k_write_server_entry(const uint8_t *bytes, size_t length, uint32_t ip, uint16_t port, size_t tags_at, uint32_t tag_count,
+                                uint8_t *output, size_t room, uint64_t *written);
+
 #ifdef __cplusplus
 }
 #endif

@@ -5,6 +5,7 @@ use std::net::Ipv4Addr;
 
 use crate::list::{Entry, List, Sealed};
 use crate::raw::Item;
+use crate::refusal::Refusal;
 use crate::values::{Values, array_at};
 
 /// A HASH: 16 bytes, an MD4 digest. It prints as 32 hexadecimal digits.
@@ -126,33 +127,33 @@ pub type ServerEntries<'a> = List<'a, ServerEntry<'a>>;
 impl Sealed for Hash {}
 
 impl<'a> Entry<'a> for Hash {
-    fn read_at(bytes: &'a [u8], at: usize) -> (Hash, usize) {
-        (Hash(array_at(bytes, at)), at + 16)
+    fn read_at(bytes: &'a [u8], at: usize) -> Result<(Hash, usize), Refusal> {
+        array_at(bytes, at).map(|(hash, next)| (Hash(hash), next))
     }
 }
 
 impl Sealed for BlockHash {}
 
 impl<'a> Entry<'a> for BlockHash {
-    fn read_at(bytes: &'a [u8], at: usize) -> (BlockHash, usize) {
-        (BlockHash(array_at(bytes, at)), at + 8)
+    fn read_at(bytes: &'a [u8], at: usize) -> Result<(BlockHash, usize), Refusal> {
+        array_at(bytes, at).map(|(hash, next)| (BlockHash(hash), next))
     }
 }
 
 impl Sealed for Address {}
 
 impl<'a> Entry<'a> for Address {
-    fn read_at(bytes: &'a [u8], at: usize) -> (Address, usize) {
-        let (mut values, next) = Values::of(Item::Address, bytes, at);
-        (values.address(), next)
+    fn read_at(bytes: &'a [u8], at: usize) -> Result<(Address, usize), Refusal> {
+        let (mut values, next) = Values::of(Item::Address, bytes, at)?;
+        Ok((values.address(), next))
     }
 }
 
 impl Sealed for Tag<'_> {}
 
 impl<'a> Entry<'a> for Tag<'a> {
-    fn read_at(bytes: &'a [u8], at: usize) -> (Tag<'a>, usize) {
-        let (mut values, next) = Values::of(Item::Tag, bytes, at);
+    fn read_at(bytes: &'a [u8], at: usize) -> Result<(Tag<'a>, usize), Refusal> {
+        let (mut values, next) = Values::of(Item::Tag, bytes, at)?;
         let code = values.byte();
         let name = values.text();
         let value = match code {
@@ -161,40 +162,40 @@ impl<'a> Entry<'a> for Tag<'a> {
             3 => TagValue::Dword(values.dword()),
             _ => TagValue::Float(values.dword()),
         };
-        (Tag { name, value }, next)
+        Ok((Tag { name, value }, next))
     }
 }
 
 impl Sealed for Record<'_> {}
 
 impl<'a> Entry<'a> for Record<'a> {
-    fn read_at(bytes: &'a [u8], at: usize) -> (Record<'a>, usize) {
-        let (mut values, next) = Values::of(Item::Record, bytes, at);
-        (values.record(), next)
+    fn read_at(bytes: &'a [u8], at: usize) -> Result<(Record<'a>, usize), Refusal> {
+        let (mut values, next) = Values::of(Item::Record, bytes, at)?;
+        Ok((values.record(), next))
     }
 }
 
 impl Sealed for FileEntry<'_> {}
 
 impl<'a> Entry<'a> for FileEntry<'a> {
-    fn read_at(bytes: &'a [u8], at: usize) -> (FileEntry<'a>, usize) {
-        let (mut values, next) = Values::of(Item::FileEntry, bytes, at);
+    fn read_at(bytes: &'a [u8], at: usize) -> Result<(FileEntry<'a>, usize), Refusal> {
+        let (mut values, next) = Values::of(Item::FileEntry, bytes, at)?;
         let entry = FileEntry {
             date: values.dword(),
             hash: values.hash(),
             part_hashes: values.list(),
             tags: values.list(),
         };
-        (entry, next)
+        Ok((entry, next))
     }
 }
 
 impl Sealed for ServerEntry<'_> {}
 
 impl<'a> Entry<'a> for ServerEntry<'a> {
-    fn read_at(bytes: &'a [u8], at: usize) -> (ServerEntry<'a>, usize) {
-        let (mut values, next) = Values::of(Item::ServerEntry, bytes, at);
+    fn read_at(bytes: &'a [u8], at: usize) -> Result<(ServerEntry<'a>, usize), Refusal> {
+        let (mut values, next) = Values::of(Item::ServerEntry, bytes, at)?;
         let entry = ServerEntry { address: values.address(), tags: values.list() };
-        (entry, next)
+        Ok((entry, next))
     }
 }

@@ -9,7 +9,7 @@
 //! - [`GapRecord`]: what is missing of a file, and marking what arrived; [`put_gaps`];
 //! - [`save`]: the new file, unless the stored one is not the one that was opened;
 //! - [`truth`]: whether a query holds on a tag list;
-//! - [`mod@write`]: writers of queries and tag lists.
+//! - [`mod@write`]: writers of packets, met files, queries and tag lists.
 //!
 //! ```
 //! use ed2k::{Kind, Message, Refusal};
@@ -36,6 +36,7 @@ mod query;
 mod raw;
 mod refusal;
 mod saving;
+mod source;
 mod values;
 pub mod write;
 

@@ -4,6 +4,7 @@ use crate::items::{BlockHashes, FileEntries, Hash, Hashes, ServerEntries, Tags};
 use crate::kind::Kind;
 use crate::raw;
 use crate::refusal::Refusal;
+use crate::source::Source;
 use crate::values::Values;
 
 /// How many bytes a part of a file has; the last one may have fewer.
@@ -37,7 +38,7 @@ pub struct ServerMet<'a> {
 pub struct PartMet<'a> {
     /// The opening byte: E0 or E1.
     pub opening: u8,
-    /// How many bytes the whole file has.
+    /// How many bytes the whole file has. A writer does not look at it: the tags tell the size.
     pub size: u32,
     /// Seconds since the beginning of 1970.
     pub date: u32,
@@ -49,6 +50,54 @@ pub struct PartMet<'a> {
     pub part_hashes: Option<Hashes<'a>>,
     /// The hashes of its blocks. Only a file that opens with E1 may have them.
     pub block_hashes: Option<BlockHashes<'a>>,
+}
+
+impl KnownMet<'_> {
+    /// What the writing call takes.
+    pub(crate) fn source(&self) -> Source {
+        let mut source = Source::default();
+        source.number(self.opening);
+        source.list(&self.entries);
+        source
+    }
+}
+
+impl ServerMet<'_> {
+    /// What the writing call takes.
+    pub(crate) fn source(&self) -> Source {
+        let mut source = Source::default();
+        source.number(self.opening);
+        source.list(&self.entries);
+        source.text(self.tail);
+        source
+    }
+}
+
+impl PartMet<'_> {
+    /// Which hash lists it has, by the numbers of ED2K_HASHES_.. in ed2k.h. An E0 that has not just the list of part hashes
+    /// gets the number that an E1 with its lists has, and is refused for it.
+    fn hash_lists(&self) -> u8 {
+        match (self.opening, &self.part_hashes, &self.block_hashes) {
+            (0xE0, Some(_), None) => 4,
+            (_, None, None) => 0,
+            (_, Some(_), None) => 1,
+            (_, None, Some(_)) => 2,
+            (_, Some(_), Some(_)) => 3,
+        }
+    }
+
+    /// What the writing call takes.
+    pub(crate) fn source(&self) -> Source {
+        let mut source = Source::default();
+        source.number(self.opening);
+        source.numbers([self.size, self.date]);
+        source.hash(self.hash);
+        source.list(&self.tags);
+        source.number(self.hash_lists());
+        source.list_if_any(self.part_hashes.as_ref());
+        source.list_if_any(self.block_hashes.as_ref());
+        source
+    }
 }
 
 /// Reads a known.met.

@@ -4,6 +4,7 @@ use crate::items::{Address, Addresses, Hash, Hashes, Record, Records, Tags};
 use crate::kind::Link;
 use crate::query::Query;
 use crate::refusal::Refusal;
+use crate::source::Source;
 use crate::values::Values;
 
 /// A packet. [`opcode_name`](crate::opcode_name) has the published names of opcodes.
@@ -15,6 +16,26 @@ pub struct Packet<'a> {
     pub opcode: u8,
     /// What it carries.
     pub body: Body<'a>,
+}
+
+impl<'a> Packet<'a> {
+    /// A packet that opens with E3, as all do that the links have so far.
+    pub fn new(opcode: u8, body: Body<'a>) -> Packet<'a> {
+        Packet { opening: 0xE3, opcode, body }
+    }
+
+    /// What the writing call takes. Bits that belong to no part would not be written: they are left over.
+    pub(crate) fn source(&self) -> Result<Source, Refusal> {
+        let mut source = Source::default();
+        source.numbers([self.opening, self.opcode]);
+        if let Body::FileStatus { status, .. } = &self.body
+            && status.bits.len() > status.byte_count()
+        {
+            return Err(Refusal::Rest);
+        }
+        give(&self.body, &mut source);
+        Ok(source)
+    }
 }
 
 /// What a packet carries. Which case it is follows from link and opcode, and for two of the UDP opcodes from the bytes.
@@ -155,6 +176,11 @@ pub struct PartStatus<'a> {
 }
 
 impl PartStatus<'_> {
+    /// How many bytes its parts have bits in.
+    fn byte_count(&self) -> usize {
+        usize::from(self.parts).div_ceil(8)
+    }
+
     /// Whether the client has this part, counted from 0. Not for a part that the file does not have.
     pub fn has(&self, part: u16) -> bool {
         part < self.parts && self.bits[usize::from(part / 8)] >> (part % 8) & 1 == 1
@@ -211,6 +237,115 @@ fn body(mut v: Values<'_>) -> Body<'_> {
 }
 
 fn part_status(mut values: Values<'_>) -> PartStatus<'_> {
-    let parts = values.word();
-    PartStatus { parts, bits: values.run(usize::from(parts).div_ceil(8)) }
+    let mut status = PartStatus { parts: values.word(), bits: &[] };
+    status.bits = values.run(status.byte_count());
+    status
+}
+
+/// The other way round: the number of the shape, and the values.
+fn give(body: &Body<'_>, s: &mut Source) {
+    let shape = |s: &mut Source, number: u8| s.number(number);
+    match body {
+        Body::Nothing => shape(s, 0),
+        Body::Query(query) => {
+            shape(s, 1);
+            s.query(query);
+        }
+        Body::Hash(hash) => {
+            shape(s, 2);
+            s.hash(*hash);
+        }
+        Body::Dword(number) => s.numbers([3, *number]),
+        Body::TwoDwords(one, two) => s.numbers([4, *one, *two]),
+        Body::Text(text) => {
+            shape(s, 5);
+            s.text(text);
+        }
+        Body::TwoTexts(one, two) => {
+            shape(s, 6);
+            s.text(one);
+            s.text(two);
+        }
+        Body::Address(address) => {
+            shape(s, 7);
+            s.address(*address);
+        }
+        Body::Addresses(addresses) => {
+            shape(s, 8);
+            s.list(addresses);
+        }
+        Body::HashAddresses { hash, addresses } => {
+            shape(s, 9);
+            s.hash(*hash);
+            s.list(addresses);
+        }
+        Body::AddressDword { address, number } => {
+            shape(s, 10);
+            s.address(*address);
+            s.number(*number);
+        }
+        Body::HashAddressTags { hash, address, tags } => {
+            shape(s, 11);
+            s.hash(*hash);
+            s.address(*address);
+            s.list(tags);
+        }
+        Body::Record(record) => {
+            shape(s, 12);
+            s.record(record);
+        }
+        Body::Records(records) => {
+            shape(s, 13);
+            s.list(records);
+        }
+        Body::RecordsFlag { records, flag } => {
+            shape(s, 14);
+            s.list(records);
+            s.number(*flag);
+        }
+        Body::RecordAddress { record, address } => {
+            shape(s, 15);
+            s.record(record);
+            s.address(*address);
+        }
+        Body::Hello { record, address } => {
+            shape(s, 16);
+            s.record(record);
+            s.address(*address);
+        }
+        Body::HashText { hash, text } => {
+            shape(s, 17);
+            s.hash(*hash);
+            s.text(text);
+        }
+        Body::Hashset { hash, hashes } => {
+            shape(s, 18);
+            s.hash(*hash);
+            s.list(hashes);
+        }
+        Body::SendingPart { hash, start, end, data } => {
+            shape(s, 19);
+            s.hash(*hash);
+            s.numbers([*start, *end]);
+            s.text(data);
+        }
+        Body::RequestParts { hash, starts, ends } => {
+            shape(s, 20);
+            s.hash(*hash);
+            s.numbers(starts.iter().chain(ends).copied());
+        }
+        Body::FileStatus { hash, status } => {
+            shape(s, 21);
+            s.hash(*hash);
+            s.number(status.parts);
+            s.run(status.bits);
+        }
+        Body::StatusRequest { extended, number } => s.numbers([22, u32::from(*extended), *number]),
+        Body::Status([one, two, three]) => s.numbers([23, *one, *two, *three]),
+        Body::ExtendedStatus { bytes, numbers } => {
+            shape(s, 24);
+            s.numbers(*bytes);
+            s.numbers(*numbers);
+        }
+    }
 }

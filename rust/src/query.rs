@@ -124,7 +124,8 @@ impl<'a> Iterator for Nodes<'a> {
 
     fn next(&mut self) -> Option<Step<'a>> {
         let level = self.pending.pop()?;
-        let (values, next) = Values::of(Item::QueryNode, self.bytes, self.at);
+        let read = Values::of(Item::QueryNode, self.bytes, self.at);
+        let (values, next) = read.expect("a node of an accepted query is accepted");
         let node = node(values);
         if let Node::Operator(_) = node {
             self.pending.extend([level + 1, level + 1]);

@@ -54,6 +54,12 @@ unsafe extern "C" {
     fn ed2k_write_hash_tag(name: *const u8, name_length: usize, hash: *const u8, hash_length: usize, output: *mut u8, room: usize, written: *mut u64) -> u8;
     fn ed2k_write_tag_list(bytes: *const u8, length: usize, at: usize, count: u32, output: *mut u8, room: usize, written: *mut u64) -> u8;
     fn ed2k_write_query(bytes: *const u8, length: usize, at: usize, output: *mut u8, room: usize, written: *mut u64) -> u8;
+
+    fn ed2k_write(kind: u8, bytes: *const u8, length: usize, fields: *const u64, field_count: usize, output: *mut u8, room: usize, written: *mut u64) -> u8;
+    fn ed2k_write_address(ip: u32, port: u16, output: *mut u8, room: usize, written: *mut u64) -> u8;
+    fn ed2k_write_record(bytes: *const u8, length: usize, hash: usize, client: u32, port: u16, tags_at: usize, tag_count: u32, output: *mut u8, room: usize, written: *mut u64) -> u8;
+    fn ed2k_write_file_entry(bytes: *const u8, length: usize, date: u32, hash: usize, hashes_at: usize, hash_count: u32, tags_at: usize, tag_count: u32, output: *mut u8, room: usize, written: *mut u64) -> u8;
+    fn ed2k_write_server_entry(bytes: *const u8, length: usize, ip: u32, port: u16, tags_at: usize, tag_count: u32, output: *mut u8, room: usize, written: *mut u64) -> u8;
 }
 
 /// The items that are read one by one.
@@ -80,6 +86,13 @@ impl Item {
     }
 }
 
+/// Where a list lies: the place of its first entry, and how many it has.
+#[derive(Clone, Copy)]
+pub(crate) struct Listed {
+    pub(crate) at: usize,
+    pub(crate) count: u32,
+}
+
 /// What a call answers with, by its number.
 fn answer<T>(number: u8, accepted: T) -> Result<T, Refusal> {
     match Refusal::from_number(number) {
@@ -98,9 +111,14 @@ fn number_of<T: Default>(call: impl FnOnce(&mut T) -> u8) -> Result<T, Refusal> 
     answer(number, value)
 }
 
-/// Runs a call that writes and says how many bytes. The archive is for machines on which a usize has 64 bits.
-fn length_of(call: impl FnOnce(&mut u64) -> u8) -> Result<usize, Refusal> {
-    number_of(call).map(|written| written as usize)
+/// A call that writes into the output, given what comes before the output: how many bytes were written. The archive is for machines
+/// on which a usize has 64 bits.
+macro_rules! written {
+    ($call:ident($($before:expr),*) -> $output:ident) => {
+        // SAFETY: lent slices, and a reference to the number that is left behind; places and other numbers may be any.
+        number_of(|written| unsafe { $call($($before,)* $output.as_mut_ptr(), $output.len(), written) })
+            .map(|written: u64| written as usize)
+    };
 }
 
 pub(crate) fn read(kind: u8, bytes: &[u8]) -> Result<Fields, Refusal> {
@@ -151,35 +169,11 @@ pub(crate) fn mark(gaps: &mut GapNumbers, start: u64, end: u64) -> Result<u64, R
 }
 
 pub(crate) fn put_gaps(file: &[u8], gaps: &GapNumbers, output: &mut [u8]) -> Result<usize, Refusal> {
-    // SAFETY: lent slices, and a reference to the number that is left behind.
-    length_of(|written| unsafe {
-        ed2k_put_gaps(
-            file.as_ptr(),
-            file.len(),
-            gaps.as_ptr(),
-            GAP_NUMBERS,
-            output.as_mut_ptr(),
-            output.len(),
-            written,
-        )
-    })
+    written!(ed2k_put_gaps(file.as_ptr(), file.len(), gaps.as_ptr(), GAP_NUMBERS) -> output)
 }
 
 pub(crate) fn save(stored: &[u8], opened: &[u8], saved: &[u8], output: &mut [u8]) -> Result<usize, Refusal> {
-    // SAFETY: lent slices, and a reference to the number that is left behind.
-    length_of(|written| unsafe {
-        ed2k_save(
-            stored.as_ptr(),
-            stored.len(),
-            opened.as_ptr(),
-            opened.len(),
-            saved.as_ptr(),
-            saved.len(),
-            output.as_mut_ptr(),
-            output.len(),
-            written,
-        )
-    })
+    written!(ed2k_save(stored.as_ptr(), stored.len(), opened.as_ptr(), opened.len(), saved.as_ptr(), saved.len()) -> output)
 }
 
 pub(crate) fn truth(query: &[u8], tags: &[u8]) -> Result<u8, Refusal> {
@@ -188,32 +182,15 @@ pub(crate) fn truth(query: &[u8], tags: &[u8]) -> Result<u8, Refusal> {
 }
 
 pub(crate) fn write_keyword(text: &[u8], output: &mut [u8]) -> Result<usize, Refusal> {
-    // SAFETY: lent slices, and a reference to the number that is left behind.
-    length_of(|written| unsafe {
-        ed2k_write_keyword(text.as_ptr(), text.len(), output.as_mut_ptr(), output.len(), written)
-    })
+    written!(ed2k_write_keyword(text.as_ptr(), text.len()) -> output)
 }
 
 pub(crate) fn write_field(text: &[u8], name: &[u8], output: &mut [u8]) -> Result<usize, Refusal> {
-    // SAFETY: lent slices, and a reference to the number that is left behind.
-    length_of(|written| unsafe {
-        ed2k_write_field(
-            text.as_ptr(),
-            text.len(),
-            name.as_ptr(),
-            name.len(),
-            output.as_mut_ptr(),
-            output.len(),
-            written,
-        )
-    })
+    written!(ed2k_write_field(text.as_ptr(), text.len(), name.as_ptr(), name.len()) -> output)
 }
 
 pub(crate) fn write_limit(number: u32, bound: u8, name: &[u8], output: &mut [u8]) -> Result<usize, Refusal> {
-    // SAFETY: lent slices, and a reference to the number that is left behind; `bound` may be any number.
-    length_of(|written| unsafe {
-        ed2k_write_limit(number, bound, name.as_ptr(), name.len(), output.as_mut_ptr(), output.len(), written)
-    })
+    written!(ed2k_write_limit(number, bound, name.as_ptr(), name.len()) -> output)
 }
 
 pub(crate) fn write_join(
@@ -222,63 +199,23 @@ pub(crate) fn write_join(
     right: &[u8],
     output: &mut [u8],
 ) -> Result<usize, Refusal> {
-    // SAFETY: lent slices, and a reference to the number that is left behind; `operation` may be any number.
-    length_of(|written| unsafe {
-        ed2k_write_join(
-            operation,
-            left.as_ptr(),
-            left.len(),
-            right.as_ptr(),
-            right.len(),
-            output.as_mut_ptr(),
-            output.len(),
-            written,
-        )
-    })
+    written!(ed2k_write_join(operation, left.as_ptr(), left.len(), right.as_ptr(), right.len()) -> output)
 }
 
 pub(crate) fn write_text_tag(name: &[u8], text: &[u8], output: &mut [u8]) -> Result<usize, Refusal> {
-    // SAFETY: lent slices, and a reference to the number that is left behind.
-    length_of(|written| unsafe {
-        ed2k_write_text_tag(
-            name.as_ptr(),
-            name.len(),
-            text.as_ptr(),
-            text.len(),
-            output.as_mut_ptr(),
-            output.len(),
-            written,
-        )
-    })
+    written!(ed2k_write_text_tag(name.as_ptr(), name.len(), text.as_ptr(), text.len()) -> output)
 }
 
 pub(crate) fn write_dword_tag(name: &[u8], number: u32, output: &mut [u8]) -> Result<usize, Refusal> {
-    // SAFETY: lent slices, and a reference to the number that is left behind.
-    length_of(|written| unsafe {
-        ed2k_write_dword_tag(name.as_ptr(), name.len(), number, output.as_mut_ptr(), output.len(), written)
-    })
+    written!(ed2k_write_dword_tag(name.as_ptr(), name.len(), number) -> output)
 }
 
 pub(crate) fn write_float_tag(name: &[u8], bits: u32, output: &mut [u8]) -> Result<usize, Refusal> {
-    // SAFETY: lent slices, and a reference to the number that is left behind.
-    length_of(|written| unsafe {
-        ed2k_write_float_tag(name.as_ptr(), name.len(), bits, output.as_mut_ptr(), output.len(), written)
-    })
+    written!(ed2k_write_float_tag(name.as_ptr(), name.len(), bits) -> output)
 }
 
 pub(crate) fn write_hash_tag(name: &[u8], hash: &[u8], output: &mut [u8]) -> Result<usize, Refusal> {
-    // SAFETY: lent slices, and a reference to the number that is left behind.
-    length_of(|written| unsafe {
-        ed2k_write_hash_tag(
-            name.as_ptr(),
-            name.len(),
-            hash.as_ptr(),
-            hash.len(),
-            output.as_mut_ptr(),
-            output.len(),
-            written,
-        )
-    })
+    written!(ed2k_write_hash_tag(name.as_ptr(), name.len(), hash.as_ptr(), hash.len()) -> output)
 }
 
 pub(crate) fn write_tag_list(
@@ -287,23 +224,49 @@ pub(crate) fn write_tag_list(
     count: u32,
     output: &mut [u8],
 ) -> Result<usize, Refusal> {
-    // SAFETY: lent slices, and a reference to the number that is left behind; `at` may be any number.
-    length_of(|written| unsafe {
-        ed2k_write_tag_list(
-            bytes.as_ptr(),
-            bytes.len(),
-            at,
-            count,
-            output.as_mut_ptr(),
-            output.len(),
-            written,
-        )
-    })
+    written!(ed2k_write_tag_list(bytes.as_ptr(), bytes.len(), at, count) -> output)
 }
 
 pub(crate) fn write_query(bytes: &[u8], at: usize, output: &mut [u8]) -> Result<usize, Refusal> {
-    // SAFETY: lent slices, and a reference to the number that is left behind; `at` may be any number.
-    length_of(|written| unsafe {
-        ed2k_write_query(bytes.as_ptr(), bytes.len(), at, output.as_mut_ptr(), output.len(), written)
-    })
+    written!(ed2k_write_query(bytes.as_ptr(), bytes.len(), at) -> output)
+}
+
+pub(crate) fn write(kind: u8, bytes: &[u8], fields: &Fields, output: &mut [u8]) -> Result<usize, Refusal> {
+    written!(ed2k_write(kind, bytes.as_ptr(), bytes.len(), fields.as_ptr(), FIELDS) -> output)
+}
+
+pub(crate) fn write_address(ip: u32, port: u16, output: &mut [u8]) -> Result<usize, Refusal> {
+    written!(ed2k_write_address(ip, port) -> output)
+}
+
+pub(crate) fn write_record(
+    bytes: &[u8],
+    hash: usize,
+    client: u32,
+    port: u16,
+    tags: Listed,
+    output: &mut [u8],
+) -> Result<usize, Refusal> {
+    written!(ed2k_write_record(bytes.as_ptr(), bytes.len(), hash, client, port, tags.at, tags.count) -> output)
+}
+
+pub(crate) fn write_file_entry(
+    bytes: &[u8],
+    date: u32,
+    hash: usize,
+    hashes: Listed,
+    tags: Listed,
+    output: &mut [u8],
+) -> Result<usize, Refusal> {
+    written!(ed2k_write_file_entry(bytes.as_ptr(), bytes.len(), date, hash, hashes.at, hashes.count, tags.at, tags.count) -> output)
+}
+
+pub(crate) fn write_server_entry(
+    bytes: &[u8],
+    ip: u32,
+    port: u16,
+    tags: Listed,
+    output: &mut [u8],
+) -> Result<usize, Refusal> {
+    written!(ed2k_write_server_entry(bytes.as_ptr(), bytes.len(), ip, port, tags.at, tags.count) -> output)
 }

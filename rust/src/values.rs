@@ -25,14 +25,11 @@ impl<'a> Values<'a> {
         raw::read(kind as u8, bytes).map(|fields| Values::new(bytes, fields))
     }
 
-    /// An item of bytes that were accepted as a whole, and the place behind it.
-    ///
-    /// Accepted bytes have every item that their counts say, and they cannot change while they are lent.
-    pub(crate) fn of(item: Item, bytes: &'a [u8], at: usize) -> (Values<'a>, usize) {
-        let fields = raw::read_item(item, bytes, at).expect("an item of accepted bytes is accepted");
-        let mut values = Values::new(bytes, fields);
+    /// The values of the item at this place, and the place behind it; or its refusal.
+    pub(crate) fn of(item: Item, bytes: &'a [u8], at: usize) -> Result<(Values<'a>, usize), Refusal> {
+        let mut values = Values::new(bytes, raw::read_item(item, bytes, at)?);
         let next = values.place();
-        (values, next)
+        Ok((values, next))
     }
 
     /// The bytes that the places are in.
@@ -80,7 +77,8 @@ impl<'a> Values<'a> {
     }
 
     pub(crate) fn hash(&mut self) -> Hash {
-        Hash(array_at(self.bytes, self.place()))
+        let (hash, _) = array_at(self.bytes, self.place()).expect("a hash that was read is there");
+        Hash(hash)
     }
 
     pub(crate) fn address(&mut self) -> Address {
@@ -96,9 +94,8 @@ impl<'a> Values<'a> {
     }
 }
 
-/// So many bytes from a place on.
-pub(crate) fn array_at<const N: usize>(bytes: &[u8], at: usize) -> [u8; N] {
-    let mut array = [0; N];
-    array.copy_from_slice(&bytes[at..at + N]);
-    array
+/// So many bytes from a place on, and the place behind them.
+pub(crate) fn array_at<const N: usize>(bytes: &[u8], at: usize) -> Result<([u8; N], usize), Refusal> {
+    let array = bytes.get(at..).and_then(|rest| rest.first_chunk()).ok_or(Refusal::Short)?;
+    Ok((*array, at + N))
 }

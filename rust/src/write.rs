@@ -1,5 +1,6 @@
-//! Writers of queries and of tag lists. Each has a form that gives the bytes, and one (`.._into`) that writes them at the
-//! front of a lent output and says how many; that one refuses as [`Refusal::Room`] last of all.
+//! Writers of packets, met files, queries and tag lists, and of what these are composed of. Each has a form that gives the
+//! bytes, and one (`.._into`) that writes them at the front of a lent output and says how many; that one refuses as
+//! [`Refusal::Room`] last of all.
 //!
 //! ```
 //! use ed2k::write::{self, TagList};
@@ -15,6 +16,38 @@
 //! assert!(ed2k::truth(&query, &tags)?);
 //! # Ok::<(), ed2k::Refusal>(())
 //! ```
+//!
+//! Lists that no reader gave are made of their entries, one behind the other, by [`List::new`](crate::List::new):
+//!
+//! ```
+//! use ed2k::write::{self, TagList};
+//! use ed2k::{Body, Hash, Link, Packet, Record, Records, Refusal};
+//!
+//! // An offer of two files.
+//! let file = |name: &[u8], hash| -> Result<Vec<u8>, Refusal> {
+//!     let tags = TagList::new().text(&[0x01], name)?.dword(&[0x02], 5000)?.finish()?;
+//!     write::record(&Record { hash, client: 0, port: 4662, tags: ed2k::read_tags(&tags)? })
+//! };
+//! let files = [file(b"left last.stl", Hash([7; 16]))?, file(b"right last.stl", Hash([8; 16]))?].concat();
+//! let offer = Packet::new(0x15, Body::Records(Records::new(&files, 2)?));
+//! let bytes = write::packet(Link::Server, &offer)?;
+//!
+//! let Body::Records(mut read) = ed2k::read_packet(Link::Server, &bytes)?.body else { panic!() };
+//! assert_eq!(read.next().unwrap().tags.file_name(), Some(&b"left last.stl"[..]));
+//! assert_eq!(read.next().unwrap().hash, Hash([8; 16]));
+//! # Ok::<(), Refusal>(())
+//! ```
+
+mod entries;
+mod messages;
+
+pub use entries::{
+    address, address_into, file_entry, file_entry_into, record, record_into, server_entry, server_entry_into,
+};
+pub use messages::{
+    known_met, known_met_into, message, packet, packet_into, part_met, part_met_into, server_met,
+    server_met_into,
+};
 
 use crate::items::Hash;
 use crate::kind::PACKET_CEILING;

@@ -10,7 +10,7 @@ mod plain;
 use comparison::Comparison;
 // Links the archive.
 use ed2k as _;
-use inputs::{Random, damaged};
+use inputs::{Random, damaged, input, long_input, long_length, message};
 use plain::{Calls, Item};
 
 /// Made inputs of each kind. Some of each hundred are damaged, some are random bytes, some are near a ceiling.
@@ -28,69 +28,15 @@ const NAMES: [&str; 8] = [
     "lone tags",
 ];
 
-fn message(random: &mut Random, kind: u8) -> Vec<u8> {
-    match kind {
-        plain::SERVER_LINK..=plain::UDP_LINK => inputs::packet(random, kind),
-        plain::KNOWN_MET => inputs::known_met(random),
-        plain::SERVER_MET => inputs::server_met(random),
-        plain::PART_MET => inputs::part_met(random),
-        plain::LONE_QUERY => lone_query(random),
-        _ => lone_tags(random),
-    }
-}
-
-fn lone_query(random: &mut Random) -> Vec<u8> {
-    let depth = random.pick(&[1, 2, 3, 5, 23, 24, 24, 25]);
-    let mut query = Vec::new();
-    inputs::query(random, depth, &mut query);
-    query
-}
-
-fn lone_tags(random: &mut Random) -> Vec<u8> {
-    let mut tags = Vec::new();
-    inputs::tag_list(random, &mut tags);
-    tags
-}
-
-/// A message, a damaged one, or bytes without a plan.
-fn input(random: &mut Random, kind: u8) -> Vec<u8> {
-    let bytes = message(random, kind);
-    match random.below(10) {
-        0..=3 => bytes,
-        4..=8 => damaged(random, kind, &bytes),
-        _ => {
-            let length = random.below(40);
-            random.bytes(length)
-        }
-    }
-}
-
-/// A message grown to about this length and then, perhaps, damaged.
-fn long_input(random: &mut Random, kind: u8, length: usize) -> Vec<u8> {
-    let bytes = inputs::grown(random, kind, length);
-    match random.below(3) {
-        0 => damaged(random, kind, &bytes),
-        _ => bytes,
-    }
-}
-
-/// A length close to the kind's ceiling.
-fn long_length(random: &mut Random, kind: u8) -> usize {
-    let met = (plain::KNOWN_MET..=plain::PART_MET).contains(&kind);
-    let ceiling = if met { plain::MET_CEILING } else { plain::PACKET_CEILING };
-    match random.below(4) {
-        0 => random.within(1_000, ceiling),
-        1 => ceiling,
-        2 => ceiling + 1,
-        _ => ceiling - random.below(20),
-    }
-}
-
-/// Reads the bytes as the kind, and then every item that the fields name, one level below another.
+/// Reads the bytes as the kind, writes them back, and reads every item that the fields name, one level below another.
 fn compare_reading(comparison: &mut Comparison, kind: u8, bytes: &[u8]) {
     let name = NAMES[usize::from(kind)];
     let fields = comparison.fields(name, &[bytes], |calls, fields| (calls.read)(kind, bytes, fields));
     let Some(fields) = fields else { return };
+    let written = comparison.writing("write back", &[bytes], |calls, output, written| {
+        (calls.write)(kind, bytes, &fields, output, written)
+    });
+    assert_eq!(written.as_deref(), Some(bytes), "what was read is written as it was");
     match kind {
         plain::KNOWN_MET => compare_items(comparison, Item::FileEntry, bytes, &fields[1..4]),
         plain::SERVER_MET => compare_items(comparison, Item::ServerEntry, bytes, &fields[1..4]),
@@ -155,23 +101,12 @@ fn compare_nodes(comparison: &mut Comparison, bytes: &[u8], query: &[u64]) {
     }
 }
 
-fn for_each_round(
-    comparison: &mut Comparison,
-    rounds: u64,
-    mut round: impl FnMut(&mut Comparison, &mut Random),
-) {
-    for _ in 0..rounds {
-        let mut random = comparison.next_input();
-        round(comparison, &mut random);
-    }
-}
-
 fn compare_kind(kind: u8, numbers: &[usize]) {
     let mut comparison = Comparison::new(1_000_000 * (1 + u64::from(kind)));
-    for_each_round(&mut comparison, ROUNDS, |comparison, random| {
+    comparison.rounds(ROUNDS, |comparison, random| {
         compare_reading(comparison, kind, &input(random, kind));
     });
-    for_each_round(&mut comparison, LONG_ROUNDS, |comparison, random| {
+    comparison.rounds(LONG_ROUNDS, |comparison, random| {
         let length = long_length(random, kind);
         compare_reading(comparison, kind, &long_input(random, kind, length));
     });
@@ -250,7 +185,7 @@ fn every_block_case() {
 fn every_opcode() {
     let mut comparison = Comparison::new(20_000_000);
     for link in [plain::SERVER_LINK, plain::CLIENT_LINK, plain::UDP_LINK] {
-        for_each_round(&mut comparison, 300, |comparison, random| {
+        comparison.rounds(300, |comparison, random| {
             for opcode in 0..=255 {
                 let packet = inputs::packet_of(random, link, opcode);
                 compare_reading(comparison, link, &packet);
@@ -291,7 +226,7 @@ fn item_bytes(random: &mut Random, item: Item) -> Vec<u8> {
 fn items_anywhere() {
     let items = [Item::Tag, Item::Address, Item::Record, Item::FileEntry, Item::ServerEntry, Item::QueryNode];
     let mut comparison = Comparison::new(22_000_000);
-    for_each_round(&mut comparison, ROUNDS, |comparison, random| {
+    comparison.rounds(ROUNDS, |comparison, random| {
         let item = random.pick(&items);
         let before = random.below(4);
         let mut bytes = random.bytes(before);
@@ -340,7 +275,7 @@ const SENTINEL: u64 = 0x5E_17_1E_15;
 #[test]
 fn gaps_of_part_met() {
     let mut comparison = Comparison::new(24_000_000);
-    for_each_round(&mut comparison, ROUNDS, |comparison, random| {
+    comparison.rounds(ROUNDS, |comparison, random| {
         let file = input(random, plain::PART_MET);
         compare_gaps(comparison, random, &file);
     });
@@ -350,7 +285,7 @@ fn gaps_of_part_met() {
 #[test]
 fn all_missing_and_count() {
     let mut comparison = Comparison::new(25_000_000);
-    for_each_round(&mut comparison, ROUNDS, |comparison, random| {
+    comparison.rounds(ROUNDS, |comparison, random| {
         let size = some_size(random);
         let numbers = random.pick(&[130, 130, 131, 129, 1, 0]);
         comparison.same("all missing", &[&size.to_le_bytes()], |calls| {
@@ -412,7 +347,7 @@ fn compare_mark(comparison: &mut Comparison, record: &[u64], start: u64, end: u6
 #[test]
 fn marking() {
     let mut comparison = Comparison::new(26_000_000);
-    for_each_round(&mut comparison, ROUNDS, |comparison, random| {
+    comparison.rounds(ROUNDS, |comparison, random| {
         let size = some_size(random).min(u32::MAX.into());
         let record = inputs::some_record(random, size);
         let (start, end) = range(random, &record);
@@ -425,7 +360,7 @@ fn marking() {
 #[test]
 fn marking_to_the_end() {
     let mut comparison = Comparison::new(27_000_000);
-    for_each_round(&mut comparison, 50, |comparison, random| {
+    comparison.rounds(50, |comparison, random| {
         let size = random.pick(&[1, 100, 972_800, u64::from(u32::MAX)]);
         let mut record = inputs::gap_record(size, &vec![(0, size)], 0);
         for _ in 0..300 {
@@ -443,7 +378,7 @@ fn marking_to_the_end() {
 #[test]
 fn putting() {
     let mut comparison = Comparison::new(28_000_000);
-    for_each_round(&mut comparison, ROUNDS, |comparison, random| {
+    comparison.rounds(ROUNDS, |comparison, random| {
         let size = random.pick(inputs::SIZES);
         let gaps = inputs::lawful_gaps(random, size.into(), 20);
         let mut file = inputs::part_met_of(random, size, &gaps);
@@ -455,7 +390,7 @@ fn putting() {
         let record = inputs::some_record(random, size.into());
         compare_put(comparison, &file, &record);
     });
-    for_each_round(&mut comparison, LONG_ROUNDS, |comparison, random| {
+    comparison.rounds(LONG_ROUNDS, |comparison, random| {
         let file = inputs::long_part_met(random, plain::MET_CEILING - 600);
         let gaps = inputs::lawful_gaps(random, inputs::LONG_PART_SIZE.into(), 64);
         compare_put(comparison, &file, &inputs::gap_record(inputs::LONG_PART_SIZE.into(), &gaps, 0));
@@ -472,7 +407,7 @@ fn compare_put(comparison: &mut Comparison, file: &[u8], record: &[u64]) {
 #[test]
 fn saving() {
     let mut comparison = Comparison::new(29_000_000);
-    for_each_round(&mut comparison, ROUNDS, |comparison, random| {
+    comparison.rounds(ROUNDS, |comparison, random| {
         let saved = input(random, plain::PART_MET);
         let (stored, opened) = stored_and_opened(random);
         comparison.writing("save", &[&stored, &opened, &saved], |calls, output, written| {
@@ -516,7 +451,7 @@ fn asked_query(random: &mut Random) -> Vec<u8> {
 fn truths() {
     let mut comparison = Comparison::new(30_000_000);
     let mut seen = [0; 10];
-    for_each_round(&mut comparison, ROUNDS, |comparison, random| {
+    comparison.rounds(ROUNDS, |comparison, random| {
         let mut query = asked_query(random);
         let mut tags = Vec::new();
         let count = random.pick(&[0, 3, 30, 100]);
@@ -529,7 +464,7 @@ fn truths() {
         }
         seen[usize::from(compare_truth(comparison, &query, &tags))] += 1;
     });
-    for_each_round(&mut comparison, LONG_ROUNDS, |comparison, random| {
+    comparison.rounds(LONG_ROUNDS, |comparison, random| {
         let query = inputs::grown(random, plain::LONE_QUERY, 3_000);
         let length = long_length(random, plain::LONE_TAGS);
         let tags = inputs::grown(random, plain::LONE_TAGS, length);
@@ -538,144 +473,6 @@ fn truths() {
     comparison.assert_seen("truth", &[0, 1, 5, 6, 7]);
     println!("truth: {} no, {} yes, {} refused", seen[0], seen[1], seen[9]);
     assert!(seen[0] > 1_000 && seen[1] > 1_000, "both truths are seen");
-}
-
-/// Texts of every length that matters to a count or a ceiling.
-fn written_text(random: &mut Random) -> Vec<u8> {
-    match random.below(10) {
-        0 => {
-            vec![b'x'; random.pick(&[65_275, 65_276, 65_277, 65_530, 65_533, 65_534, 65_535, 65_536, 70_000])]
-        }
-        _ => inputs::text(random),
-    }
-}
-
-fn written_name(random: &mut Random) -> Vec<u8> {
-    match random.below(6) {
-        0 => vec![b'n'; random.pick(&[0, 1, 2, 254, 255, 256, 257, 65_528, 65_529, 65_535, 65_536, 70_000])],
-        _ => inputs::name(random),
-    }
-}
-
-#[test]
-fn writers_of_leaves() {
-    let mut comparison = Comparison::new(31_000_000);
-    for_each_round(&mut comparison, ROUNDS, |comparison, random| {
-        let (text, name) = (written_text(random), written_name(random));
-        let (number, bound) = (random.dword(), random.pick(&[1, 1, 1, 2, 2, 2, 0, 3, 255]));
-        comparison.writing("keyword", &[&text], |calls, output, written| {
-            (calls.write_keyword)(&text, output, written)
-        });
-        comparison.writing("field", &[&text, &name], |calls, output, written| {
-            (calls.write_field)(&text, &name, output, written)
-        });
-        comparison.writing("limit", &[&[bound], &name], |calls, output, written| {
-            (calls.write_limit)(number, bound, &name, output, written)
-        });
-    });
-    comparison.assert_seen("keyword", &[0, 6, 10]);
-    comparison.assert_seen("field", &[0, 5, 6, 10]);
-    comparison.assert_seen("limit", &[0, 5, 6, 10]);
-}
-
-#[test]
-fn writers_of_joins() {
-    let mut comparison = Comparison::new(32_000_000);
-    for_each_round(&mut comparison, ROUNDS, |comparison, random| {
-        let operation = random.pick(&[0, 1, 2, 0, 1, 2, 0, 1, 2, 3, 255]);
-        let (left, right) = (side(random), side(random));
-        comparison.writing("join", &[&[operation], &left, &right], |calls, output, written| {
-            (calls.write_join)(operation, &left, &right, output, written)
-        });
-    });
-    comparison.assert_seen("join", &[0, 1, 5, 6, 7, 10]);
-}
-
-/// A query to be joined, seldom damaged or near the byte ceiling.
-fn side(random: &mut Random) -> Vec<u8> {
-    match random.below(12) {
-        0 => {
-            let query = lone_query(random);
-            damaged(random, plain::LONE_QUERY, &query)
-        }
-        1 => {
-            let text = vec![b'x'; random.pick(&[30_000, 32_761, 32_764, 32_765, 65_533])];
-            let mut query = vec![1];
-            inputs::counted(&text, &mut query);
-            query
-        }
-        _ => lone_query(random),
-    }
-}
-
-#[test]
-fn writers_of_tags() {
-    let mut comparison = Comparison::new(33_000_000);
-    for_each_round(&mut comparison, ROUNDS, |comparison, random| {
-        let (name, text) = (written_name(random), written_text(random));
-        let number = random.dword();
-        let length = random.pick(&[16, 16, 16, 17, 15, 0]);
-        let hash = random.bytes(length);
-        comparison.writing("text tag", &[&name, &text], |calls, output, written| {
-            (calls.write_text_tag)(&name, &text, output, written)
-        });
-        comparison.writing("dword tag", &[&name], |calls, output, written| {
-            (calls.write_dword_tag)(&name, number, output, written)
-        });
-        comparison.writing("float tag", &[&name], |calls, output, written| {
-            (calls.write_float_tag)(&name, number, output, written)
-        });
-        comparison.writing("hash tag", &[&name, &hash], |calls, output, written| {
-            (calls.write_hash_tag)(&name, &hash, output, written)
-        });
-    });
-    for call in ["text tag", "dword tag", "float tag"] {
-        comparison.assert_seen(call, &[0, 5, 6, 10]);
-    }
-    comparison.assert_seen("hash tag", &[0, 1, 5, 6, 10]);
-}
-
-/// Lists and queries written from where they lie, and from where they do not.
-#[test]
-fn writers_by_place() {
-    let mut comparison = Comparison::new(34_000_000);
-    for_each_round(&mut comparison, ROUNDS, |comparison, random| {
-        let mut bytes = lone_tags(random);
-        let listed = u32::from_le_bytes(bytes[..4].try_into().expect("a count"));
-        if random.once_in(4) {
-            bytes = damaged(random, plain::LONE_TAGS, &bytes);
-        }
-        let at = random.pick(&[4, 4, 4, 4, 0, 5, bytes.len(), bytes.len() + 1, usize::MAX]);
-        let count = random.pick(&[listed, listed, listed / 2, 0, listed + 1, u32::MAX]);
-        compare_tag_list_writing(comparison, &bytes, at, count);
-        let mut bytes = vec![0; random.below(3)];
-        let at = bytes.len();
-        bytes.extend(side(random));
-        compare_query_writing(comparison, &bytes, at);
-    });
-    for_each_round(&mut comparison, LONG_ROUNDS, |comparison, random| {
-        let length = long_length(random, plain::LONE_TAGS);
-        let bytes = inputs::grown(random, plain::LONE_TAGS, length);
-        let count = u32::from_le_bytes(bytes[..4].try_into().expect("a count"));
-        compare_tag_list_writing(comparison, &bytes, 4, count);
-        let bytes = inputs::grown(random, plain::LONE_QUERY, length);
-        compare_query_writing(comparison, &bytes, 0);
-    });
-    comparison.assert_seen("tag list", &[0, 1, 5, 6, 10]);
-    comparison.assert_seen("query", &[0, 1, 5, 6, 10]);
-}
-
-fn compare_tag_list_writing(comparison: &mut Comparison, bytes: &[u8], at: usize, count: u32) {
-    let place = [at.to_le_bytes(), u64::from(count).to_le_bytes()].concat();
-    comparison.writing("tag list", &[bytes, &place], |calls, output, written| {
-        (calls.write_tag_list)(bytes, at, count, output, written)
-    });
-}
-
-fn compare_query_writing(comparison: &mut Comparison, bytes: &[u8], at: usize) {
-    comparison.writing("query", &[bytes, &at.to_le_bytes()], |calls, output, written| {
-        (calls.write_query)(bytes, at, output, written)
-    });
 }
 
 /// The inputs of the program `vectors`, and the lines that it prints for them.

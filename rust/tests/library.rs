@@ -5,8 +5,9 @@ mod packets;
 
 use ed2k::write::{self, TagList};
 use ed2k::{
-    Address, Body, Bound, Gap, GapRecord, Hash, Kind, Link, Message, Node, Operator, Packet, Record, Refusal,
-    Tag, TagValue,
+    Address, Addresses, BlockHashes, Body, Bound, FileEntries, FileEntry, Gap, GapRecord, Hash, Hashes, Kind,
+    KnownMet, Link, Message, Node, Operator, Packet, PartStatus, Record, Records, Refusal, ServerEntries,
+    ServerMet, Tag, TagValue, Tags,
 };
 use packets::HASH;
 
@@ -212,7 +213,7 @@ fn lists_know_their_bytes_and_can_be_walked_twice() {
     assert_eq!(first.part_hashes.collect::<Vec<_>>(), [Hash([0x5A; 16]); 2]);
     assert_eq!((first.date, first.hash), (1_253_225_404, Hash(HASH)));
     let second = entries.next().unwrap();
-    assert_eq!((second.part_hashes.len(), second.tags.encoded()), (0, &[0, 0, 0, 0][..]));
+    assert_eq!((second.part_hashes.len(), &second.tags.encoded()[..]), (0, &[0, 0, 0, 0][..]));
     assert_eq!(second.tags.file_name(), None);
     assert!(entries.next().is_none());
 }
@@ -254,6 +255,155 @@ fn read_is_the_reading_of_each_kind() {
         assert_eq!(kind.letter().to_string().parse(), Ok(kind));
     }
     assert!("x".parse::<Kind>().is_err());
+}
+
+/// Bytes of every kind, put together by hand, which are accepted.
+fn accepted_bytes() -> Vec<(Kind, Vec<u8>)> {
+    let packets = packets::packet_of_each_shape().into_iter().map(|(link, bytes)| (link.into(), bytes));
+    let others = [
+        (Kind::KnownMet, packets::known_met()),
+        (Kind::ServerMet, packets::server_met()),
+        (Kind::PartMet, packets::part_met(9, 3, 100, &[(0, 40)])),
+        (Kind::PartMet, packets::part_met_with_blocks()),
+        (Kind::Query, packets::query()),
+        (Kind::Tags, packets::list(&packets::four_tags())),
+    ];
+    packets.chain(others).collect()
+}
+
+#[test]
+fn what_is_read_is_written_as_it_was() {
+    for (kind, bytes) in accepted_bytes() {
+        let message = ed2k::read(kind, &bytes).unwrap();
+        assert_eq!(write::message(&message).as_ref(), Ok(&bytes), "{message:?}");
+    }
+}
+
+#[test]
+fn a_list_is_written_whole_though_entries_were_taken_from_it() {
+    let bytes = packets::known_met();
+    let mut met = ed2k::read_known_met(&bytes).unwrap();
+    let mut first = met.entries.next().unwrap();
+    first.tags.by_ref().take(2).for_each(drop);
+    first.part_hashes.next();
+    assert_eq!(write::known_met(&met).unwrap(), bytes);
+    let entry = write::file_entry(&first).unwrap();
+    assert_eq!(entry, bytes[5..5 + entry.len()]);
+}
+
+#[test]
+fn lists_are_composed_of_entries() {
+    let entries = [packets::record(&packets::four_tags()), packets::record(&[])].concat();
+    let records = Records::new(&entries, 2).unwrap();
+    assert_eq!((records.len(), records.byte_count()), (2, entries.len()));
+    let written: Vec<u8> = records.flat_map(|record| write::record(&record).unwrap()).collect();
+    assert_eq!(written, entries);
+    assert_eq!(Records::new(&entries, 3).unwrap_err(), Refusal::Short);
+    assert_eq!(Records::new(&entries, 1).unwrap_err(), Refusal::Rest);
+    assert_eq!(Records::new(&entries, u32::MAX).unwrap_err(), Refusal::Short);
+    assert_eq!(Records::new(&[], 0).unwrap().len(), 0);
+    assert_eq!(Tags::new(&[9], 1).unwrap_err(), Refusal::Choice);
+    assert_eq!(Hashes::new(&[7; 31], 2).unwrap_err(), Refusal::Short);
+    assert_eq!(Hashes::new(&[7; 33], 2).unwrap_err(), Refusal::Rest);
+    assert_eq!(BlockHashes::new(&[7; 16], 2).unwrap().len(), 2);
+    let tags = Tags::new(&packets::four_tags().concat(), 4).map(|tags| tags.encoded().into_owned());
+    assert_eq!(tags.unwrap(), packets::list(&packets::four_tags()));
+}
+
+/// The values of one message may lie in different buffers, and a list in the middle of one.
+#[test]
+fn a_packet_is_composed_of_values_from_anywhere() {
+    let tags = packets::list(&packets::four_tags());
+    let record =
+        Record { hash: Hash(HASH), client: 0x0100_007F, port: 4662, tags: ed2k::read_tags(&tags).unwrap() };
+    let entries = [write::record(&record).unwrap(), write::record(&record).unwrap()].concat();
+    let records = Body::Records(Records::new(&entries, 2).unwrap());
+    let offer = write::packet(Link::Server, &Packet::new(0x15, records)).unwrap();
+    let by_hand =
+        packets::list(&[packets::record(&packets::four_tags()), packets::record(&packets::four_tags())]);
+    assert_eq!(offer, packets::packet(Link::Server, 0x15, &by_hand));
+
+    let hello = Packet::new(0x01, Body::Hello { record, address: ONE });
+    let body = [vec![0x10], packets::record(&packets::four_tags()), packets::address([80, 10, 10, 3], 4662)];
+    assert_eq!(
+        write::packet(Link::Client, &hello).unwrap(),
+        packets::packet(Link::Client, 0x01, &body.concat())
+    );
+
+    let known = packets::known_met();
+    let hashes = ed2k::read_known_met(&known).unwrap().entries.next().unwrap().part_hashes;
+    let answer = Packet::new(0x52, Body::Hashset { hash: Hash(HASH), hashes });
+    let body = [HASH.to_vec(), packets::word(2), vec![0x5A; 32]].concat();
+    assert_eq!(write::packet(Link::Client, &answer).unwrap(), packets::packet(Link::Client, 0x52, &body));
+}
+
+#[test]
+fn a_packet_is_refused_for_what_it_is() {
+    let refusal = |link, opcode, body| write::packet(link, &Packet::new(opcode, body)).unwrap_err();
+    assert_eq!(refusal(Link::Server, 0x14, Body::Dword(1)), Refusal::Kind);
+    assert_eq!(refusal(Link::Server, 0x99, Body::Nothing), Refusal::Kind);
+    assert_eq!(refusal(Link::Server, 0x38, Body::Text(&[0; 65_536])), Refusal::Limit);
+    assert_eq!(refusal(Link::Server, 0x38, Body::Text(&[0; 65_529])), Refusal::Limit);
+    let request = |extended, number| Body::StatusRequest { extended, number };
+    assert_eq!(refusal(Link::Udp, 0x96, request(false, 0x5AAA_0201)), Refusal::Choice);
+    assert_eq!(refusal(Link::Udp, 0x96, request(true, 0x0102_5AAA)), Refusal::Choice);
+    let addresses = [7; 6 * 256];
+    let body = Body::Addresses(Addresses::new(&addresses, 256).unwrap());
+    assert_eq!(refusal(Link::Server, 0x32, body), Refusal::Limit);
+    let body = Body::SendingPart { hash: Hash(HASH), start: 5, end: 9, data: b"abc" };
+    assert_eq!(refusal(Link::Client, 0x46, body), Refusal::Range);
+    let body = Body::RecordsFlag { records: Records::new(&[], 0).unwrap(), flag: 2 };
+    assert_eq!(refusal(Link::Server, 0x33, body), Refusal::Choice);
+    for (bits, number) in
+        [(&[0xFF, 2][..], Refusal::Choice), (&[1], Refusal::Short), (&[1, 1, 0], Refusal::Rest)]
+    {
+        let status = PartStatus { parts: 9, bits };
+        assert_eq!(refusal(Link::Client, 0x50, Body::FileStatus { hash: Hash(HASH), status }), number);
+    }
+    let other = Packet { opening: 0xC5, ..Packet::new(0x14, Body::Nothing) };
+    assert_eq!(write::packet(Link::Server, &other), Err(Refusal::Opening));
+}
+
+#[test]
+fn met_files_are_refused_for_what_they_are() {
+    let known = KnownMet { opening: 0x0F, entries: FileEntries::new(&[], 0).unwrap() };
+    assert_eq!(write::known_met(&known), Err(Refusal::Opening));
+    let hashes = vec![7; 16 * 65_536];
+    let part_hashes = Hashes::new(&hashes, 65_536).unwrap();
+    let entry = FileEntry { date: 0, hash: Hash(HASH), part_hashes, tags: Tags::new(&[], 0).unwrap() };
+    assert_eq!(write::file_entry(&entry), Err(Refusal::Limit));
+    let tail = vec![0; ed2k::MET_CEILING];
+    let server = ServerMet { opening: 0x0E, entries: ServerEntries::new(&[], 0).unwrap(), tail: &tail };
+    assert_eq!(write::server_met(&server), Err(Refusal::Limit));
+
+    let bytes = packets::part_met(9, 3, 100, &[(0, 40)]);
+    let mut met = ed2k::read_part_met(&bytes).unwrap();
+    met.size = 7;
+    assert_eq!(write::part_met(&met).as_ref(), Ok(&bytes));
+    let hashes = met.part_hashes.take();
+    assert_eq!(write::part_met(&met), Err(Refusal::Choice));
+    met.opening = 0xE1;
+    assert_eq!(ed2k::read_part_met(&write::part_met(&met).unwrap()).unwrap().opening, 0xE1);
+    met.part_hashes = hashes;
+    assert_eq!(write::part_met(&met), Err(Refusal::Choice));
+    met.opening = 0xE2;
+    assert_eq!(write::part_met(&met), Err(Refusal::Choice));
+    met.opening = 0xE0;
+    met.tags = Tags::new(&[], 0).unwrap();
+    assert_eq!(write::part_met(&met), Err(Refusal::Size));
+}
+
+#[test]
+fn whole_messages_may_be_written_into_exactly_their_room() {
+    let (link, bytes) = &packets::packet_of_each_shape()[13];
+    let packet = ed2k::read_packet(*link, bytes).unwrap();
+    let mut output = vec![7; bytes.len() + 1];
+    assert_eq!(write::packet_into(*link, &packet, &mut output[..bytes.len() - 1]), Err(Refusal::Room));
+    assert!(output.iter().all(|byte| *byte == 7));
+    assert_eq!(write::packet_into(*link, &packet, &mut output[..bytes.len()]), Ok(bytes.len()));
+    assert_eq!((&output[..bytes.len()], output[bytes.len()]), (&bytes[..], 7));
+    assert_eq!(write::address_into(ONE, &mut output[..5]), Err(Refusal::Room));
+    assert_eq!(write::address_into(ONE, &mut output), Ok(6));
 }
 
 #[test]

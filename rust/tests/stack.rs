@@ -44,10 +44,10 @@ fn made(kind: u8, length: usize) -> Vec<u8> {
     inputs::grown(&mut Random::new(SEED), kind, length)
 }
 
-#[test]
-fn whole_messages() {
+/// The largest and the deepest messages of each kind.
+fn largest_messages() -> Vec<(u8, Vec<u8>)> {
     let query = deep_query(24);
-    let lent = [
+    vec![
         (plain::SERVER_LINK, made(plain::SERVER_LINK, PACKET_CEILING)),
         (plain::SERVER_LINK, inputs::framed(plain::SERVER_LINK, &[&[0x16], &query[..]].concat())),
         (plain::CLIENT_LINK, made(plain::CLIENT_LINK, PACKET_CEILING)),
@@ -60,11 +60,60 @@ fn whole_messages() {
         (plain::LONE_QUERY, query),
         (plain::LONE_QUERY, made(plain::LONE_QUERY, PACKET_CEILING)),
         (plain::LONE_TAGS, made(plain::LONE_TAGS, PACKET_CEILING)),
-    ];
-    for (kind, bytes) in &lent {
+    ]
+}
+
+#[test]
+fn whole_messages() {
+    for (kind, bytes) in largest_messages() {
         let mut fields = vec![0; FIELDS];
-        accepted(&format!("kind {kind}"), || (ARCHIVE.read)(*kind, bytes, &mut fields));
+        accepted(&format!("kind {kind}"), || (ARCHIVE.read)(kind, &bytes, &mut fields));
+        let write =
+            |output: &mut [u8], written: &mut u64| (ARCHIVE.write)(kind, &bytes, &fields, output, written);
+        writes(&format!("write of kind {kind}"), write);
     }
+}
+
+/// Every shape of body, by a packet of each opcode.
+#[test]
+fn packets_of_every_opcode_written() {
+    let mut random = Random::new(SEED);
+    for link in [plain::SERVER_LINK, plain::CLIENT_LINK, plain::UDP_LINK] {
+        for (opcode, _) in inputs::opcodes(link) {
+            let lawful = || {
+                let packet = inputs::packet_of(&mut random, link, *opcode);
+                plain::read(link, &packet).ok().map(|fields| (packet, fields))
+            };
+            let (packet, fields) = std::iter::repeat_with(lawful).flatten().next().expect("a lawful packet");
+            writes(&format!("link {link}, opcode {opcode:02X}"), |output, written| {
+                (ARCHIVE.write)(link, &packet, fields.numbers(), output, written)
+            });
+        }
+    }
+}
+
+#[test]
+fn entries_written() {
+    let tags = made(plain::LONE_TAGS, MET_CEILING);
+    let count = u32::from_le_bytes([tags[0], tags[1], tags[2], tags[3]]);
+    let source = [tags, vec![7; 16 * 65_535]].concat();
+    let hashes = (source.len() - 16 * 65_535, 65_535);
+    let mut output = vec![0; 2 * source.len()];
+    let mut writes = |name: &str, call: &(dyn Fn(&mut [u8], &mut u64) -> u8 + Sync)| {
+        let mut written = 0;
+        accepted(name, || call(&mut output, &mut written));
+        assert!(written > 0, "{name} wrote something");
+    };
+    writes("address", &|output, written| (ARCHIVE.write_address)(1, 2, output, written));
+    writes("record", &|output, written| {
+        (ARCHIVE.write_record)(&source, 0, (1, 2), (4, count), output, written)
+    });
+    writes("file entry", &|output, written| {
+        (ARCHIVE.write_file_entry)(&source, (1, 0), hashes, (4, count), output, written)
+    });
+    writes("server entry", &|output, written| {
+        (ARCHIVE.write_server_entry)(&source, (1, 2), (4, count), output, written)
+    });
 }
 
 #[test]

@@ -4,6 +4,7 @@
 mod packets;
 
 mod marking;
+mod readme;
 mod saving;
 mod showing;
 mod storms;

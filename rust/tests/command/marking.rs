@@ -1,9 +1,11 @@
 //! `mark`.
 
+use std::ffi::OsStr;
+
 use ed2k::GapRecord;
 
 use crate::packets;
-use crate::studio::{Studio, wait};
+use crate::studio::{Studio, finish, full_output, wait};
 
 #[test]
 fn mark_saves_the_new_gaps_and_a_dry_run_does_not() {
@@ -20,6 +22,28 @@ fn mark_saves_the_new_gaps_and_a_dry_run_does_not() {
     assert!(run.stdout.ends_with("saved    'a model.part.met', 138 bytes\n"), "{}", run.stdout);
     assert_eq!(studio.bytes("a model.part.met"), packets::part_met(9, 3, 100, &[(0, 40), (60, 100)]));
     assert_eq!(studio.names(), ["a model.part.met"]);
+}
+
+#[test]
+fn mark_takes_numbers_as_gaps_prints_them() {
+    let studio = Studio::new();
+    let old = packets::part_met(9, 0, 3_000_000, &[(1_000_000, 2_500_000)]);
+    studio.file("file", &old);
+    assert!(studio.run(&["gaps", "file"]).expect(0).stdout.contains("1,000,000 to 2,500,000"));
+    studio.run(&["mark", "file", "1,000,000", "2500000"]).expect(0);
+    assert_eq!(studio.bytes("file"), packets::part_met(9, 0, 3_000_000, &[]));
+    studio.run(&["mark", "file", "1,00,000", "2,500,000"]).expect(2);
+}
+
+#[test]
+fn a_mark_that_cannot_be_told_says_that_it_is_saved() {
+    let studio = Studio::new();
+    studio.file("file", &packets::part_met(9, 0, 100, &[(0, 100)]));
+    let mut command = studio.command(&["mark", "file", "0", "60"].map(OsStr::new));
+    command.stdout(full_output());
+    let run = finish(command).expect(2);
+    assert!(run.stderr.ends_with("\n'file' is saved.\n"), "{}", run.stderr);
+    assert_eq!(studio.bytes("file"), packets::part_met(9, 0, 100, &[(60, 100)]));
 }
 
 #[test]

@@ -1,11 +1,12 @@
 //! `save`: when it is accepted, and what it leaves in the folder.
 
+use std::ffi::OsStr;
 use std::fs;
 use std::os::unix::fs::{MetadataExt, PermissionsExt, symlink};
 use std::process::{Command, Stdio};
 
 use crate::packets;
-use crate::studio::{COMMAND, Run, Studio, finish, samples};
+use crate::studio::{COMMAND, Run, Studio, finish, full_output, samples};
 
 #[test]
 fn save_stores_the_new_file_and_keeps_permissions() {
@@ -37,6 +38,19 @@ fn a_conflict_says_what_happened_and_changes_nothing() {
     }
     assert_eq!((studio.bytes("stored"), studio.bytes("new")), (other, new));
     assert_eq!(studio.names(), ["new", "old", "stored"]);
+}
+
+#[test]
+fn a_save_that_cannot_be_told_says_that_it_is_saved() {
+    let studio = Studio::new();
+    let new = packets::part_met(2, 0, 100, &[]);
+    studio.file("new", &new);
+    let words = ["save", "--opened", "none", "--new", "new", "stored"];
+    let mut command = studio.command(&words.map(OsStr::new));
+    command.stdout(full_output());
+    let run = finish(command).expect(2);
+    assert!(run.stderr.ends_with("\n'stored' is saved.\n"), "{}", run.stderr);
+    assert_eq!(studio.bytes("stored"), new);
 }
 
 #[test]
@@ -76,8 +90,12 @@ fn save_will_not_compare_a_file_with_itself() {
     let studio = Studio::new();
     studio.file("stored", &packets::part_met(1, 0, 100, &[]));
     studio.file("new", &packets::part_met(2, 0, 100, &[]));
-    let run = studio.run(&["save", "--opened", "./stored", "--new", "new", "stored"]).expect(2);
-    assert!(run.stderr.contains("STORED itself"), "{}", run.stderr);
+    fs::hard_link(studio.path("stored"), studio.path("second name")).unwrap();
+    symlink("stored", studio.path("link")).unwrap();
+    for opened in ["./stored", "second name", "link"] {
+        let run = studio.run(&["save", "--opened", opened, "--new", "new", "stored"]).expect(2);
+        assert!(run.stderr.contains("STORED itself"), "{}", run.stderr);
+    }
 }
 
 #[test]
@@ -180,6 +198,7 @@ fn a_file_of_another_owner_is_left_alone() {
 fn assert_failed_write(studio: &Studio, run: Run, old: &[u8], beside: &[String]) {
     let run = run.expect(2);
     assert!(run.stderr.contains("cannot write"), "{}", run.stderr);
+    assert!(run.stderr.ends_with("disk/stored' is as it was.\n"), "{}", run.stderr);
     assert_eq!(studio.bytes("disk/stored"), old);
     let names: Vec<String> = fs::read_dir(studio.path("disk"))
         .unwrap()

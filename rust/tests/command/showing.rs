@@ -149,6 +149,41 @@ fn show_says_queries_and_floats_and_clients_in_words() {
     }
 }
 
+/// The lines of a packet behind its opcode.
+fn shown_body(studio: &Studio, kind: &str, packet: &[u8]) -> Vec<String> {
+    studio.file("packet", packet);
+    let shown = studio.run(&["show", kind, "packet"]).expect(0).stdout;
+    shown.lines().skip_while(|line| !line.contains("  opcode  ")).skip(1).map(String::from).collect()
+}
+
+#[test]
+fn show_tells_the_forms_of_a_status_request_and_the_ids_of_a_change() {
+    let studio = Studio::new();
+    let plain = packets::packet(Link::Udp, 0x96, &packets::dword(1_437_254_902));
+    assert_eq!(
+        shown_body(&studio, "u", &plain),
+        ["      2  DWORD                     1,437,254,902", "      6  end"]
+    );
+    assert_eq!(
+        shown_body(&studio, "u", &packets::packet(Link::Udp, 0x96, &[1, 2, 0xAA, 0x5A])),
+        [
+            "      2  BYTE                      (01)",
+            "      3  BYTE                      (02)",
+            "      4  fixed bytes               (AA 5A) extension",
+            "      6  end"
+        ]
+    );
+    let change = packets::packet(Link::Client, 0x4D, &[packets::dword(3), vec![80, 10, 10, 10]].concat());
+    assert_eq!(
+        shown_body(&studio, "c", &change),
+        [
+            "      6  Client ID, old            3 (low ID)",
+            "     10  Client ID, new            168,430,160 (high ID, IP 80.10.10.10)",
+            "     14  end"
+        ]
+    );
+}
+
 #[test]
 fn show_lets_no_name_command_the_terminal() {
     let studio = Studio::new();

@@ -2,7 +2,7 @@
 
 use std::env;
 use std::ffi::OsStr;
-use std::fs;
+use std::fs::{self, File};
 use std::os::unix::fs::MetadataExt;
 use std::os::unix::process::CommandExt;
 use std::path::{Path, PathBuf};
@@ -129,6 +129,11 @@ fn ended(output: process::Output) -> Run {
         stdout: text(output.stdout),
         stderr: text(output.stderr),
     }
+}
+
+/// An output that takes nothing.
+pub fn full_output() -> File {
+    File::options().write(true).open("/dev/full").expect("/dev/full is there")
 }
 
 /// The samples of the repository.

@@ -1,12 +1,13 @@
 //! Help, wrong words, and files that cannot be read or written.
 
 use std::ffi::OsStr;
-use std::fs::{self, File};
+use std::fs;
 use std::io::Read;
 use std::os::unix::ffi::OsStrExt;
+use std::process::Command;
 
 use crate::packets;
-use crate::studio::{Studio, finish};
+use crate::studio::{Studio, finish, full_output};
 
 #[test]
 fn names_may_be_any_the_system_allows() {
@@ -51,6 +52,36 @@ fn files_that_are_missing_or_no_files_are_errors() {
     }
     assert_eq!(studio.bytes("new"), new);
     assert_eq!(studio.names(), ["folder", "new"]);
+}
+
+/// A pipe that nobody writes to would be waited for.
+#[test]
+fn a_stored_file_that_is_no_file_is_left_alone() {
+    let studio = Studio::new();
+    studio.file("new", &packets::part_met(2, 0, 100, &[]));
+    let made = Command::new("mkfifo").arg(studio.path("pipe")).status();
+    assert!(made.expect("mkfifo runs").success());
+    for stored in ["pipe", "/dev/null"] {
+        for words in [&["mark", stored, "0", "1"][..], &["save", "--opened", "none", "--new", "new", stored]]
+        {
+            assert!(studio.run(words).expect(2).stderr.contains("is not a file"), "{stored}");
+        }
+    }
+    assert_eq!(studio.names(), ["new", "pipe"]);
+}
+
+#[test]
+fn a_name_may_be_as_long_as_the_system_allows() {
+    let studio = Studio::new();
+    let (old, new) = (packets::part_met(1, 0, 100, &[]), packets::part_met(2, 0, 100, &[]));
+    let (one, other) = (format!("{}1", "n".repeat(254)), format!("{}2", "n".repeat(254)));
+    studio.file("old", &old);
+    studio.file("new", &new);
+    studio.file(&one, &old);
+    studio.file(&other, &old);
+    studio.run(&["save", "--opened", "old", "--new", "new", &one]).expect(0);
+    assert_eq!((studio.bytes(&one), studio.bytes(&other)), (new, old));
+    assert_eq!(studio.names(), ["new", &one, &other, "old"]);
 }
 
 #[test]
@@ -132,7 +163,7 @@ fn an_output_that_is_full_is_an_error() {
     let studio = Studio::new();
     studio.file("tags", &packets::list(&packets::four_tags()));
     let mut command = studio.command(&["show", "t", "tags"].map(OsStr::new));
-    command.stdout(File::options().write(true).open("/dev/full").unwrap());
+    command.stdout(full_output());
     let run = finish(command).expect(2);
     assert!(run.stderr.contains("cannot write to standard output"), "{}", run.stderr);
 }

@@ -1,4 +1,5 @@
 //! One call through the archive and through the plain reading, side by side.
+#![allow(dead_code)]
 
 use std::collections::BTreeMap;
 use std::fmt::Debug;
@@ -28,6 +29,14 @@ impl Comparison {
     pub fn next_input(&mut self) -> Random {
         self.seed += 1;
         Random::new(self.seed)
+    }
+
+    /// So many rounds, each with the generator of its own input.
+    pub fn rounds(&mut self, rounds: u64, mut round: impl FnMut(&mut Self, &mut Random)) {
+        for _ in 0..rounds {
+            let mut random = self.next_input();
+            round(self, &mut random);
+        }
     }
 
     /// Runs the call on both sides; `run` gives the number and all that was lent, as it is afterwards.
@@ -72,13 +81,14 @@ impl Comparison {
         (number == 0).then_some(fields)
     }
 
-    /// A call that writes, with room to spare, with just enough room, and with too little.
+    /// A call that writes, with room to spare, with just enough room, and with too little: what it writes if it accepts. One that refuses
+    /// does so with no room too.
     pub fn writing(
         &mut self,
         call: &'static str,
         input: &[&[u8]],
         run: impl Fn(&Calls, &mut [u8], &mut u64) -> u8,
-    ) {
+    ) -> Option<Vec<u8>> {
         let lent = |room| {
             let run = &run;
             move |calls: &Calls| {
@@ -90,15 +100,18 @@ impl Comparison {
         let most = 4_096 + input.iter().map(|bytes| bytes.len()).sum::<usize>();
         let (number, (written, _)) = self.same(call, input, lent(most));
         if number != 0 {
-            return;
+            let (again, _) = self.same(call, input, lent(0));
+            assert_eq!(again, number, "seed {}, {call}: room is asked for last", self.seed);
+            return None;
         }
         let length = written as usize;
-        self.same(call, input, lent(length));
+        let (_, (_, output)) = self.same(call, input, lent(length));
         self.turn += 1;
         if self.turn.is_multiple_of(4) {
             self.same(call, input, lent(length.saturating_sub(1)));
             self.same(call, input, lent(0));
         }
+        Some(output)
     }
 
     /// The call answered each of these numbers, and no other.

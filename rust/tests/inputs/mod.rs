@@ -3,11 +3,13 @@
 
 mod damage;
 mod grown;
+mod made;
 mod messages;
 mod met;
 
 pub use damage::damaged;
 pub use grown::{LONG_PART_SIZE, grown, long_part_met};
+pub use made::*;
 pub use messages::*;
 pub use met::*;
 

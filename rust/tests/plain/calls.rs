@@ -25,6 +25,11 @@ pub struct Calls {
     pub write_hash_tag: fn(&[u8], &[u8], &mut [u8], &mut u64) -> u8,
     pub write_tag_list: fn(&[u8], usize, u32, &mut [u8], &mut u64) -> u8,
     pub write_query: fn(&[u8], usize, &mut [u8], &mut u64) -> u8,
+    pub write: fn(u8, &[u8], &[u64], &mut [u8], &mut u64) -> u8,
+    pub write_address: fn(u32, u16, &mut [u8], &mut u64) -> u8,
+    pub write_record: fn(&[u8], usize, (u32, u16), (usize, u32), &mut [u8], &mut u64) -> u8,
+    pub write_file_entry: fn(&[u8], (u32, usize), (usize, u32), (usize, u32), &mut [u8], &mut u64) -> u8,
+    pub write_server_entry: fn(&[u8], (u32, u16), (usize, u32), &mut [u8], &mut u64) -> u8,
 }
 
 pub const PLAIN: Calls = Calls {
@@ -55,6 +60,17 @@ pub const PLAIN: Calls = Calls {
         length(write_tag_list(bytes, at, count, output), written)
     },
     write_query: |bytes, at, output, written| length(write_query(bytes, at, output), written),
+    write: |kind, bytes, fields, output, written| length(write_message(kind, bytes, fields, output), written),
+    write_address: |ip, port, output, written| length(write_address(ip, port, output), written),
+    write_record: |bytes, hash, client, tags, output, written| {
+        length(write_record(bytes, hash, client, tags, output), written)
+    },
+    write_file_entry: |bytes, file, hashes, tags, output, written| {
+        length(write_file_entry(bytes, file, hashes, tags, output), written)
+    },
+    write_server_entry: |bytes, address, tags, output, written| {
+        length(write_server_entry(bytes, address, tags, output), written)
+    },
 };
 
 #[inline]

@@ -20,7 +20,7 @@ pub fn block_count(size: u32) -> u32 {
     size.div_ceil(BLOCK_BYTES)
 }
 
-struct FileEntry {
+pub struct FileEntry {
     date: u32,
     hash: u64,
     hashes: List,
@@ -28,7 +28,7 @@ struct FileEntry {
 }
 
 #[inline]
-fn file_entry(cursor: &mut Cursor) -> Answer<FileEntry> {
+pub fn file_entry(cursor: &mut Cursor) -> Answer<FileEntry> {
     let (date, hash) = (cursor.dword()?, cursor.hash()?);
     let count = cursor.word()?;
     let hashes = cursor.even_list(count.into(), 16)?;
@@ -45,7 +45,7 @@ pub fn put_file_entry(cursor: &mut Cursor, fields: &mut Fields) -> Answer<()> {
 }
 
 #[inline]
-fn server_entry(cursor: &mut Cursor) -> Answer<(u32, u16, List)> {
+pub(super) fn server_entry(cursor: &mut Cursor) -> Answer<(u32, u16, List)> {
     Ok((cursor.dword()?, cursor.word()?, tag_list(cursor)?))
 }
 

@@ -6,6 +6,7 @@ mod bodies;
 mod calls;
 mod cursor;
 mod gaps;
+mod messages;
 mod met;
 mod packets;
 mod query;
@@ -14,6 +15,7 @@ mod writers;
 
 pub use calls::{Calls, PLAIN};
 pub use gaps::{GAP_NUMBERS, GapNumbers, all_missing, count_missing, mark};
+pub use messages::{write_address, write_file_entry, write_message, write_record, write_server_entry};
 pub use met::{block_count, part_count, put_gaps, read_gaps, save};
 pub use query::truth;
 pub use writers::*;

@@ -2,7 +2,7 @@
 
 use super::bodies::body;
 use super::cursor::Cursor;
-use super::{Answer, Fields, Refusal};
+use super::{Answer, CLIENT_LINK, Fields, Refusal, SERVER_LINK};
 
 const OPENING: u8 = 0xE3;
 
@@ -91,6 +91,15 @@ fn udp_shape(opcode: u8) -> Option<Shape> {
         0x97 => Shape::Status,
         _ => return None,
     })
+}
+
+/// The shape that a link lists for an opcode.
+pub fn listed_shape(link: u8, opcode: u8) -> Option<Shape> {
+    match link {
+        SERVER_LINK => server_shape(opcode),
+        CLIENT_LINK => client_shape(opcode),
+        _ => udp_shape(opcode),
+    }
 }
 
 pub fn server_link(cursor: &mut Cursor) -> Answer<Fields> {

@@ -6,7 +6,7 @@ use super::tags::tag;
 use super::{Answer, NAME_CEILING, PACKET_CEILING, QUERY_DEPTH, Refusal, within};
 
 /// The pieces one after the other at the front of the output.
-fn write(pieces: &[&[u8]], output: &mut [u8]) -> Answer<usize> {
+pub(super) fn write(pieces: &[&[u8]], output: &mut [u8]) -> Answer<usize> {
     let length = pieces.iter().map(|piece| piece.len()).sum();
     let mut rest = output.get_mut(..length).ok_or(Refusal::Room)?;
     for piece in pieces {

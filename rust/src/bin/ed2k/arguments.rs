@@ -92,7 +92,7 @@ impl Arguments {
 
     /// A number of bytes, in decimal.
     pub fn number(&self, name: &str, word: &OsStr) -> Result<u64, Failure> {
-        word.to_str().and_then(|word| word.parse().ok()).ok_or_else(|| {
+        word.to_str().and_then(text::number).ok_or_else(|| {
             self.wrong(format!("{name} is a number of bytes in decimal, not {}", text::file_name(word)))
         })
     }

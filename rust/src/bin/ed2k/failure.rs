@@ -12,12 +12,12 @@ pub enum Failure {
     Refused(String, Refusal, String),
     /// The words after the command are wrong. What is wrong, and where help is.
     Usage(String, &'static str),
-    /// A file cannot be read or written. What was tried, and what the system says.
-    File(String, io::Error),
+    /// A file cannot be read or written. What was tried, what the system says, and more lines, if any.
+    File(String, io::Error, String),
     /// A file is not what it must be.
     Unfit(String),
-    /// What the command prints cannot be written.
-    Output(io::Error),
+    /// What the command prints cannot be written. What the system says, and more lines, if any.
+    Output(io::Error, String),
 }
 
 impl Failure {
@@ -28,7 +28,17 @@ impl Failure {
 
     /// The system's error at the thing tried.
     pub fn file(tried: impl Into<String>) -> impl FnOnce(io::Error) -> Failure {
-        |error| Failure::File(tried.into(), error)
+        |error| Failure::File(tried.into(), error, String::new())
+    }
+
+    /// The same failure with a line more, on what has become of the files.
+    pub fn and_say(mut self, line: String) -> Failure {
+        if let Failure::Refused(_, _, more) | Failure::File(_, _, more) | Failure::Output(_, more) = &mut self
+        {
+            more.push_str(&line);
+            more.push('\n');
+        }
+        self
     }
 
     /// 1 for a refusal, 2 for all else.
@@ -42,7 +52,7 @@ impl Failure {
 
 impl From<io::Error> for Failure {
     fn from(error: io::Error) -> Failure {
-        Failure::Output(error)
+        Failure::Output(error, String::new())
     }
 }
 
@@ -51,9 +61,11 @@ impl fmt::Display for Failure {
         match self {
             Failure::Refused(what, refusal, more) => write!(f, "ed2k: {what} is {refusal}\n{more}"),
             Failure::Usage(problem, help) => writeln!(f, "ed2k: {problem}\nFor help: {help}"),
-            Failure::File(tried, error) => writeln!(f, "ed2k: cannot {tried}: {error}"),
+            Failure::File(tried, error, more) => write!(f, "ed2k: cannot {tried}: {error}\n{more}"),
             Failure::Unfit(problem) => writeln!(f, "ed2k: {problem}"),
-            Failure::Output(error) => writeln!(f, "ed2k: cannot write to standard output: {error}"),
+            Failure::Output(error, more) => {
+                write!(f, "ed2k: cannot write to standard output: {error}\n{more}")
+            }
         }
     }
 }

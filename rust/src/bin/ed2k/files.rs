@@ -1,8 +1,9 @@
 //! Reading files, never more of them than is needed to judge them.
 
 use std::ffi::OsStr;
-use std::fs::File;
+use std::fs::{File, Metadata};
 use std::io::{self, ErrorKind, Read};
+use std::os::unix::fs::MetadataExt;
 use std::path::Path;
 
 use ed2k::Kind;
@@ -32,6 +33,11 @@ pub fn open_or_empty(path: &Path) -> io::Result<Box<dyn Read>> {
         Err(error) if error.kind() == ErrorKind::NotFound => Ok(Box::new(io::empty())),
         Err(error) => Err(error),
     }
+}
+
+/// Whether these are of one file, by whatever names it was found.
+pub fn same(one: &Metadata, other: &Metadata) -> bool {
+    (one.dev(), one.ino()) == (other.dev(), other.ino())
 }
 
 /// So many bytes, or all if there are fewer.

@@ -14,7 +14,8 @@ pub const HELP: &str = "\
 ed2k mark [--dry-run] FILE START END
 
 Marks the bytes from START up to END, which is the first byte that is not
-meant, as arrived in the part.met FILE, and says what is still missing.
+meant, as arrived in the part.met FILE, and says what is still missing. Numbers
+are taken as 'ed2k gaps' prints them (7,321,600) and without commas.
 
 FILE is changed: its gaps are written anew behind its other tags, and it is
 saved as 'ed2k save' does it, so that FILE is at any moment the old or the new
@@ -37,8 +38,8 @@ pub fn run(words: Vec<OsString>, output: &mut dyn Write) -> Outcome {
         Ok(writeln!(output, "not saved, as --dry-run asks")?)
     } else {
         let marked = mark.saved()?;
-        marked.report(output)?;
-        Ok(writeln!(output, "saved    {}, {}", text::file_name(&name), text::bytes(marked.new.len() as u64))?)
+        let name = text::file_name(&name);
+        marked.tell(&name, output).map_err(|failure| failure.and_say(format!("{name} is saved.")))
     }
 }
 
@@ -95,6 +96,12 @@ impl Mark<'_> {
 }
 
 impl Marked {
+    fn tell(&self, name: &str, output: &mut dyn Write) -> Outcome {
+        self.report(output)?;
+        writeln!(output, "saved    {name}, {}", text::bytes(self.new.len() as u64))?;
+        Ok(output.flush()?)
+    }
+
     fn report(&self, output: &mut dyn Write) -> Outcome {
         writeln!(output, "arrived  {}", text::bytes(self.before - self.record.missing()))?;
         gaps::missing_line(&self.record, output)

@@ -44,7 +44,9 @@ pub fn run(words: Vec<OsString>, output: &mut dyn Write) -> Outcome {
     }
     let saved = save.run()?;
     let (stored, new) = (text::file_name(&stored), text::file_name(save.new));
-    Ok(writeln!(output, "saved: {stored} is now {new}, {}", text::bytes(saved as u64))?)
+    let told = writeln!(output, "saved: {stored} is now {new}, {}", text::bytes(saved as u64));
+    told.and_then(|()| output.flush())
+        .map_err(|error| Failure::from(error).and_say(format!("{stored} is saved.")))
 }
 
 struct Save<'a> {
@@ -55,8 +57,8 @@ struct Save<'a> {
 
 impl Save<'_> {
     fn compares_a_file_with_itself(&self) -> bool {
-        match (fs::canonicalize(self.opened), fs::canonicalize(self.stored)) {
-            (Ok(opened), Ok(stored)) => opened == stored,
+        match (fs::metadata(self.opened), fs::metadata(self.stored)) {
+            (Ok(opened), Ok(stored)) => files::same(&opened, &stored),
             _ => false,
         }
     }

@@ -58,7 +58,7 @@ impl Search {
     fn run(query: &[u8], entries: FileEntries<'_>, output: &mut dyn Write) -> io::Result<Search> {
         let mut search = Search { found: 0, unsearched: vec![] };
         for (place, entry) in (1..).zip(entries) {
-            match ed2k::truth(query, entry.tags.encoded()) {
+            match ed2k::truth(query, &entry.tags.encoded()) {
                 Ok(false) => {}
                 Ok(true) => {
                     search.found += 1;

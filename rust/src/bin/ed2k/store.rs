@@ -3,6 +3,7 @@
 use std::ffi::{OsStr, OsString};
 use std::fs::{self, File, OpenOptions, TryLockError};
 use std::io::{self, ErrorKind, Read, Write};
+use std::os::unix::ffi::OsStrExt;
 use std::os::unix::fs::{MetadataExt, fchown};
 use std::path::{Path, PathBuf};
 
@@ -26,6 +27,7 @@ impl Stored {
     /// Waits for the lock of the file. Links are followed, so that all ways to one file have one lock.
     pub fn lock(name: &OsStr) -> Result<Stored, Failure> {
         let (folder, name) = place_of(Path::new(name))?;
+        regular(&folder.join(&name))?;
         let lock_path = folder.join(hidden(&name, ".lock"));
         let locked = Lock::take(lock_path.clone());
         let lock = locked.map_err(Failure::file(tried("take the lock", &lock_path)))?;
@@ -67,7 +69,7 @@ impl Stored {
     }
 
     fn unreadable(&self, error: io::Error) -> Failure {
-        Failure::file(tried("read", &self.path))(error)
+        unreadable(&self.path, error)
     }
 
     /// Makes the bytes the file's contents: a new file beside it, brought to the disk, then renamed. Until the renaming
@@ -77,11 +79,14 @@ impl Stored {
         let renamed = self.write_new(bytes, old.as_ref()).and_then(|()| {
             fs::rename(&self.new_path, &self.path).map_err(Failure::file(tried("replace", &self.path)))
         });
-        if renamed.is_err() {
+        renamed.map_err(|failure| {
             // The failure is what is reported; what cannot be removed now, the next save removes.
             let _ = fs::remove_file(&self.new_path);
-        }
-        renamed?;
+            failure.and_say(format!(
+                "Nothing was lost: {} is as it was.",
+                text::file_name(self.path.as_os_str())
+            ))
+        })?;
         let sync = || File::open(&self.folder)?.sync_all();
         sync().map_err(Failure::file(format!(
             "bring the folder of {} to the disk (the file is saved, but a power cut might undo it)",
@@ -92,15 +97,12 @@ impl Stored {
     /// The old file's permissions and owner, if it is there and may be written. Renaming would replace a file that may
     /// not be written too, but who protects a file means to keep it.
     fn replaceable(&self) -> Result<Option<fs::Metadata>, Failure> {
-        let name = || text::file_name(self.path.as_os_str());
-        match fs::metadata(&self.path) {
-            Err(error) if error.kind() == ErrorKind::NotFound => return Ok(None),
-            Err(error) => return Err(self.unreadable(error)),
-            Ok(old) if !old.is_file() => return Err(Failure::Unfit(format!("{} is not a file", name()))),
-            Ok(old) if old.permissions().readonly() => {
-                return Err(Failure::Unfit(format!("{} is read-only: nothing was changed", name())));
-            }
-            Ok(_) => {}
+        let Some(old) = regular(&self.path)? else {
+            return Ok(None);
+        };
+        if old.permissions().readonly() {
+            let name = text::file_name(self.path.as_os_str());
+            return Err(Failure::Unfit(format!("{name} is read-only: nothing was changed")));
         }
         let opened = OpenOptions::new().write(true).open(&self.path).and_then(|file| file.metadata());
         opened.map(Some).map_err(Failure::file(tried("write", &self.path)))
@@ -123,6 +125,20 @@ impl Stored {
 
 fn tried(what: &str, path: &Path) -> String {
     format!("{what} {}", text::file_name(path.as_os_str()))
+}
+
+fn unreadable(path: &Path, error: io::Error) -> Failure {
+    Failure::file(tried("read", path))(error)
+}
+
+/// What the system knows of a file, if it is there; what is no file is left alone, and a pipe is not waited for.
+fn regular(path: &Path) -> Result<Option<fs::Metadata>, Failure> {
+    match fs::metadata(path) {
+        Err(error) if error.kind() == ErrorKind::NotFound => Ok(None),
+        Err(error) => Err(unreadable(path, error)),
+        Ok(found) if found.is_file() => Ok(Some(found)),
+        Ok(_) => Err(Failure::Unfit(format!("{} is not a file", text::file_name(path.as_os_str())))),
+    }
 }
 
 /// Who may not give files away leaves the new file his own, as any editor does.
@@ -156,10 +172,14 @@ fn missing_place(path: &Path) -> Result<PathBuf, Failure> {
     Ok(folder.join(name))
 }
 
-/// The name of a helping file beside a file.
+/// How much of a file's name stands in the names of its helping files, so that these are not too long for the system.
+const NAME_BYTES: usize = 240;
+
+/// The name of a helping file beside a file. Files whose long names begin alike share the lock, and so take turns.
 fn hidden(name: &OsStr, ending: &str) -> OsString {
     let mut hidden = OsString::from(".");
-    hidden.push(name);
+    let bytes = name.as_bytes();
+    hidden.push(OsStr::from_bytes(&bytes[..bytes.len().min(NAME_BYTES)]));
     hidden.push(ending);
     hidden
 }
@@ -204,7 +224,7 @@ impl Drop for Lock {
 fn is_at(file: &File, path: &Path) -> io::Result<bool> {
     let ours = file.metadata()?;
     match fs::metadata(path) {
-        Ok(there) => Ok((there.dev(), there.ino()) == (ours.dev(), ours.ino())),
+        Ok(there) => Ok(files::same(&there, &ours)),
         Err(error) if error.kind() == ErrorKind::NotFound => Ok(false),
         Err(error) => Err(error),
     }

@@ -16,6 +16,12 @@ pub fn grouped(number: u64) -> String {
     grouped
 }
 
+/// The number that is written so, with or without its groups.
+pub fn number(word: &str) -> Option<u64> {
+    let number = word.replace(',', "").parse().ok()?;
+    (!word.contains(',') || grouped(number) == word).then_some(number)
+}
+
 /// So many of something, by its word for one and for several.
 pub fn count(number: usize, one: &str, several: &str) -> String {
     format!("{} {}", grouped(number as u64), if number == 1 { one } else { several })
@@ -142,6 +148,8 @@ mod tests {
         assert_eq!(grouped(0), "0");
         assert_eq!(grouped(999), "999");
         assert_eq!(grouped(4_294_967_295), "4,294,967,295");
+        assert_eq!([number("4294967295"), number("4,294,967,295")], [Some(4_294_967_295); 2]);
+        assert_eq!([number("4,29"), number(",429"), number("429,"), number("")], [None; 4]);
         assert_eq!(bytes(1), "1 byte");
         assert_eq!(bytes(1_023), "1,023 bytes");
         assert_eq!(bytes(9_728_000), "9,728,000 bytes (9.3 MiB)");

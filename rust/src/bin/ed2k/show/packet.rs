@@ -8,6 +8,8 @@ use super::sheet::Sheet;
 use super::{met, query, tags};
 use crate::text;
 
+const CLIENT_ID: &str = "Client ID";
+
 /// What records are of.
 #[derive(Clone, Copy)]
 enum Subject {
@@ -56,10 +58,10 @@ fn body(sheet: &mut Sheet<'_>, packet: &Packet<'_>, subject: Subject) -> io::Res
         Body::Query(query) => query::show(sheet, query),
         Body::Hash(hash) => sheet.hash("File hash", *hash),
         Body::Dword(rank) if packet.opcode == 0x5C => sheet.number("rank", *rank),
-        Body::Dword(id) => sheet.client_id(*id),
+        Body::Dword(id) => sheet.client_id(CLIENT_ID, *id),
         Body::TwoDwords(old, new) if packet.opcode == 0x4D => {
-            sheet.client_id(*old)?;
-            sheet.client_id(*new)
+            sheet.client_id("Client ID, old", *old)?;
+            sheet.client_id("Client ID, new", *new)
         }
         Body::TwoDwords(users, files) => population(sheet, *users, *files),
         Body::Text(text) => sheet.text("String", text),
@@ -75,7 +77,7 @@ fn body(sheet: &mut Sheet<'_>, packet: &Packet<'_>, subject: Subject) -> io::Res
         }
         Body::AddressDword { address, number } => {
             sheet.address("Address", *address)?;
-            sheet.client_id(*number)
+            sheet.client_id(CLIENT_ID, *number)
         }
         Body::HashAddressTags { hash, address, tags: list } => {
             sheet.hash("Server hash", *hash)?;
@@ -112,21 +114,24 @@ fn body(sheet: &mut Sheet<'_>, packet: &Packet<'_>, subject: Subject) -> io::Res
             sheet.hash("File hash", *hash)?;
             part_status(sheet, status)
         }
-        Body::StatusRequest { extended, number } => {
-            let form = if *extended { "extended: it ends with AA 5A" } else { "plain" };
-            sheet.item(4, "DWORD", format!("{} ({form})", text::grouped((*number).into())))
-        }
+        Body::StatusRequest { extended: false, number } => sheet.number("DWORD", *number),
+        Body::StatusRequest { extended: true, number } => extension(sheet, &number.to_le_bytes()[..2]),
         Body::Status([request, users, files]) => {
             sheet.item(4, "DWORD", format!("{} (as in the request)", text::grouped((*request).into())))?;
             population(sheet, *users, *files)
         }
         Body::ExtendedStatus { bytes, numbers: [users, files, most] } => {
-            bytes.iter().try_for_each(|byte| sheet.item(1, "BYTE", format!("({byte:02X})")))?;
-            sheet.item(2, "fixed bytes", "(AA 5A)")?;
+            extension(sheet, bytes)?;
             population(sheet, *users, *files)?;
             sheet.item(4, "Nusersmax", format!("{} at most", users_of(*most)))
         }
     }
+}
+
+/// The two bytes of an extended request, which its answer repeats, and those that tell it from a plain one.
+fn extension(sheet: &mut Sheet<'_>, bytes: &[u8]) -> io::Result<()> {
+    bytes.iter().try_for_each(|byte| sheet.item(1, "BYTE", format!("({byte:02X})")))?;
+    sheet.item(2, "fixed bytes", "(AA 5A) extension")
 }
 
 /// How many users and files a server has.
@@ -146,7 +151,7 @@ fn addresses(sheet: &mut Sheet<'_>, list: &Addresses<'_>) -> io::Result<()> {
 
 fn record(sheet: &mut Sheet<'_>, record: &Record<'_>, subject: Subject) -> io::Result<()> {
     sheet.hash(subject.hash(), record.hash)?;
-    sheet.client_id(record.client)?;
+    sheet.client_id(CLIENT_ID, record.client)?;
     sheet.item(2, "Port", record.port)?;
     tags::show(sheet, record.tags.clone())
 }

@@ -75,9 +75,9 @@ impl<'o> Sheet<'o> {
     }
 
     /// A low ID is a number that the server gave; a high one is the client's IP.
-    pub fn client_id(&mut self, id: u32) -> io::Result<()> {
+    pub fn client_id(&mut self, name: &str, id: u32) -> io::Result<()> {
         let kind =
             if id < 1 << 24 { "low ID".to_string() } else { format!("high ID, IP {}", ed2k::dotted(id)) };
-        self.item(4, "Client ID", format!("{} ({kind})", text::grouped(id.into())))
+        self.item(4, name, format!("{} ({kind})", text::grouped(id.into())))
     }
 }
