@@ -1,1 +1,2 @@
 pub mod PartFile
+pub mod Skips

@@ -14,13 +14,14 @@ ghost use Rattle.format.specs.Messages as messages;
 ghost use Rattle.format.specs.Messages.{knownMet, serverMet, partMet};
 ghost use Rattle.format.specs.Layout.{encode};
 ghost use Rattle.format.specs.Rules.{Valid, metOpenings, partCount, blockCount};
-ghost use Rattle.format.specs.Decoding.{andThen, decodeRun, decodeMany, reply, message};
+ghost use Rattle.format.specs.Decoding.{andThen, decodeRun, decodeMany, ends, reply, message};
 ghost use Rattle.format.specs.Order.{decodeDword, decodeHash, decodeCode, decodeCounted};
 ghost use Rattle.format.specs.PacketOrder.{decodeOpening};
 ghost use Rattle.format.specs.MetOrder.{decode, decodeFileEntry, decodeKnownMet, decodeServerEntry, decodeServerMet};
 ghost use Rattle.format.specs.MetOrder.{marks, decodeSecondBlock, decodeHashBlocks, decodePartTags};
 ghost use Rattle.format.specs.MetOrder.{isE0, isE1, decodeEdition, decodePartBody, decodePartMet};
 ghost use Rattle.wire.specs.Meaning.{byteMeaning, itemsIn, ItemsPlaced, itemsMeaning, ItemsStepPlaced, placeBytes};
+ghost use Rattle.tags.specs.Skips.{EndsThere};
 ghost use Rattle.met.specs.Meaning.{fileEntryMeaning, FileEntryStepPlaced, fileEntryFault};
 ghost use Rattle.met.specs.Meaning.{knownMetMeaning, KnownMetStepPlaced, knownMetFault, knownReply, KnownAnswerPlaced};
 ghost use Rattle.met.specs.Meaning.{serverEntryMeaning, ServerEntryStepPlaced, serverEntryFault};
@@ -36,6 +37,7 @@ use parttags::check_part_tags;
 use records::hashes_from;
 use records::read_hashes;
 use tags::read_tags;
+use tags::tag_list_end;
 use wire::ByteStep;
 use wire::Cursor;
 use wire::DoneStep;
@@ -50,6 +52,7 @@ use wire::Rule;
 use wire::WordStep;
 use wire::no_fault;
 use wire::number;
+use wire::pair;
 
 // The largest met file, in bytes: `metCeiling` in the format's rules.
 pub const MET_CEILING: usize = 1048576;
@@ -152,8 +155,45 @@ pub fn read_file_entry(s: &[u8], c: Cursor) -> FileEntryStep
     )
 }
 
+// To go over entries without their values, as crates/tags goes over tags: the place behind what lies whole at a place, or 0 where the tests
+// do not tell.
+
+fn file_entry_end(s: &[u8], at: usize) -> usize
+    ensures { λ r. ⌜ EndsThere (ends (decodeFileEntry (now (s .entry)) at)) r ⌝ }
+{
+    if s.len() < 22 {
+        return 0;
+    }
+    if s.len() - 22 < at {
+        return 0;
+    }
+    let n = pair(s[at + 20], s[at + 21]) as usize;
+    let size = 16 * n;
+    let hashes = at + 22;
+    if s.len() - hashes < size {
+        return 0;
+    }
+    tag_list_end(s, hashes + size)
+}
+
+fn file_entries_end(s: &[u8], at: usize, n: u32) -> usize
+    ensures { λ r. ⌜ EndsThere (ends (decodeMany n decodeFileEntry (now (s .entry)) at)) r ⌝ }
+{
+    let mut next = at;
+    let mut passed: u32 = 0;
+    while passed < n {
+        let end = file_entry_end(s, next);
+        if end == 0 {
+            return 0;
+        }
+        next = end;
+        passed += 1;
+    }
+    next
+}
+
 // n entries one after the other: every entry is read, and none is kept.
-pub fn file_entries_from(s: &[u8], first: Cursor, n: u32) -> ItemsStep
+fn entry_by_entry(s: &[u8], first: Cursor, n: u32) -> ItemsStep
     ensures meaning { λ r. ⌜ itemsMeaning decodeFileEntry (now (s .entry)) r
         ≡ decodeMany n decodeFileEntry (now (s .entry)) (first .at) ⌝ }
     ensures placed { λ r. ⌜ ItemsStepPlaced decodeFileEntry (now (s .entry)) r ⌝ }
@@ -176,6 +216,20 @@ pub fn file_entries_from(s: &[u8], first: Cursor, n: u32) -> ItemsStep
         },
         next,
     )
+}
+
+// n entries one after the other. Where the tests do not tell, they are read again one by one for the fault.
+pub fn file_entries_from(s: &[u8], first: Cursor, n: u32) -> ItemsStep
+    ensures meaning { λ r. ⌜ itemsMeaning decodeFileEntry (now (s .entry)) r
+        ≡ decodeMany n decodeFileEntry (now (s .entry)) (first .at) ⌝ }
+    ensures placed { λ r. ⌜ ItemsStepPlaced decodeFileEntry (now (s .entry)) r ⌝ }
+{
+    let at = first.at;
+    let end = file_entries_end(s, at, n);
+    if end == 0 {
+        return entry_by_entry(s, first, n);
+    }
+    ItemsStep::Got(Items { at, end, count: n }, Cursor { at: end })
 }
 
 // DWORD count, then the entries.

@@ -1,3 +1,4 @@
 pub mod Arms
+pub mod Heads
 pub mod Links
 pub mod Openings

@@ -5,6 +5,7 @@ use mathlib.Core.Bool.{Bool, true, false}
 use mathlib.Core.List.{List, [], _∷_}
 use native.Mathlib.Omega.{arith}
 use lib.Dec.{eqb}
+use borrow.Author.Tests.{eqb-true}
 use Rattle.format.specs.Tables.{pick}
 use Rattle.format.specs.Decoding.{Rule, Outcome, refused, got, andThen, settled, passes, violates}
 use Rattle.format.specs.Order.{decodeByte}
@@ -25,6 +26,6 @@ module _ (k : ℕ) (s : List ℕ) (at : ℕ) {b next : ℕ} where
 
 -- where a step answers with what is decoded
 pub opening-is : (k : ℕ) (s : List ℕ) (at : ℕ) {r : ByteStep} {b : ℕ} {c : Cursor} →
-    r ≡ ByteStep.Got b c → byteMeaning r ≡ decodeOpening (k ∷ []) s at → eqb b k ≡ true
+    r ≡ ByteStep.Got b c → byteMeaning r ≡ decodeOpening (k ∷ []) s at → b ≡ k
 unfolding decodeOpening
-opening-is k s at g e = decoded k s at (decodeByte s at) (rw g at e)
+opening-is k s at g e = eqb-true _ _ (decoded k s at (decodeByte s at) (rw g at e))

@@ -7,8 +7,8 @@ use Rattle.format.specs.Messages as messages
 use Rattle.format.specs.Messages.{Opcodes, serverOpcodes, clientOpcodes, udpOpcodes, server, client, udp, serverLink, clientLink, udpLink}
 use Rattle.format.specs.Layout.{encode}
 use Rattle.format.specs.Rules.{Valid}
-use Rattle.format.specs.Decoding.{Outcome, refused, got, Decoder, Reply, refusedWith, message, reply}
-use Rattle.format.specs.PacketOrder.{decodeTcp, decodeUdp}
+use Rattle.format.specs.Decoding.{Outcome, refused, got, Decoder, _>>=_, pure, Reply, refusedWith, message, reply}
+use Rattle.format.specs.PacketOrder.{decodeBody, decodeTcp, decodeUdp}
 use Rattle.format.specs.MetOrder.{decode}
 use Rattle.wire.specs.declared.Fault.{Fault}
 use Rattle.wire.specs.Meaning.{faultMeaning, noFault}
@@ -17,7 +17,6 @@ use Rattle.packets.specs.declared.Link.{Link}
 use Rattle.packets.specs.declared.Listed.{Listed}
 use Rattle.packets.specs.declared.HeadStep.{HeadStep}
 use Rattle.packets.specs.declared.Packet.{Packet}
-use Rattle.packets.specs.declared.PacketStep.{PacketStep}
 use Rattle.packets.specs.declared.PacketAnswer.{PacketAnswer}
 
 abbrev pub opcodesOf : Link → Opcodes
@@ -38,16 +37,13 @@ abbrev pub headMeaning : HeadStep → Outcome (ℕ × messages.Shape)
 headMeaning (HeadStep.Got n s c) = got (n, shapeOf s) (c .at)
 headMeaning (HeadStep.Refused f) = refused (faultMeaning f)
 
+-- The packet whose head was read: its body lies behind.
+abbrev pub packetBehind : List ℕ → HeadStep → Outcome messages.Packet
+packetBehind s (HeadStep.Got n shape c) = (decodeBody (shapeOf shape) >>= (λ body. pure (record { opening = 0xE3; opcode = n; body = body }))) s (c .at)
+packetBehind s (HeadStep.Refused f) = refused (faultMeaning f)
+
 abbrev pub packetIn : List ℕ → Packet → messages.Packet
 packetIn s p = record { opening = p .opening; opcode = p .opcode; body = bodyIn s (p .body) }
-
-abbrev pub packetMeaning : List ℕ → PacketStep → Outcome messages.Packet
-packetMeaning s (PacketStep.Got p c) = got (packetIn s p) (c .at)
-packetMeaning s (PacketStep.Refused f) = refused (faultMeaning f)
-
-abbrev pub PacketStepPlaced : List ℕ → PacketStep → Type 0
-PacketStepPlaced s (PacketStep.Got p c) = BodyPlaced s (p .body)
-PacketStepPlaced s (PacketStep.Refused f) = Unit {0}
 
 -- What a caller is told.
 abbrev pub packetReply : List ℕ → PacketAnswer → Reply messages.Packet
@@ -72,7 +68,3 @@ LinkAccepts Link.Udp s m = (s ≡ encode udpLink m) × Valid udpLink m
 abbrev pub headFault : HeadStep → Fault
 headFault (HeadStep.Got n s c) = noFault
 headFault (HeadStep.Refused f) = f
-
-abbrev pub packetFault : PacketStep → Fault
-packetFault (PacketStep.Got p c) = noFault
-packetFault (PacketStep.Refused f) = f

@@ -11,9 +11,9 @@ ghost use Rattle.format.specs.Messages as messages;
 ghost use Rattle.format.specs.Decoding.{message};
 ghost use Rattle.format.specs.PacketOrder.{decodeOpening, decodeLength, decodeOpcode, decodeTcp, decodeUdp};
 ghost use Rattle.wire.specs.Meaning.{byteMeaning, dwordMeaning};
-ghost use Rattle.packets.specs.Meaning.{opcodesOf, decodeLink, shapeMeaning, headMeaning, packetMeaning, PacketStepPlaced};
+ghost use Rattle.packets.specs.Meaning.{opcodesOf, decodeLink, shapeMeaning, headMeaning, packetBehind};
 ghost use Rattle.packets.specs.Meaning.{packetReply, PacketPlaced, linkReply, LinkAccepts};
-ghost use Rattle.packets.specs.Meaning.{headFault, packetFault};
+ghost use Rattle.packets.specs.Meaning.{headFault};
 use bodies::Body;
 use bodies::BodyStep;
 use bodies::Shape;
@@ -52,11 +52,6 @@ pub enum HeadStep {
     Refused(Fault),
 }
 
-pub enum PacketStep {
-    Got(Packet, Cursor),
-    Refused(Fault),
-}
-
 // What a caller gets for the bytes of a packet: the packet, or the number of the refusal.
 pub enum PacketAnswer {
     Accepted(Packet),
@@ -70,17 +65,6 @@ impl HeadStep {
         match self {
             HeadStep::Got(_, _, _) => no_fault(),
             HeadStep::Refused(f) => f,
-        }
-    }
-}
-
-impl PacketStep {
-    pub fn fault(self) -> Fault
-        ensures { λ r. ⌜ r ≡ packetFault self ⌝ }
-    {
-        match self {
-            PacketStep::Got(_, _) => no_fault(),
-            PacketStep::Refused(f) => f,
         }
     }
 }
@@ -232,76 +216,44 @@ fn read_opcode(s: &[u8], c: Cursor, link: Link) -> HeadStep
     HeadStep::Got(code, shape, next)
 }
 
-// A TCP packet of a link: opening byte, length, opcode, body.
-fn read_tcp(s: &[u8], link: Link) -> PacketStep
-    ensures meaning { λ r. ⌜ packetMeaning (now (s .entry)) r ≡ decodeTcp ((0xE3, opcodesOf link) ∷ []) (now (s .entry)) 0 ⌝ }
-    ensures placed { λ r. ⌜ PacketStepPlaced (now (s .entry)) r ⌝ }
+// The head of a TCP packet of a link: opening byte, length, opcode.
+fn read_tcp_head(s: &[u8], link: Link) -> HeadStep
+    ensures { λ r. ⌜ packetBehind (now (s .entry)) r ≡ decodeTcp ((0xE3, opcodesOf link) ∷ []) (now (s .entry)) 0 ⌝ }
 {
     let o = read_opening(s, Cursor { at: 0 });
-    let ByteStep::Got(opening, after_opening) = o else {
-        return PacketStep::Refused(o.fault());
+    let ByteStep::Got(_, after_opening) = o else {
+        return HeadStep::Refused(o.fault());
     };
     let d = read_length(s, after_opening);
     let DwordStep::Got(_, after_length) = d else {
-        return PacketStep::Refused(d.fault());
+        return HeadStep::Refused(d.fault());
     };
-    let h = read_opcode(s, after_length, link);
-    let HeadStep::Got(code, shape, after_opcode) = h else {
-        return PacketStep::Refused(h.fault());
-    };
-    let b = read_body(s, after_opcode, shape);
-    let BodyStep::Got(body, next) = b else {
-        return PacketStep::Refused(b.fault());
-    };
-    PacketStep::Got(
-        Packet {
-            opening,
-            opcode: code,
-            body,
-        },
-        next,
-    )
+    read_opcode(s, after_length, link)
 }
 
-// A UDP packet: opening byte, opcode, body.
-fn read_datagram(s: &[u8], link: Link) -> PacketStep
-    ensures meaning { λ r. ⌜ packetMeaning (now (s .entry)) r ≡ decodeUdp ((0xE3, opcodesOf link) ∷ []) (now (s .entry)) 0 ⌝ }
-    ensures placed { λ r. ⌜ PacketStepPlaced (now (s .entry)) r ⌝ }
+// The head of a UDP packet: opening byte, opcode.
+fn read_udp_head(s: &[u8], link: Link) -> HeadStep
+    ensures { λ r. ⌜ packetBehind (now (s .entry)) r ≡ decodeUdp ((0xE3, opcodesOf link) ∷ []) (now (s .entry)) 0 ⌝ }
 {
     let o = read_opening(s, Cursor { at: 0 });
-    let ByteStep::Got(opening, after_opening) = o else {
-        return PacketStep::Refused(o.fault());
+    let ByteStep::Got(_, after_opening) = o else {
+        return HeadStep::Refused(o.fault());
     };
-    let h = read_opcode(s, after_opening, link);
-    let HeadStep::Got(code, shape, after_opcode) = h else {
-        return PacketStep::Refused(h.fault());
-    };
-    let b = read_body(s, after_opcode, shape);
-    let BodyStep::Got(body, next) = b else {
-        return PacketStep::Refused(b.fault());
-    };
-    PacketStep::Got(
-        Packet {
-            opening,
-            opcode: code,
-            body,
-        },
-        next,
-    )
+    read_opcode(s, after_opening, link)
 }
 
-fn read_framed(s: &[u8], link: Link) -> PacketStep
-    ensures meaning { λ r. ⌜ packetMeaning (now (s .entry)) r ≡ decodeLink link (now (s .entry)) 0 ⌝ }
-    ensures placed { λ r. ⌜ PacketStepPlaced (now (s .entry)) r ⌝ }
+fn read_head(s: &[u8], link: Link) -> HeadStep
+    ensures { λ r. ⌜ packetBehind (now (s .entry)) r ≡ decodeLink link (now (s .entry)) 0 ⌝ }
 {
     match link {
-        Link::Server => read_tcp(s, Link::Server),
-        Link::Client => read_tcp(s, Link::Client),
-        Link::Udp => read_datagram(s, Link::Udp),
+        Link::Server => read_tcp_head(s, Link::Server),
+        Link::Client => read_tcp_head(s, Link::Client),
+        Link::Udp => read_udp_head(s, Link::Udp),
     }
 }
 
-// The packet that the bytes are on a link, if they are exactly one.
+// The packet that the bytes are on a link, if they are exactly one. The body is taken from its reader straight into the answer: it is the
+// largest value of a packet, and each further copy of it is felt.
 pub fn read_packet(s: &[u8], link: Link) -> PacketAnswer
     ensures meaning { λ r. ⌜ packetReply (now (s .entry)) r ≡ linkReply link (now (s .entry)) ⌝ }
     ensures placed { λ r. ⌜ PacketPlaced (now (s .entry)) r ⌝ }
@@ -310,13 +262,21 @@ pub fn read_packet(s: &[u8], link: Link) -> PacketAnswer
     if 65536 < s.len() {
         return PacketAnswer::Refused(number(Rule::BytesCeiling));
     }
-    let p = read_framed(s, link);
-    let PacketStep::Got(packet, next) = p else {
-        return PacketAnswer::Refused(p.fault().number());
+    let h = read_head(s, link);
+    let HeadStep::Got(opcode, shape, after_opcode) = h else {
+        return PacketAnswer::Refused(h.fault().number());
+    };
+    let b = read_body(s, after_opcode, shape);
+    let BodyStep::Got(body, next) = b else {
+        return PacketAnswer::Refused(b.fault().number());
     };
     let end = next.at;
     if end == s.len() {
-        return PacketAnswer::Accepted(packet);
+        return PacketAnswer::Accepted(Packet {
+            opening: OPENING,
+            opcode,
+            body,
+        });
     }
     PacketAnswer::Refused(number(Rule::Rest))
 }

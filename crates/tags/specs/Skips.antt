@@ -3,7 +3,7 @@ use mathlib.Core.Path.{_≡_}
 use mathlib.Core.Logic.{_⊎_}
 use mathlib.Core.Option.{Option, none, some}
 use mathlib.Core.List.{List}
-use Prim.Native.Nat.{ℕ}
+use Prim.Native.Nat.{ℕ, _+_}
 use Rattle.format.specs.Messages.{TagType, dwordType, floatType, hashType, stringType}
 use Rattle.format.specs.Decoding.{Outcome, choice, ends, fault, got, refused}
 use Rattle.format.specs.Order.{decodeValueOf}
@@ -12,22 +12,20 @@ use Rattle.format.specs.Order.{decodeValueOf}
 abbrev pub EndsThere : Outcome (Unit {0}) → ℕ → Type 0
 EndsThere o r = (r ≡ 0) ⊎ (o ≡ got tt r)
 
+-- The place behind what lies there, or 0 where it is refused.
+abbrev pub placeBehind : {A : Type 0} → Outcome A → ℕ
+placeBehind (refused f) = 0
+placeBehind (got a next) = next
+
 -- The value of a type that is listed.
 abbrev pub valueEnds : Option TagType → List ℕ → ℕ → Outcome (Unit {0})
 valueEnds none s at = refused (fault choice at 0)
 valueEnds (some t) s at = ends (decodeValueOf t s at)
 
--- A value has at least so many bytes, and a text as many more as the WORD that it begins with says.
-abbrev pub leastWidth : Option TagType → ℕ
-leastWidth none = 0
-leastWidth (some hashType) = 16
-leastWidth (some stringType) = 2
-leastWidth (some dwordType) = 4
-leastWidth (some floatType) = 4
-
-abbrev pub moreBytes : Option TagType → ℕ → ℕ
-moreBytes none n = 0
-moreBytes (some hashType) n = 0
-moreBytes (some stringType) n = n
-moreBytes (some dwordType) n = 0
-moreBytes (some floatType) n = 0
+-- How many bytes a value has whose first WORD is n: only a text is as long as it says.
+abbrev pub valueSize : Option TagType → ℕ → ℕ
+valueSize none n = 0
+valueSize (some hashType) n = 16
+valueSize (some stringType) n = n + 2
+valueSize (some dwordType) n = 4
+valueSize (some floatType) n = 4

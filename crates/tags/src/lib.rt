@@ -8,23 +8,23 @@
 ghost use mathlib.Core.Path.{_≡_};
 ghost use mathlib.Core.List.{List};
 ghost use mathlib.Core.Logic.{_↔_};
-ghost use Prim.Native.Nat.{_+_, _*_, _≤_};
+ghost use Prim.Native.Nat.{_+_, _*_, _≤_, _<_};
 ghost use lib.ListN.{length};
+ghost use lib.Dec.{eqb};
 ghost use Rattle.format.specs.Messages as messages;
 ghost use Rattle.format.specs.Messages.{loneTags};
 ghost use Rattle.format.specs.Layout.{encodeTags};
 ghost use Rattle.format.specs.Rules.{Valid};
-ghost use Rattle.format.specs.Tables.{lookup};
+ghost use Rattle.format.specs.Tables.{lookup, pick};
 ghost use Rattle.format.specs.Decoding.{decodeMany, ends, reply, message};
 ghost use Rattle.format.specs.Order.{decodeType, decodeValue, decodeTag, decodeTags, tagTypes};
 ghost use Rattle.format.specs.MetOrder.{decode};
-ghost use Rattle.wire.specs.Meaning.{doneMeaning, itemsMeaning, ItemsStepPlaced};
+ghost use Rattle.wire.specs.Meaning.{itemsMeaning, ItemsStepPlaced};
 ghost use Rattle.tags.specs.Meaning.{typeOf, typeMeaning, valueMeaning, tagMeaning, tagListReply, TagListPlaced};
-ghost use Rattle.tags.specs.Skips.{EndsThere, leastWidth, moreBytes, valueEnds};
+ghost use Rattle.tags.specs.Skips.{EndsThere, placeBehind, valueSize, valueEnds};
 ghost use Rattle.tags.specs.Meaning.{typeFault, valueFault, tagFault};
 use wire::ByteStep;
 use wire::Cursor;
-use wire::DoneStep;
 use wire::DwordStep;
 use wire::Fault;
 use wire::HashStep;
@@ -189,100 +189,107 @@ pub fn read_tag(s: &[u8], c: Cursor) -> TagStep
     )
 }
 
-// To go over a tag without its values, most tags need a few tests and no step of the cursor. Each function below answers with the place
+// To go over tags without their values, most of them need a few tests and no step of the cursor. Each function below answers with the place
 // behind what lies whole at a place, or with 0 where its tests do not tell: nothing ends at 0.
 
-// How many bytes a value of a type has at least, a text the WORD of its length; 0 for a code that is no type.
-fn least_width(code: u8) -> usize
-    ensures { λ r. ⌜ r ≡ leastWidth (lookup tagTypes code) ⌝ }
+// How many bytes a value has that is no text.
+fn fixed_width(code: u8) -> usize
+    ensures { λ r. ⌜ r ≡ pick (eqb code 1) 16 4 ⌝ }
 {
-    match code {
-        1 => 16,
-        2 => 2,
-        3 => 4,
-        4 => 4,
-        _ => 0,
-    }
+    if code == 1 { 16 } else { 4 }
 }
 
-// How many bytes more a value has whose first two bytes are these: only a text has.
-fn more_bytes(code: u8, a: u8, b: u8) -> usize
-    ensures { λ r. ⌜ r ≡ moreBytes (lookup tagTypes code) (a + 256 * b) ⌝ }
+// How many bytes a value has, of which these are the first two: a text has those that they count, and themselves. Both numbers are made
+// before one is chosen, since in a list of many types a jump by the type would be guessed wrong often.
+fn value_size(code: u8, a: u8, b: u8) -> usize
+    requires { ⌜ 0 < code ⌝ }
+    requires { ⌜ code ≤ 4 ⌝ }
+    ensures { λ r. ⌜ r ≡ valueSize (lookup tagTypes code) (a + 256 * b) ⌝ }
 {
-    let n = pair(a, b) as usize;
-    if code == 2 { n } else { 0 }
+    let fixed = fixed_width(code);
+    let text = pair(a, b) as usize + 2;
+    if code == 2 { text } else { fixed }
 }
 
-// A value, by the code of its type. Nothing is chosen by the type but numbers, since in a list of many types a jump would be guessed
-// wrong often.
+// A value, by the code of its type.
 fn value_end(s: &[u8], at: usize, code: u8) -> usize
     requires { ⌜ at ≤ length (now s) ⌝ }
     ensures { λ r. ⌜ EndsThere (valueEnds (lookup tagTypes code) (now (s .entry)) at) r ⌝ }
 {
-    let width = least_width(code);
-    if width < 2 {
+    if code == 0 {
         return 0;
     }
-    if s.len() - at < width {
+    if 4 < code {
         return 0;
     }
-    let more = more_bytes(code, s[at], s[at + 1]);
-    let rest = at + width;
-    if s.len() - rest < more {
+    let room = s.len() - at;
+    if room < 2 {
         return 0;
     }
-    rest + more
+    let size = value_size(code, s[at], s[at + 1]);
+    if room < size {
+        return 0;
+    }
+    at + size
 }
 
+// Most names have one byte. Where that is guessed right, the place of the value is known before the length of the name is.
 fn tag_end(s: &[u8], at: usize) -> usize
     ensures { λ r. ⌜ EndsThere (ends (decodeTag (now (s .entry)) at)) r ⌝ }
 {
-    if s.len() < 3 {
+    if s.len() < 4 {
         return 0;
     }
-    if s.len() - 3 < at {
+    if s.len() - 4 < at {
         return 0;
     }
-    let n = pair(s[at + 1], s[at + 2]) as usize;
-    if n == 0 {
+    let high = s[at + 2];
+    if high != 0 {
         return 0;
     }
-    if 255 < n {
+    let low = s[at + 1];
+    let code = s[at];
+    if low == 1 {
+        return value_end(s, at + 4, code);
+    }
+    if low == 0 {
         return 0;
     }
+    let n = low as usize;
     let name = at + 3;
     if s.len() - name < n {
         return 0;
     }
-    value_end(s, name + n, s[at])
+    value_end(s, name + n, code)
 }
 
-// The place behind a tag, or the fault that `read_tag` finds.
-pub fn skip_tag(s: &[u8], c: Cursor) -> DoneStep
-    ensures { λ r. ⌜ doneMeaning r ≡ ends (decodeTag (now (s .entry)) (c .at)) ⌝ }
+// n tags one after the other.
+fn tags_end(s: &[u8], at: usize, n: u32) -> usize
+    ensures { λ r. ⌜ EndsThere (ends (decodeMany n decodeTag (now (s .entry)) at)) r ⌝ }
 {
-    let end = tag_end(s, c.at);
-    if end != 0 {
-        return DoneStep::Got(Cursor { at: end });
+    let mut next = at;
+    let mut passed: u32 = 0;
+    while passed < n {
+        let end = tag_end(s, next);
+        if end == 0 {
+            return 0;
+        }
+        next = end;
+        passed += 1;
     }
-    let t = read_tag(s, c);
-    let TagStep::Got(_, next) = t else {
-        return DoneStep::Refused(t.fault());
-    };
-    DoneStep::Got(next)
+    next
 }
 
-// n tags one after the other. Every tag is gone over, so that the list handed back is known to lie there whole; a count that is too high
-// ends at the first missing tag.
-pub fn tags_from(s: &[u8], first: Cursor, n: u32) -> ItemsStep
+// n tags one after the other, each read by itself. A count that is too high ends at the first missing tag.
+fn tag_by_tag(s: &[u8], first: Cursor, n: u32) -> ItemsStep
     ensures meaning { λ r. ⌜ itemsMeaning decodeTag (now (s .entry)) r ≡ decodeMany n decodeTag (now (s .entry)) (first .at) ⌝ }
     ensures placed { λ r. ⌜ ItemsStepPlaced decodeTag (now (s .entry)) r ⌝ }
 {
     let mut next = first;
     let mut i: u32 = 0;
     while i < n {
-        let t = skip_tag(s, next);
-        let DoneStep::Got(after) = t else {
+        let t = read_tag(s, next);
+        let TagStep::Got(_, after) = t else {
             return ItemsStep::Refused(t.fault());
         };
         next = after;
@@ -296,6 +303,40 @@ pub fn tags_from(s: &[u8], first: Cursor, n: u32) -> ItemsStep
         },
         next,
     )
+}
+
+// n tags one after the other. Every tag is gone over, so that the list handed back is known to lie there whole; where the tests do not tell,
+// the tags are read again one by one for the fault.
+pub fn tags_from(s: &[u8], first: Cursor, n: u32) -> ItemsStep
+    ensures meaning { λ r. ⌜ itemsMeaning decodeTag (now (s .entry)) r ≡ decodeMany n decodeTag (now (s .entry)) (first .at) ⌝ }
+    ensures placed { λ r. ⌜ ItemsStepPlaced decodeTag (now (s .entry)) r ⌝ }
+{
+    let at = first.at;
+    let end = tags_end(s, at, n);
+    if end == 0 {
+        return tag_by_tag(s, first, n);
+    }
+    ItemsStep::Got(Items { at, end, count: n }, Cursor { at: end })
+}
+
+// The place behind a tag list; 0 for one that is refused.
+pub fn tag_list_end(s: &[u8], at: usize) -> usize
+    ensures { λ r. ⌜ r ≡ placeBehind (decodeTags (now (s .entry)) at) ⌝ }
+{
+    let c = Cursor { at };
+    let d = c.dword(s);
+    let DwordStep::Got(n, first) = d else {
+        return 0;
+    };
+    let end = tags_end(s, first.at, n);
+    if end != 0 {
+        return end;
+    }
+    let t = tag_by_tag(s, first, n);
+    let ItemsStep::Got(_, next) = t else {
+        return 0;
+    };
+    next.at
 }
 
 // A tag list: DWORD count, then the tags.

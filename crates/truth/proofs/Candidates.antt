@@ -16,7 +16,7 @@ use Rattle.format.specs.Order.{checkNameLength, decodeByte, decodeCode, decodeD
 use Rattle.format.specs.Truth.{onString, onDword, stringTag, dwordTag}
 use Rattle.format.proofs.Codec.{lookup-code, never, same-place, same-value, Went, went}
 use Rattle.format.proofs.There.{byte-there, value-is, word-there}
-use Rattle.tags.specs.Skips.{leastWidth, moreBytes}
+use Rattle.tags.specs.Skips.{valueSize}
 use Rattle.truth.specs.Meaning.{Lies, LooksFor, Passes, isOf, onItem, tagsFrom}
 use Rattle.truth.specs.declared.Spot.{Spot}
 use Rattle.truth.proofs.Found.{rest-lies, some-step}
@@ -98,7 +98,7 @@ name-was s at n {name} {next} is e =
 
 -- How many bytes a value has, where it lies.
 abbrev width : TagType → List ℕ → ℕ → ℕ
-width k s at = leastWidth (some k) + moreBytes (some k) (getD s at 0 + 256 * getD s (at + 1) 0)
+width k s at = valueSize (some k) (getD s at 0 + 256 * getD s (at + 1) 0)
 
 value-spans : (k : TagType) (s : List ℕ) (at : ℕ) {v : TagValue k} {next : ℕ} → decodeValueOf k s at ≡ got v next → (at + width k s at ≤ length s) × (next ≡ at + width k s at)
 unfolding decodeHash decodeString

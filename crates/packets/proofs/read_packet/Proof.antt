@@ -17,11 +17,11 @@ returns c =
     (rw (c .number .ensures, lt-leb _ _ (c .before .if1 .taken)) refl)
     tt
 
-read-framed-requires : tie.Need-read-framed-requires
-read-framed-requires c κs = search needs
+read-head-requires : tie.Need-read-head-requires
+read-head-requires c κs = search needs
 
-enum-known-p : tie.Need-enum-known-p
-enum-known-p c = search needs
+enum-known-h : tie.Need-enum-known-h
+enum-known-h c = search needs
 
 enum-told : tie.Need-enum-told
 enum-told c = search needs
@@ -34,40 +34,85 @@ number-requires-2 c κs = search needs
 
 returns-2 : tie.Need-returns-2
 returns-2 c =
-    let b = c .before .before .before .before in
-    let args = b .before .before .before .args in
-    exact-link (args .link) (now (args .s)) (b .before .before .shared-slice-known .given)
+    let h = c .before .before .before .before in
+    let args = h .before .before .before .args in
+    exact-link (args .link) (now (args .s)) (h .before .before .shared-slice-known .given)
     (rw (
       c .number2 .ensures,
       c .before .fault .ensures,
-      le-leb _ _ (b .before .if1 .left),
-      ← b .read-framed .ensures .0,
+      le-leb _ _ (h .before .if1 .left),
+      ← h .read-head .ensures,
       c .before .before .enum-told .given .1,
     )
     refl)
     tt
 
-returns-3 : tie.Need-returns-3
-returns-3 c =
-    let b = c .before .before .before .before in
-    let args = b .before .before .before .args in
-    exact-link (args .link) (now (args .s)) (b .before .before .shared-slice-known .given)
-    (rw (le-leb _ _ (b .before .if1 .left), ← b .read-framed .ensures .0, c .before .before .p .given .1, eq-eqb _ _ (c .if2 .taken)) refl)
-    (rw (c .before .before .p .given .1) at (b .read-framed .ensures .1))
+read-body-requires : tie.Need-read-body-requires
+read-body-requires c κs = search needs
+
+enum-known-b : tie.Need-enum-known-b
+enum-known-b c = search needs
+
+enum-told-2 : tie.Need-enum-told-2
+enum-told-2 c = search needs
+
+fault-requires-2 : tie.Need-fault-requires-2
+fault-requires-2 c κs = search needs
 
 number-requires-3 : tie.Need-number-requires-3
 number-requires-3 c κs = search needs
 
-returns-4 : tie.Need-returns-4
-returns-4 c =
-    let b = c .before .before .before .before .before in
-    let args = b .before .before .before .args in
-    exact-link (args .link) (now (args .s)) (b .before .before .shared-slice-known .given)
+returns-3 : tie.Need-returns-3
+returns-3 c =
+    let b = c .before .before .before .before in
+    let h = b .before .before .before .before in
+    let args = h .before .before .before .args in
+    exact-link (args .link) (now (args .s)) (h .before .before .shared-slice-known .given)
     (rw (
       c .number3 .ensures,
-      le-leb _ _ (b .before .if1 .left),
-      ← b .read-framed .ensures .0,
-      c .before .before .before .p .given .1,
+      c .before .fault2 .ensures,
+      le-leb _ _ (h .before .if1 .left),
+      ← h .read-head .ensures,
+      b .before .before .h .given .1,
+      ← b .read-body .ensures .0,
+      c .before .before .enum-told2 .given .1,
+    )
+    refl)
+    tt
+
+returns-4 : tie.Need-returns-4
+returns-4 c =
+    let b = c .before .before .before .before in
+    let h = b .before .before .before .before in
+    let args = h .before .before .before .args in
+    exact-link (args .link) (now (args .s)) (h .before .before .shared-slice-known .given)
+    (rw (
+      le-leb _ _ (h .before .if1 .left),
+      ← h .read-head .ensures,
+      b .before .before .h .given .1,
+      ← b .read-body .ensures .0,
+      c .before .before .b .given .1,
+      eq-eqb _ _ (c .if2 .taken),
+    )
+    refl)
+    (rw (c .before .before .b .given .1) at (b .read-body .ensures .1))
+
+number-requires-4 : tie.Need-number-requires-4
+number-requires-4 c κs = search needs
+
+returns-5 : tie.Need-returns-5
+returns-5 c =
+    let b = c .before .before .before .before .before in
+    let h = b .before .before .before .before in
+    let args = h .before .before .before .args in
+    exact-link (args .link) (now (args .s)) (h .before .before .shared-slice-known .given)
+    (rw (
+      c .number4 .ensures,
+      le-leb _ _ (h .before .if1 .left),
+      ← h .read-head .ensures,
+      b .before .before .h .given .1,
+      ← b .read-body .ensures .0,
+      c .before .before .before .b .given .1,
       ne-eqb _ _ (c .before .if2 .left),
     )
     refl)
@@ -79,12 +124,18 @@ read-packet-spec =
     (tie.spec
     number-requires
     returns
-    read-framed-requires
-    enum-known-p
+    read-head-requires
+    enum-known-h
     enum-told
     fault-requires
     number-requires-2
     returns-2
-    returns-3
+    read-body-requires
+    enum-known-b
+    enum-told-2
+    fault-requires-2
     number-requires-3
-    returns-4)
+    returns-3
+    returns-4
+    number-requires-4
+    returns-5)

@@ -1,66 +1,26 @@
-use Prim.Native.Nat.{_-_}
+use mathlib.Core.Logic.{⊎-elim}
+use denote.Ref.{now}
+use Rattle.format.specs.Decoding.{decodeMany}
 use Rattle.format.specs.Order.{decodeTag}
+use Rattle.format.proofs.Many.{ends-items}
 use borrow.Author.Needs.{needs}
-use Rattle.wire.proofs.Loops.{ReadUpTo, begins, goes-over, refuses-over, finishes}
 use Rattle.tags.proofs.tags_from.Statement.{statement}
 use Rattle.tags.proofs.tags_from.Tie as tie
 
-abbrev Inv-loop : tie.InvT-loop
-Inv-loop s first n next₀ i₀ next i = ReadUpTo decodeTag s (first .at) n i (next .at)
+tags-end-requires : tie.Need-tags-end-requires
+tags-end-requires c κs = search needs
 
-abbrev μ-loop : tie.MeasureT-loop
-μ-loop s first n next₀ i₀ next i = n - i
+tag-by-tag-requires : tie.Need-tag-by-tag-requires
+tag-by-tag-requires c κs = search needs
 
-loop-holds : tie.Need-loop-holds Inv-loop μ-loop
-loop-holds c = begins decodeTag _ _ _
+returns : tie.Need-returns
+returns c = search needs
 
-skip-tag-requires : tie.Need-skip-tag-requires Inv-loop μ-loop
-skip-tag-requires c κs = search needs
-
-enum-known-t : tie.Need-enum-known-t Inv-loop μ-loop
-enum-known-t c = search needs
-
-enum-told : tie.Need-enum-told Inv-loop μ-loop
-enum-told c = search needs
-
-fault-requires : tie.Need-fault-requires Inv-loop μ-loop
-fault-requires c κs = search needs
-
-returns : tie.Need-returns Inv-loop μ-loop
-returns c =
-    let l = c .before .before .before .before in
-    let told = c .before .enum-told .given .1 in
-    let read = rw told at (c .before .before .before .skip-tag .ensures) in
-    rw (c .fault .ensures, told) (refuses-over decodeTag _ _ _ _ _ (l .loop-test .taken) (l .before .loop .inv) read)
-
-add-i : tie.Need-add-i Inv-loop μ-loop
-add-i c = search needs
-
-loop-less : tie.Need-loop-less Inv-loop μ-loop
-loop-less c = search needs
-
-loop-again : tie.Need-loop-again Inv-loop μ-loop
-loop-again c =
-    let l = c .before .before .before .before in
-    let read = rw (c .before .t .given .1) at (c .before .before .before .skip-tag .ensures) in
-    goes-over decodeTag _ _ _ _ _ (l .loop-test .taken) (l .before .loop .inv) read
-
-returns-2 : tie.Need-returns-2 Inv-loop μ-loop
-returns-2 c = finishes decodeTag _ _ _ _ _ (c .loop-test .left) (c .before .loop .inv)
+returns-2 : tie.Need-returns-2
+returns-2 c =
+    let a = c .before .before .before .args in
+    let end = ⊎-elim (λ z. absurd (c .if1 .left z)) (λ e. e) (c .before .tags-end .ensures) in
+    (ends-items (decodeMany (a .n) decodeTag (now (a .s)) (a .first .at)) _ end, end)
 
 pub tags-from-spec : {M : Type 1} → statement M
-tags-from-spec =
-    tie.close
-    (tie.spec
-    Inv-loop
-    μ-loop
-    loop-holds
-    skip-tag-requires
-    enum-known-t
-    enum-told
-    fault-requires
-    returns
-    add-i
-    loop-less
-    loop-again
-    returns-2)
+tags-from-spec = tie.close (tie.spec tags-end-requires tag-by-tag-requires returns returns-2)

@@ -1,0 +1,70 @@
+use mathlib.Core.Path.{refl}
+use denote.Ref.{now}
+use Rattle.format.specs.Decoding.{decodeMany}
+use Rattle.format.specs.Order.{decodeCounted, decodeTag, decodeTags}
+use Rattle.tags.proofs.Skips.{ends-behind}
+use borrow.Author.Needs.{needs}
+use Rattle.tags.proofs.tag_list_end.Statement.{statement}
+use Rattle.tags.proofs.tag_list_end.Tie as tie
+
+dword-requires : tie.Need-dword-requires
+dword-requires c κs = search needs
+
+enum-known-d : tie.Need-enum-known-d
+enum-known-d c = search needs
+
+enum-told : tie.Need-enum-told
+enum-told c = search needs
+
+returns : tie.Need-returns
+unfolding decodeTags decodeCounted
+returns c = rw (← c .before .before .dword .ensures, c .enum-told .given .1) refl
+
+tags-end-requires : tie.Need-tags-end-requires
+tags-end-requires c κs = search needs
+
+returns-2 : tie.Need-returns-2
+unfolding decodeTags decodeCounted
+returns-2 c =
+    let b = c .before .before .before in
+    let s = now (b .before .before .before .before .args .s) in
+    let read = b .d .given .0 in
+    rw (← b .before .before .dword .ensures, b .d .given .1)
+    (ends-behind (decodeMany (read .0) decodeTag s (read .1 .0 .at)) (c .before .tags-end .ensures) (c .if1 .taken))
+
+tag-by-tag-requires : tie.Need-tag-by-tag-requires
+tag-by-tag-requires c κs = search needs
+
+enum-known-t : tie.Need-enum-known-t
+enum-known-t c = search needs
+
+enum-told-2 : tie.Need-enum-told-2
+enum-told-2 c = search needs
+
+returns-3 : tie.Need-returns-3
+unfolding decodeTags decodeCounted
+returns-3 c =
+    let b = c .before .before .before .before .before .before in
+    rw (← b .before .before .dword .ensures, b .d .given .1, ← c .before .before .tag-by-tag .ensures .0, c .enum-told2 .given .1) refl
+
+returns-4 : tie.Need-returns-4
+unfolding decodeTags decodeCounted
+returns-4 c =
+    let b = c .before .before .before .before .before .before .before in
+    rw (← b .before .before .dword .ensures, b .d .given .1, ← c .before .before .before .tag-by-tag .ensures .0, c .before .t .given .1) refl
+
+pub tag-list-end-spec : {M : Type 1} → statement M
+tag-list-end-spec =
+    tie.close
+    (tie.spec
+    dword-requires
+    enum-known-d
+    enum-told
+    returns
+    tags-end-requires
+    returns-2
+    tag-by-tag-requires
+    enum-known-t
+    enum-told-2
+    returns-3
+    returns-4)
