@@ -1,4 +1,4 @@
--- A packet's answer is an answer of the one reading call.
+-- A packet's answer, and that of a known.met, is an answer of the one reading call.
 use Prim.Native.Nat.{ℕ}
 use mathlib.Core.Path.{_≡_, ap}
 use mathlib.Core.List.{List}
@@ -6,7 +6,12 @@ use mathlib.Core.Option.{some}
 use Rattle.packets.specs.declared.Link.{Link}
 use Rattle.packets.specs.declared.PacketAnswer.{PacketAnswer}
 use Rattle.packets.specs.Meaning.{PacketPlaced, linkReply, packetReply}
-use Rattle.reader.specs.Meaning.{fromPacket}
+use Rattle.format.specs.Messages.{knownMet}
+use Rattle.format.specs.Decoding.{reply}
+use Rattle.format.specs.MetOrder.{decode}
+use Rattle.met.specs.declared.KnownAnswer.{KnownAnswer}
+use Rattle.met.specs.Meaning.{KnownAnswerPlaced, knownReply}
+use Rattle.reader.specs.Meaning.{fromKnown, fromPacket}
 use Rattle.ed2k.specs.Calls.{MessageRead, Numbered, linkKind, messageRead}
 
 pub link-read : (link : Link) (s old : List ℕ) (a : PacketAnswer) (r : Numbered) → packetReply s a ≡ linkReply link s → PacketPlaced s a →
@@ -17,3 +22,8 @@ link-read Link.Client s old (PacketAnswer.Accepted p) r e h q = (fromPacket (Pac
 link-read Link.Client s old (PacketAnswer.Refused n) r e h q = (fromPacket (PacketAnswer.Refused n), ap some e, h, q)
 link-read Link.Udp s old (PacketAnswer.Accepted p) r e h q = (fromPacket (PacketAnswer.Accepted p), ap some e, h, q)
 link-read Link.Udp s old (PacketAnswer.Refused n) r e h q = (fromPacket (PacketAnswer.Refused n), ap some e, h, q)
+
+pub known-read : (s old : List ℕ) (a : KnownAnswer) (r : Numbered) → knownReply s a ≡ reply (decode knownMet s) → KnownAnswerPlaced s a →
+    r ≡ messageRead (fromKnown a) old → MessageRead knownMet s old r
+known-read s old (KnownAnswer.Accepted m) r e h q = (fromKnown (KnownAnswer.Accepted m), ap some e, h, q)
+known-read s old (KnownAnswer.Refused n) r e h q = (fromKnown (KnownAnswer.Refused n), ap some e, h, q)

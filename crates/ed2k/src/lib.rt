@@ -8,7 +8,7 @@ ghost use Prim.Native.Nat.{_+_, _≤_, _<_};
 ghost use lib.ListN.{length, getD};
 ghost use lib.Dec.{eqb};
 ghost use Rattle.format.specs.Tables.{pick, lookup};
-ghost use Rattle.format.specs.Messages.{partMet};
+ghost use Rattle.format.specs.Messages.{knownMet, partMet};
 ghost use Rattle.format.specs.Rules.{partCount, blockCount};
 ghost use Rattle.format.specs.Decoding.{reply};
 ghost use Rattle.format.specs.Order.{decodeAddress};
@@ -41,6 +41,7 @@ use marking::GAP_NUMBERS;
 use marking::mark_numbers;
 use met::FileEntry;
 use met::FileEntryStep;
+use met::KnownAnswer;
 use met::ServerEntry;
 use met::ServerEntryStep;
 use packets::Link;
@@ -112,6 +113,20 @@ fn read_link(link: Link, bytes: &[u8], fields: &mut [u64]) -> u8
     }
 }
 
+// So does a known.met: what a short file costs beside its bytes is mostly the copies of its answer.
+fn read_known(bytes: &[u8], fields: &mut [u64]) -> u8
+    ensures { λ r. ⌜ MessageRead knownMet (now (bytes .entry)) (now (fields .entry)) (numbered r (now (fields .exit))) ⌝ }
+{
+    let a = met::read_known_met(bytes);
+    match a {
+        KnownAnswer::Refused(n) => n,
+        KnownAnswer::Accepted(m) => {
+            let f = fields::known_fields(m);
+            hand_out(&f, fields)
+        }
+    }
+}
+
 fn read_message(kind: Kind, bytes: &[u8], fields: &mut [u64]) -> u8
     ensures { λ r. ⌜ MessageRead (kindOf kind) (now (bytes .entry)) (now (fields .entry)) (numbered r (now (fields .exit))) ⌝ }
 {
@@ -159,7 +174,7 @@ pub extern "C" fn ed2k_read(kind: u8, bytes: &[u8], fields: &mut [u64]) -> u8
         0 => read_link(Link::Server, bytes, fields),
         1 => read_link(Link::Client, bytes, fields),
         2 => read_link(Link::Udp, bytes, fields),
-        3 => read_message(Kind::KnownMet, bytes, fields),
+        3 => read_known(bytes, fields),
         4 => read_message(Kind::ServerMet, bytes, fields),
         5 => read_message(Kind::PartMet, bytes, fields),
         6 => read_lone_query(bytes, fields),

@@ -8,6 +8,8 @@
 // specs/Meaning.antt says what each answer stands for.
 ghost use mathlib.Core.Path.{_≡_};
 ghost use mathlib.Core.List.{[], _∷_};
+ghost use Prim.Native.Nat.{_+_, _*_};
+ghost use lib.ListN.{getD};
 ghost use Rattle.format.specs.Decoding.{ends, got};
 ghost use Rattle.format.specs.Order.{decodeTag, decodeQueryIn};
 ghost use Rattle.format.specs.Tables.{same};
@@ -202,13 +204,13 @@ fn is_candidate(tags: &[u8], at: usize, code: u8, name: &[u8]) -> bool
     equal(bytes_at(tags, at + 3, n), name)
 }
 
-// The place behind the tag at a place. It jumps by the type: a list is gone through once for each leaf, so that the jumps are guessed
-// right, unlike those of a list that is read once.
-fn behind_tag(tags: &[u8], at: usize) -> usize
+// The place behind the tag at a place, whose name has n bytes. It jumps by the type: a list is gone through once for each leaf, so that the
+// jumps are guessed right, unlike those of a list that is read once.
+fn behind_named(tags: &[u8], at: usize, n: usize) -> usize
     requires { ⌜ Lies (decodeTag (now tags) at) ⌝ }
+    requires { ⌜ n ≡ getD (now tags) (at + 1) 0 + 256 * getD (now tags) (at + 2) 0 ⌝ }
     ensures { λ r. ⌜ ends (decodeTag (now (tags .entry)) at) ≡ got tt r ⌝ }
 {
-    let n = pair(tags[at + 1], tags[at + 2]) as usize;
     let name = at + 3;
     let value = name + n;
     let code = tags[at];
@@ -221,6 +223,18 @@ fn behind_tag(tags: &[u8], at: usize) -> usize
         return value + 16;
     }
     value + 4
+}
+
+// Most names have one byte. Where that is guessed right, the place of the value is known before the length of the name is.
+fn behind_tag(tags: &[u8], at: usize) -> usize
+    requires { ⌜ Lies (decodeTag (now tags) at) ⌝ }
+    ensures { λ r. ⌜ ends (decodeTag (now (tags .entry)) at) ≡ got tt r ⌝ }
+{
+    let n = pair(tags[at + 1], tags[at + 2]) as usize;
+    if n == 1 {
+        return behind_named(tags, at, 1);
+    }
+    behind_named(tags, at, n)
 }
 
 // Where in a list: how many tags are left, and where the first of them lies.

@@ -15,14 +15,14 @@ read-link-requires-2 c κs = search needs
 read-link-requires-3 : tie.Need-read-link-requires-3
 read-link-requires-3 c κs = search needs
 
+read-known-requires : tie.Need-read-known-requires
+read-known-requires c κs = search needs
+
 read-message-requires : tie.Need-read-message-requires
 read-message-requires c κs = search needs
 
 read-message-requires-2 : tie.Need-read-message-requires-2
 read-message-requires-2 c κs = search needs
-
-read-message-requires-3 : tie.Need-read-message-requires-3
-read-message-requires-3 c κs = search needs
 
 read-lone-query-requires : tie.Need-read-lone-query-requires
 read-lone-query-requires c κs = search needs
@@ -52,19 +52,19 @@ same-length-4 : tie.Need-same-length-4
 same-length-4 c = search needs
 
 returns-4 : tie.Need-returns-4
-returns-4 c = rw (c .before .before .before .before .match .keys4) (c .before .before .read-message .ensures)
+returns-4 c = rw (c .before .before .before .before .match .keys4) (c .before .before .read-known .ensures)
 
 same-length-5 : tie.Need-same-length-5
 same-length-5 c = search needs
 
 returns-5 : tie.Need-returns-5
-returns-5 c = rw (c .before .before .before .before .match .keys5) (c .before .before .read-message2 .ensures)
+returns-5 c = rw (c .before .before .before .before .match .keys5) (c .before .before .read-message .ensures)
 
 same-length-6 : tie.Need-same-length-6
 same-length-6 c = search needs
 
 returns-6 : tie.Need-returns-6
-returns-6 c = rw (c .before .before .before .before .match .keys6) (c .before .before .read-message3 .ensures)
+returns-6 c = rw (c .before .before .before .before .match .keys6) (c .before .before .read-message2 .ensures)
 
 same-length-7 : tie.Need-same-length-7
 same-length-7 c = search needs
@@ -90,9 +90,9 @@ ed2k-read-spec =
     read-link-requires
     read-link-requires-2
     read-link-requires-3
+    read-known-requires
     read-message-requires
     read-message-requires-2
-    read-message-requires-3
     read-lone-query-requires
     read-lone-tags-requires
     same-length
