@@ -1,4 +1,4 @@
--- A packet's answer, and that of a known.met, is an answer of the one reading call.
+-- The answer of a kind's own reader is an answer of the one reading call.
 use Prim.Native.Nat.{ℕ}
 use mathlib.Core.Path.{_≡_, ap}
 use mathlib.Core.List.{List}
@@ -6,12 +6,14 @@ use mathlib.Core.Option.{some}
 use Rattle.packets.specs.declared.Link.{Link}
 use Rattle.packets.specs.declared.PacketAnswer.{PacketAnswer}
 use Rattle.packets.specs.Meaning.{PacketPlaced, linkReply, packetReply}
-use Rattle.format.specs.Messages.{knownMet}
+use Rattle.format.specs.Messages.{knownMet, serverMet, partMet}
 use Rattle.format.specs.Decoding.{reply}
 use Rattle.format.specs.MetOrder.{decode}
 use Rattle.met.specs.declared.KnownAnswer.{KnownAnswer}
-use Rattle.met.specs.Meaning.{KnownAnswerPlaced, knownReply}
-use Rattle.reader.specs.Meaning.{fromKnown, fromPacket}
+use Rattle.met.specs.declared.ServerAnswer.{ServerAnswer}
+use Rattle.met.specs.declared.PartAnswer.{PartAnswer}
+use Rattle.met.specs.Meaning.{KnownAnswerPlaced, ServerAnswerPlaced, PartAnswerPlaced, PartAnswerSized, knownReply, serverReply, partReply}
+use Rattle.reader.specs.Meaning.{fromKnown, fromPacket, fromPart, fromServer}
 use Rattle.ed2k.specs.Calls.{MessageRead, Numbered, linkKind, messageRead}
 
 pub link-read : (link : Link) (s old : List ℕ) (a : PacketAnswer) (r : Numbered) → packetReply s a ≡ linkReply link s → PacketPlaced s a →
@@ -27,3 +29,13 @@ pub known-read : (s old : List ℕ) (a : KnownAnswer) (r : Numbered) → knownRe
     r ≡ messageRead (fromKnown a) old → MessageRead knownMet s old r
 known-read s old (KnownAnswer.Accepted m) r e h q = (fromKnown (KnownAnswer.Accepted m), ap some e, h, q)
 known-read s old (KnownAnswer.Refused n) r e h q = (fromKnown (KnownAnswer.Refused n), ap some e, h, q)
+
+pub server-read : (s old : List ℕ) (a : ServerAnswer) (r : Numbered) → serverReply s a ≡ reply (decode serverMet s) → ServerAnswerPlaced s a →
+    r ≡ messageRead (fromServer a) old → MessageRead serverMet s old r
+server-read s old (ServerAnswer.Accepted m) r e h q = (fromServer (ServerAnswer.Accepted m), ap some e, h, q)
+server-read s old (ServerAnswer.Refused n) r e h q = (fromServer (ServerAnswer.Refused n), ap some e, h, q)
+
+pub part-read : (s old : List ℕ) (a : PartAnswer) (r : Numbered) → partReply s a ≡ reply (decode partMet s) → PartAnswerPlaced s a → PartAnswerSized s a →
+    r ≡ messageRead (fromPart a) old → MessageRead partMet s old r
+part-read s old (PartAnswer.Accepted m n) r e h z q = (fromPart (PartAnswer.Accepted m n), ap some e, (h, z), q)
+part-read s old (PartAnswer.Refused n) r e h z q = (fromPart (PartAnswer.Refused n), ap some e, h, q)

@@ -8,7 +8,7 @@ ghost use Prim.Native.Nat.{_+_, _≤_, _<_};
 ghost use lib.ListN.{length, getD};
 ghost use lib.Dec.{eqb};
 ghost use Rattle.format.specs.Tables.{pick, lookup};
-ghost use Rattle.format.specs.Messages.{knownMet, partMet};
+ghost use Rattle.format.specs.Messages.{knownMet, serverMet, partMet};
 ghost use Rattle.format.specs.Rules.{partCount, blockCount};
 ghost use Rattle.format.specs.Decoding.{reply};
 ghost use Rattle.format.specs.Order.{decodeAddress};
@@ -21,7 +21,6 @@ ghost use Rattle.query.specs.Meaning.{boundOf, operatorOf};
 ghost use Rattle.gaps.specs.Records.{place};
 ghost use Rattle.gaps.specs.Marking.{marked};
 ghost use Rattle.met.specs.Meaning.{gapsAnswer};
-ghost use Rattle.reader.specs.Meaning.{kindOf};
 ghost use Rattle.putting.specs.Meaning.{putRecord};
 ghost use Rattle.writing.specs.Writers.{writeTagList, writeQuery, writeKeyword, writeField, writeLimit, writeJoin};
 ghost use Rattle.writing.specs.Writers.{writeTextTag, writeDwordTag, writeFloatTag, writeHashTag};
@@ -42,6 +41,8 @@ use marking::mark_numbers;
 use met::FileEntry;
 use met::FileEntryStep;
 use met::KnownAnswer;
+use met::PartAnswer;
+use met::ServerAnswer;
 use met::ServerEntry;
 use met::ServerEntryStep;
 use packets::Link;
@@ -51,8 +52,6 @@ use query::NodeStep;
 use query::Operator;
 use query::Query;
 use query::QueryAnswer;
-use reader::Answer;
-use reader::Kind;
 use records::Address;
 use records::AddressStep;
 use records::Record;
@@ -99,7 +98,9 @@ fn report(number: u8, length: usize, written: &mut u64) -> u8
 
 // Reading.
 
-// A packet goes straight to its fields: most of what a box reads are packets, and each copy of one is felt.
+// A message goes from its own reader straight to its fields, and not by way of the one call over the six kinds: each copy of an answer
+// is felt in short messages.
+
 fn read_link(link: Link, bytes: &[u8], fields: &mut [u64]) -> u8
     ensures { λ r. ⌜ MessageRead (linkKind link) (now (bytes .entry)) (now (fields .entry)) (numbered r (now (fields .exit))) ⌝ }
 {
@@ -113,7 +114,6 @@ fn read_link(link: Link, bytes: &[u8], fields: &mut [u64]) -> u8
     }
 }
 
-// So does a known.met: what a short file costs beside its bytes is mostly the copies of its answer.
 fn read_known(bytes: &[u8], fields: &mut [u64]) -> u8
     ensures { λ r. ⌜ MessageRead knownMet (now (bytes .entry)) (now (fields .entry)) (numbered r (now (fields .exit))) ⌝ }
 {
@@ -127,14 +127,27 @@ fn read_known(bytes: &[u8], fields: &mut [u64]) -> u8
     }
 }
 
-fn read_message(kind: Kind, bytes: &[u8], fields: &mut [u64]) -> u8
-    ensures { λ r. ⌜ MessageRead (kindOf kind) (now (bytes .entry)) (now (fields .entry)) (numbered r (now (fields .exit))) ⌝ }
+fn read_server(bytes: &[u8], fields: &mut [u64]) -> u8
+    ensures { λ r. ⌜ MessageRead serverMet (now (bytes .entry)) (now (fields .entry)) (numbered r (now (fields .exit))) ⌝ }
 {
-    let a = reader::read(kind, bytes);
+    let a = met::read_server_met(bytes);
     match a {
-        Answer::Refused(n) => n,
-        Answer::Accepted(m) => {
-            let f = fields::message_fields(m);
+        ServerAnswer::Refused(n) => n,
+        ServerAnswer::Accepted(m) => {
+            let f = fields::server_fields(m);
+            hand_out(&f, fields)
+        }
+    }
+}
+
+fn read_part(bytes: &[u8], fields: &mut [u64]) -> u8
+    ensures { λ r. ⌜ MessageRead partMet (now (bytes .entry)) (now (fields .entry)) (numbered r (now (fields .exit))) ⌝ }
+{
+    let a = met::read_part_met(bytes);
+    match a {
+        PartAnswer::Refused(n) => n,
+        PartAnswer::Accepted(m, size) => {
+            let f = fields::part_fields(m, size);
             hand_out(&f, fields)
         }
     }
@@ -175,8 +188,8 @@ pub extern "C" fn ed2k_read(kind: u8, bytes: &[u8], fields: &mut [u64]) -> u8
         1 => read_link(Link::Client, bytes, fields),
         2 => read_link(Link::Udp, bytes, fields),
         3 => read_known(bytes, fields),
-        4 => read_message(Kind::ServerMet, bytes, fields),
-        5 => read_message(Kind::PartMet, bytes, fields),
+        4 => read_server(bytes, fields),
+        5 => read_part(bytes, fields),
         6 => read_lone_query(bytes, fields),
         7 => read_lone_tags(bytes, fields),
         _ => 4,

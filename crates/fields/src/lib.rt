@@ -8,9 +8,10 @@ ghost use mathlib.Core.List.{[], _∷_, _++_};
 ghost use Prim.Native.Nat.{_≤_, _<_};
 ghost use lib.ListN.{length, take};
 ghost use Rattle.format.specs.Tables.{same};
-ghost use Rattle.fields.specs.Fields.{filled, placeNumbers, itemsNumbers, queryNumbers, addressNumbers, recordNumbers, tripleNumbers};
+ghost use Rattle.bodies.specs.declared.Body.{Body};
+ghost use Rattle.fields.specs.Fields.{filled, itemsNumbers, queryNumbers, addressNumbers, recordNumbers};
 ghost use Rattle.fields.specs.Fields.{formNumber, bodyNumbers, packetNumbers, knownNumbers, serverNumbers, hashesNumbers, partNumbers};
-ghost use Rattle.fields.specs.Fields.{messageNumbers, tagNumbers, fileEntryNumbers, serverEntryNumbers};
+ghost use Rattle.fields.specs.Fields.{tagNumbers, fileEntryNumbers, serverEntryNumbers};
 ghost use Rattle.fields.specs.Fields.{operatorNumber, boundNumber, nodeNumbers};
 ghost use Rattle.fields.specs.Given.{numberAt, byteAt, wordAt, dwordAt, placeAt, itemsAt, queryAt, addressAt, recordAt, tripleAt, formAt};
 ghost use Rattle.fields.specs.Given.{sendingPartGiven, requestPartsGiven, fileStatusGiven, statusRequestGiven, extendedStatusGiven};
@@ -35,7 +36,6 @@ use query::Bound;
 use query::Node;
 use query::Operator;
 use query::Query;
-use reader::Message;
 use records::Address;
 use records::Record;
 use tags::Tag;
@@ -44,20 +44,135 @@ use wire::Cursor;
 use wire::Items;
 use wire::Place;
 
-// What a body's shape and values are as numbers.
+// The numbers of a packet: `o` and `c` are its opening byte and its opcode; the shape of its body and the body's values follow.
 
 // The shape and four values, and 0 behind them.
-fn row(shape: u64, a: u64, b: u64, c: u64, d: u64) -> [u64; 9]
-    ensures { λ r. ⌜ r ≡ filled 9 (shape ∷ a ∷ b ∷ c ∷ d ∷ []) ⌝ }
+fn row(o: u8, c: u8, shape: u64, a: u64, b: u64, d: u64, e: u64) -> [u64; 16]
+    ensures { λ r. ⌜ r ≡ filled 16 (o ∷ c ∷ shape ∷ a ∷ b ∷ d ∷ e ∷ []) ⌝ }
 {
-    [shape, a, b, c, d, 0, 0, 0, 0]
+    [
+        o as u64,
+        c as u64,
+        shape,
+        a,
+        b,
+        d,
+        e,
+        0,
+        0,
+        0,
+        0,
+        0,
+        0,
+        0,
+        0,
+        0,
+    ]
 }
 
-fn record_row(shape: u64, r: Record, a: Address) -> [u64; 9]
-    ensures { λ s. ⌜ s ≡ shape ∷ recordNumbers r ++ addressNumbers a ⌝ }
+fn query_row(o: u8, c: u8, q: Query) -> [u64; 16]
+    ensures { λ r. ⌜ r ≡ filled 16 (o ∷ c ∷ bodyNumbers (Body.Query q)) ⌝ }
+{
+    row(o, c, 1, q.at as u64, q.end as u64, q.depth as u64, 0)
+}
+
+fn text_row(o: u8, c: u8, t: Place) -> [u64; 16]
+    ensures { λ r. ⌜ r ≡ filled 16 (o ∷ c ∷ bodyNumbers (Body.Text t)) ⌝ }
+{
+    row(o, c, 5, t.at as u64, t.len as u64, 0, 0)
+}
+
+fn two_texts_row(o: u8, c: u8, t: Place, u: Place) -> [u64; 16]
+    ensures { λ r. ⌜ r ≡ filled 16 (o ∷ c ∷ bodyNumbers (Body.TwoTexts t u)) ⌝ }
+{
+    row(
+        o,
+        c,
+        6,
+        t.at as u64,
+        t.len as u64,
+        u.at as u64,
+        u.len as u64,
+    )
+}
+
+fn hash_text_row(o: u8, c: u8, hash: usize, t: Place) -> [u64; 16]
+    ensures { λ r. ⌜ r ≡ filled 16 (o ∷ c ∷ bodyNumbers (Body.HashText hash t)) ⌝ }
+{
+    row(o, c, 17, hash as u64, t.at as u64, t.len as u64, 0)
+}
+
+fn address_row(o: u8, c: u8, shape: u64, a: Address, n: u32) -> [u64; 16]
+    ensures { λ r. ⌜ r ≡ filled 16 (o ∷ c ∷ shape ∷ addressNumbers a ++ n ∷ []) ⌝ }
+{
+    row(o, c, shape, a.ip as u64, a.port as u64, n as u64, 0)
+}
+
+fn list_row(o: u8, c: u8, shape: u64, l: Items, flag: u8) -> [u64; 16]
+    ensures { λ r. ⌜ r ≡ filled 16 (o ∷ c ∷ shape ∷ itemsNumbers l ++ flag ∷ []) ⌝ }
+{
+    row(
+        o,
+        c,
+        shape,
+        l.at as u64,
+        l.end as u64,
+        l.count as u64,
+        flag as u64,
+    )
+}
+
+fn hash_list_row(o: u8, c: u8, shape: u64, hash: usize, l: Items) -> [u64; 16]
+    ensures { λ r. ⌜ r ≡ filled 16 (o ∷ c ∷ shape ∷ hash ∷ itemsNumbers l) ⌝ }
+{
+    row(
+        o,
+        c,
+        shape,
+        hash as u64,
+        l.at as u64,
+        l.end as u64,
+        l.count as u64,
+    )
+}
+
+fn hash_address_tags_row(o: u8, c: u8, hash: usize, a: Address, l: Items) -> [u64; 16]
+    ensures { λ r. ⌜ r ≡ filled 16 (o ∷ c ∷ bodyNumbers (Body.HashAddressTags hash a l)) ⌝ }
+{
+    let hash = hash as u64;
+    let ip = a.ip as u64;
+    let port = a.port as u64;
+    let at = l.at as u64;
+    let end = l.end as u64;
+    let count = l.count as u64;
+    [
+        o as u64,
+        c as u64,
+        11,
+        hash,
+        ip,
+        port,
+        at,
+        end,
+        count,
+        0,
+        0,
+        0,
+        0,
+        0,
+        0,
+        0,
+    ]
+}
+
+// A record and an address, or 0 for one that is not there.
+fn record_row(o: u8, c: u8, shape: u64, r: Record, a: Address) -> [u64; 16]
+    ensures { λ s. ⌜ s ≡ filled 16 (o ∷ c ∷ shape ∷ recordNumbers r ++ addressNumbers a) ⌝ }
 {
     let l = r.tags;
     [
+        o as u64,
+        c as u64,
         shape,
         r.hash as u64,
         r.client as u64,
@@ -67,7 +182,72 @@ fn record_row(shape: u64, r: Record, a: Address) -> [u64; 9]
         l.count as u64,
         a.ip as u64,
         a.port as u64,
+        0,
+        0,
+        0,
+        0,
+        0,
     ]
+}
+
+fn sending_part_row(o: u8, c: u8, p: SendingPart) -> [u64; 16]
+    ensures { λ r. ⌜ r ≡ filled 16 (o ∷ c ∷ bodyNumbers (Body.SendingPart p)) ⌝ }
+{
+    let d = p.data;
+    let hash = p.hash as u64;
+    let start = p.start as u64;
+    let end = p.end as u64;
+    let at = d.at as u64;
+    let len = d.len as u64;
+    [
+        o as u64,
+        c as u64,
+        19,
+        hash,
+        start,
+        end,
+        at,
+        len,
+        0,
+        0,
+        0,
+        0,
+        0,
+        0,
+        0,
+        0,
+    ]
+}
+
+fn request_parts_row(o: u8, c: u8, p: RequestParts) -> [u64; 16]
+    ensures { λ r. ⌜ r ≡ filled 16 (o ∷ c ∷ bodyNumbers (Body.RequestParts p)) ⌝ }
+{
+    let s = p.starts;
+    let e = p.ends;
+    [
+        o as u64,
+        c as u64,
+        20,
+        p.hash as u64,
+        s.first as u64,
+        s.second as u64,
+        s.third as u64,
+        e.first as u64,
+        e.second as u64,
+        e.third as u64,
+        0,
+        0,
+        0,
+        0,
+        0,
+        0,
+    ]
+}
+
+fn file_status_row(o: u8, c: u8, f: FileStatus) -> [u64; 16]
+    ensures { λ r. ⌜ r ≡ filled 16 (o ∷ c ∷ bodyNumbers (Body.FileStatus f)) ⌝ }
+{
+    row(o, c, 21, f.hash as u64, f.parts as u64, f.bits as u64, 0)
 }
 
 fn form_number(form: Form) -> u64
@@ -79,43 +259,21 @@ fn form_number(form: Form) -> u64
     }
 }
 
-fn status_request_row(r: StatusRequest) -> [u64; 9]
-    ensures { λ s. ⌜ s ≡ filled 9 (22 ∷ formNumber (r .form) ∷ r .number ∷ []) ⌝ }
+fn status_request_row(o: u8, c: u8, r: StatusRequest) -> [u64; 16]
+    ensures { λ s. ⌜ s ≡ filled 16 (o ∷ c ∷ bodyNumbers (Body.StatusRequest r)) ⌝ }
 {
     let form = r.form;
-    row(22, form_number(form), r.number as u64, 0, 0)
+    row(o, c, 22, form_number(form), r.number as u64, 0, 0)
 }
 
-fn sending_part_row(p: SendingPart) -> [u64; 9]
-    ensures { λ r. ⌜ r ≡ filled 9 (19 ∷ p .hash ∷ p .start ∷ p .end ∷ placeNumbers (p .data)) ⌝ }
+fn status_row(o: u8, c: u8, t: Triple) -> [u64; 16]
+    ensures { λ r. ⌜ r ≡ filled 16 (o ∷ c ∷ bodyNumbers (Body.Status t)) ⌝ }
 {
-    let d = p.data;
-    let hash = p.hash as u64;
-    let start = p.start as u64;
-    let end = p.end as u64;
-    [19, hash, start, end, d.at as u64, d.len as u64, 0, 0, 0]
+    row(o, c, 23, t.first as u64, t.second as u64, t.third as u64, 0)
 }
 
-fn request_parts_row(p: RequestParts) -> [u64; 9]
-    ensures { λ r. ⌜ r ≡ filled 9 (20 ∷ p .hash ∷ tripleNumbers (p .starts) ++ tripleNumbers (p .ends)) ⌝ }
-{
-    let s = p.starts;
-    let e = p.ends;
-    [
-        20,
-        p.hash as u64,
-        s.first as u64,
-        s.second as u64,
-        s.third as u64,
-        e.first as u64,
-        e.second as u64,
-        e.third as u64,
-        0,
-    ]
-}
-
-fn extended_status_row(e: ExtendedStatus) -> [u64; 9]
-    ensures { λ r. ⌜ r ≡ filled 9 (24 ∷ e .first ∷ e .second ∷ tripleNumbers (e .numbers)) ⌝ }
+fn extended_status_row(o: u8, c: u8, e: ExtendedStatus) -> [u64; 16]
+    ensures { λ r. ⌜ r ≡ filled 16 (o ∷ c ∷ bodyNumbers (Body.ExtendedStatus e)) ⌝ }
 {
     let t = e.numbers;
     let a = e.first as u64;
@@ -123,54 +281,62 @@ fn extended_status_row(e: ExtendedStatus) -> [u64; 9]
     let first = t.first as u64;
     let second = t.second as u64;
     let third = t.third as u64;
-    [24, a, b, first, second, third, 0, 0, 0]
+    [
+        o as u64,
+        c as u64,
+        24,
+        a,
+        b,
+        first,
+        second,
+        third,
+        0,
+        0,
+        0,
+        0,
+        0,
+        0,
+        0,
+        0,
+    ]
 }
 
-fn hash_address_tags_row(hash: usize, a: Address, l: Items) -> [u64; 9]
-    ensures { λ r. ⌜ r ≡ filled 9 (11 ∷ hash ∷ addressNumbers a ++ itemsNumbers l) ⌝ }
+pub fn packet_fields(p: Packet) -> [u64; 16]
+    ensures { λ r. ⌜ r ≡ filled 16 (packetNumbers p) ⌝ }
 {
-    let hash = hash as u64;
-    let ip = a.ip as u64;
-    let port = a.port as u64;
-    let at = l.at as u64;
-    let end = l.end as u64;
-    let count = l.count as u64;
-    [11, hash, ip, port, at, end, count, 0, 0]
-}
-
-fn body_row(body: Body) -> [u64; 9]
-    ensures { λ r. ⌜ r ≡ filled 9 (bodyNumbers body) ⌝ }
-{
+    let o = p.opening;
+    let c = p.opcode;
+    let body = p.body;
     match body {
-        Body::Nothing => row(0, 0, 0, 0, 0),
-        Body::Query(q) => row(1, q.at as u64, q.end as u64, q.depth as u64, 0),
-        Body::Hash(h) => row(2, h as u64, 0, 0, 0),
-        Body::Dword(n) => row(3, n as u64, 0, 0, 0),
-        Body::TwoDwords(m, n) => row(4, m as u64, n as u64, 0, 0),
-        Body::Text(t) => row(5, t.at as u64, t.len as u64, 0, 0),
-        Body::TwoTexts(t, u) => row(6, t.at as u64, t.len as u64, u.at as u64, u.len as u64),
-        Body::Address(a) => row(7, a.ip as u64, a.port as u64, 0, 0),
-        Body::Addresses(l) => row(8, l.at as u64, l.end as u64, l.count as u64, 0),
-        Body::HashAddresses(h, l) => { row(9, h as u64, l.at as u64, l.end as u64, l.count as u64) }
-        Body::AddressDword(a, n) => row(10, a.ip as u64, a.port as u64, n as u64, 0),
-        Body::HashAddressTags(h, a, l) => hash_address_tags_row(h, a, l),
-        Body::Record(r) => record_row(12, r, Address { ip: 0, port: 0 }),
-        Body::Records(l) => row(13, l.at as u64, l.end as u64, l.count as u64, 0),
-        Body::RecordsFlag(l, b) => { row(14, l.at as u64, l.end as u64, l.count as u64, b as u64) }
-        Body::RecordAddress(r, a) => record_row(15, r, a),
-        Body::Hello(r, a) => record_row(16, r, a),
-        Body::HashText(h, t) => row(17, h as u64, t.at as u64, t.len as u64, 0),
-        Body::Hashset(h, l) => row(18, h as u64, l.at as u64, l.end as u64, l.count as u64),
-        Body::SendingPart(p) => sending_part_row(p),
-        Body::RequestParts(p) => request_parts_row(p),
-        Body::FileStatus(f) => row(21, f.hash as u64, f.parts as u64, f.bits as u64, 0),
-        Body::StatusRequest(r) => status_request_row(r),
-        Body::Status(t) => row(23, t.first as u64, t.second as u64, t.third as u64, 0),
-        Body::ExtendedStatus(e) => extended_status_row(e),
+        Body::Nothing => row(o, c, 0, 0, 0, 0, 0),
+        Body::Query(q) => query_row(o, c, q),
+        Body::Hash(h) => row(o, c, 2, h as u64, 0, 0, 0),
+        Body::Dword(n) => row(o, c, 3, n as u64, 0, 0, 0),
+        Body::TwoDwords(m, n) => row(o, c, 4, m as u64, n as u64, 0, 0),
+        Body::Text(t) => text_row(o, c, t),
+        Body::TwoTexts(t, u) => two_texts_row(o, c, t, u),
+        Body::Address(a) => address_row(o, c, 7, a, 0),
+        Body::Addresses(l) => list_row(o, c, 8, l, 0),
+        Body::HashAddresses(h, l) => hash_list_row(o, c, 9, h, l),
+        Body::AddressDword(a, n) => address_row(o, c, 10, a, n),
+        Body::HashAddressTags(h, a, l) => hash_address_tags_row(o, c, h, a, l),
+        Body::Record(r) => record_row(o, c, 12, r, Address { ip: 0, port: 0 }),
+        Body::Records(l) => list_row(o, c, 13, l, 0),
+        Body::RecordsFlag(l, b) => list_row(o, c, 14, l, b),
+        Body::RecordAddress(r, a) => record_row(o, c, 15, r, a),
+        Body::Hello(r, a) => record_row(o, c, 16, r, a),
+        Body::HashText(h, t) => hash_text_row(o, c, h, t),
+        Body::Hashset(h, l) => hash_list_row(o, c, 18, h, l),
+        Body::SendingPart(p) => sending_part_row(o, c, p),
+        Body::RequestParts(p) => request_parts_row(o, c, p),
+        Body::FileStatus(f) => file_status_row(o, c, f),
+        Body::StatusRequest(r) => status_request_row(o, c, r),
+        Body::Status(t) => status_row(o, c, t),
+        Body::ExtendedStatus(e) => extended_status_row(o, c, e),
     }
 }
 
-// The numbers of a message.
+// The numbers of the other messages.
 
 // Nine numbers and 0 behind them.
 fn row_of_fields(
@@ -187,31 +353,6 @@ fn row_of_fields(
     ensures { λ r. ⌜ r ≡ filled 16 (a ∷ b ∷ c ∷ d ∷ e ∷ f ∷ g ∷ h ∷ i ∷ []) ⌝ }
 {
     [a, b, c, d, e, f, g, h, i, 0, 0, 0, 0, 0, 0, 0]
-}
-
-pub fn packet_fields(p: Packet) -> [u64; 16]
-    ensures { λ r. ⌜ r ≡ filled 16 (packetNumbers p) ⌝ }
-{
-    let body = p.body;
-    let b = body_row(body);
-    [
-        p.opening as u64,
-        p.opcode as u64,
-        b[0],
-        b[1],
-        b[2],
-        b[3],
-        b[4],
-        b[5],
-        b[6],
-        b[7],
-        b[8],
-        0,
-        0,
-        0,
-        0,
-        0,
-    ]
 }
 
 pub fn known_fields(m: KnownMet) -> [u64; 16]
@@ -293,17 +434,6 @@ pub fn part_fields(m: PartMet, size: u32) -> [u64; 16]
                 HashBlocks::Both(p, b) => part_row(0xE1, size, f.date, f.hash, f.tags, 3, p, b),
             }
         }
-    }
-}
-
-pub fn message_fields(m: Message) -> [u64; 16]
-    ensures { λ r. ⌜ r ≡ filled 16 (messageNumbers m) ⌝ }
-{
-    match m {
-        Message::Packet(p) => packet_fields(p),
-        Message::KnownMet(k) => known_fields(k),
-        Message::ServerMet(v) => server_fields(v),
-        Message::PartMet(p, size) => part_fields(p, size),
     }
 }
 

@@ -18,11 +18,11 @@ read-link-requires-3 c κs = search needs
 read-known-requires : tie.Need-read-known-requires
 read-known-requires c κs = search needs
 
-read-message-requires : tie.Need-read-message-requires
-read-message-requires c κs = search needs
+read-server-requires : tie.Need-read-server-requires
+read-server-requires c κs = search needs
 
-read-message-requires-2 : tie.Need-read-message-requires-2
-read-message-requires-2 c κs = search needs
+read-part-requires : tie.Need-read-part-requires
+read-part-requires c κs = search needs
 
 read-lone-query-requires : tie.Need-read-lone-query-requires
 read-lone-query-requires c κs = search needs
@@ -58,13 +58,13 @@ same-length-5 : tie.Need-same-length-5
 same-length-5 c = search needs
 
 returns-5 : tie.Need-returns-5
-returns-5 c = rw (c .before .before .before .before .match .keys5) (c .before .before .read-message .ensures)
+returns-5 c = rw (c .before .before .before .before .match .keys5) (c .before .before .read-server .ensures)
 
 same-length-6 : tie.Need-same-length-6
 same-length-6 c = search needs
 
 returns-6 : tie.Need-returns-6
-returns-6 c = rw (c .before .before .before .before .match .keys6) (c .before .before .read-message2 .ensures)
+returns-6 c = rw (c .before .before .before .before .match .keys6) (c .before .before .read-part .ensures)
 
 same-length-7 : tie.Need-same-length-7
 same-length-7 c = search needs
@@ -91,8 +91,8 @@ ed2k-read-spec =
     read-link-requires-2
     read-link-requires-3
     read-known-requires
-    read-message-requires
-    read-message-requires-2
+    read-server-requires
+    read-part-requires
     read-lone-query-requires
     read-lone-tags-requires
     same-length
