@@ -39,12 +39,15 @@ fn read(calls: &Calls, kind: u8, bytes: &[u8]) -> u64 {
     fields.iter().fold(number.into(), |sum, field| sum.wrapping_add(*field))
 }
 
-/// As many different messages of about this length as make 1 MiB. One that is read again and again would be known to the
-/// processor's branch prediction, the better the shorter it is.
+/// How much is read before the first message comes again. A processor's branch prediction learns the jumps of messages that are read
+/// again and again, of 1 MiB of them nearly all; a box reads each file once.
+const READ: usize = 16 << 20;
+
+/// As many different messages of about this length as make that.
 fn readings(kind: u8, length: usize) -> (Vec<Vec<u8>>, Work) {
     let mut random = Random::new(SEED);
     let messages: Vec<_> =
-        (0..(1 << 20) / length).map(|_| inputs::grown(&mut random, kind, length)).collect();
+        (0..READ / length).map(|_| inputs::grown(&mut random, kind, length)).collect();
     assert!(messages.iter().all(|bytes| plain::read(kind, bytes).is_ok()), "all are accepted");
     let amount = messages.iter().map(Vec::len).sum::<usize>() as f64;
     let lent = messages.clone();
