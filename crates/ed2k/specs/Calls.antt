@@ -33,6 +33,7 @@ use Rattle.met.specs.declared.ServerEntryStep.{ServerEntryStep}
 use Rattle.met.specs.Meaning.{fileEntryMeaning, FileEntryStepPlaced, serverEntryMeaning, ServerEntryStepPlaced, knownMetIn, serverMetIn, partMetIn}
 use Rattle.packets.specs.declared.Link.{Link}
 use Rattle.reader.specs.declared.Answer.{Answer}
+use Rattle.reader.specs.declared.Message.{Message}
 use Rattle.reader.specs.Meaning.{answerIn, AnswerPlaced}
 use Rattle.packets.specs.Meaning.{packetIn}
 use Rattle.writing.specs.There.{itemsThere}
@@ -43,7 +44,7 @@ use Rattle.metwriting.specs.Files.{knownThere, serverThere}
 use Rattle.partwriting.specs.Files.{partThere}
 use Rattle.writing.specs.Writers.{writeQuery, writeTagList}
 use Rattle.fields.specs.Fields.{filled, itemsNumbers, queryNumbers, recordNumbers, packetNumbers, knownNumbers, serverNumbers, partNumbers}
-use Rattle.fields.specs.Fields.{messageNumbers, tagNumbers, fileEntryNumbers, serverEntryNumbers, nodeNumbers}
+use Rattle.fields.specs.Fields.{tagNumbers, fileEntryNumbers, serverEntryNumbers, nodeNumbers}
 use Rattle.fields.specs.Given.{itemsAt, queryAt, packetGiven, knownGiven, serverGiven, partGiven, sizeGiven}
 
 -- The answer of a call that hands out numbers: its own number, and the array afterwards.
@@ -66,6 +67,12 @@ abbrev pub faultNumber : Fault → ℕ
 faultNumber f = decoding.number (ruleMeaning (f .rule))
 
 -- Reading. Each call has an answer of the reader that it calls, as that reader ensures it, and hands out its numbers.
+
+abbrev pub messageNumbers : Message → List ℕ
+messageNumbers (Message.Packet p) = packetNumbers p
+messageNumbers (Message.KnownMet m) = knownNumbers m
+messageNumbers (Message.ServerMet m) = serverNumbers m
+messageNumbers (Message.PartMet m size) = partNumbers m size
 
 abbrev pub messageRead : Answer → List ℕ → Numbered
 messageRead (Answer.Accepted m) old = fieldsOut (messageNumbers m) old

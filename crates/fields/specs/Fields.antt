@@ -25,7 +25,6 @@ use Rattle.met.specs.declared.KnownMet.{KnownMet}
 use Rattle.met.specs.declared.ServerMet.{ServerMet}
 use Rattle.met.specs.declared.HashBlocks.{HashBlocks}
 use Rattle.met.specs.declared.PartMet.{PartMet}
-use Rattle.reader.specs.declared.Message.{Message}
 
 -- Numbers, and 0 behind them, n in all.
 abbrev pub filled : ℕ → List ℕ → List ℕ
@@ -107,12 +106,6 @@ abbrev pub partNumbers : PartMet → ℕ → List ℕ
 partNumbers (PartMet.E0 e) size =
     0xE0 ∷ size ∷ e .date ∷ e .hash ∷ itemsNumbers (e .tags) ++ hashesNumbers 4 (e .parts) noItems
 partNumbers (PartMet.E1 f) size = 0xE1 ∷ size ∷ f .date ∷ f .hash ∷ itemsNumbers (f .tags) ++ blocksNumbers (f .blocks)
-
-abbrev pub messageNumbers : Message → List ℕ
-messageNumbers (Message.Packet p) = packetNumbers p
-messageNumbers (Message.KnownMet m) = knownNumbers m
-messageNumbers (Message.ServerMet m) = serverNumbers m
-messageNumbers (Message.PartMet m size) = partNumbers m size
 
 -- The single items, with the cursor behind them.
 
