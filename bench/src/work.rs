@@ -29,7 +29,7 @@ impl Work {
 }
 
 pub fn all() -> Vec<Work> {
-    vec![known_met(1 << 20), tag_lists(), packets(), marking(), deep_query()]
+    vec![known_met(1 << 20), client_files(), tag_lists(), packets(), marking(), deep_query()]
 }
 
 /// One reading: the number and the fields.
@@ -44,10 +44,9 @@ fn read(calls: &Calls, kind: u8, bytes: &[u8]) -> u64 {
 const READ: usize = 16 << 20;
 
 /// As many different messages of about this length as make that.
-fn readings(kind: u8, length: usize) -> (Vec<Vec<u8>>, Work) {
+fn readings(kind: u8, length: usize, make: impl Fn(&mut Random) -> Vec<u8>) -> (Vec<Vec<u8>>, Work) {
     let mut random = Random::new(SEED);
-    let messages: Vec<_> =
-        (0..READ / length).map(|_| inputs::grown(&mut random, kind, length)).collect();
+    let messages: Vec<_> = (0..READ / length).map(|_| make(&mut random)).collect();
     assert!(messages.iter().all(|bytes| plain::read(kind, bytes).is_ok()), "all are accepted");
     let amount = messages.iter().map(Vec::len).sum::<usize>() as f64;
     let lent = messages.clone();
@@ -59,12 +58,20 @@ fn readings(kind: u8, length: usize) -> (Vec<Vec<u8>>, Work) {
 }
 
 pub fn known_met(length: usize) -> Work {
-    let (_, work) = readings(plain::KNOWN_MET, length);
+    let (_, work) = readings(plain::KNOWN_MET, length, |random| inputs::grown(random, plain::KNOWN_MET, length));
     Work { name: format!("known.met of {} KiB", length >> 10), ..work }
 }
 
+/// Its tags come in the same order in each entry, where those above come in any.
+fn client_files() -> Work {
+    let length = 1 << 20;
+    let (_, work) = readings(plain::KNOWN_MET, length, |random| inputs::client_known_met(random, length));
+    Work { name: "known.met of 1024 KiB as aMule writes it".into(), ..work }
+}
+
 fn tag_lists() -> Work {
-    let (lists, work) = readings(plain::LONE_TAGS, plain::PACKET_CEILING);
+    let length = plain::PACKET_CEILING;
+    let (lists, work) = readings(plain::LONE_TAGS, length, |random| inputs::grown(random, plain::LONE_TAGS, length));
     let fewest = lists.iter().map(|list| u32::from_le_bytes([list[0], list[1], list[2], list[3]])).min();
     Work { name: format!("tag lists of {} tags and more", fewest.unwrap_or_default()), ..work }
 }

@@ -1,35 +1,31 @@
 -- Status bits, judged by the last of their bytes alone.
 use Prim.Native.Nat.{ℕ, _+_, _/_, _%_, _^_, _≤_, _<_}
-use mathlib.Core.Path.{_≡_, refl, _∙_}
+use mathlib.Core.Path.{_≡_, refl, sym, _∙_}
 use mathlib.Core.Bool.{Bool, true, false}
 use mathlib.Core.List.{List}
 use lib.ListN.{length, drop, getD}
 use lib.Seq.{getD-take, getD-drop}
-use native.Mathlib.Decide.{decLe}
 use native.Mathlib.Omega.{arith}
 use borrow.Author.Tests.{eq-eqb, ne-eqb, lt-ltb, le-ltb}
 use Rattle.format.specs.Bits.{packedBytes, bitsIn, unusedClear}
 use Rattle.format.specs.Tables.{pick}
-use Rattle.format.specs.Decoding.{bytesAt, decodeRun, fault, got, passes, refused, settled, statusBit, violates}
+use Rattle.format.specs.Decoding.{Fault, bytesAt, decodeRun, fault, got, passes, refused, settled, statusBit, violates}
 use Rattle.format.specs.PacketOrder.{decodeBits}
-use Rattle.format.proofs.There.{run-there, run-short}
+use Rattle.format.proofs.There.{run-was}
 
--- a run that was decoded is there, and is what lies there
-run-found : (s : List ℕ) (at n : ℕ) {l : List ℕ} {next : ℕ} → got l next ≡ decodeRun n s at → (at + n ≤ length s) × (l ≡ bytesAt s at n)
-run-found s at n {l} {next} e = go (decLe (at + n) (length s))
-  where
-    go : Dec (at + n ≤ length s) → (at + n ≤ length s) × (l ≡ bytesAt s at n)
-    go (yes h) = (h, cc (e, run-there s at n h))
-    go (no h) = let z : _≡_ {A = ℕ} 0 1 = cc (e, run-short s at n (omega arith)) in absurd (omega arith)
+-- bytes that are not there
+pub missing-bytes : (s : List ℕ) (at n : ℕ) {f : Fault} → refused f ≡ decodeRun (packedBytes n) s at → refused f ≡ decodeBits n s at
+unfolding decodeBits
+missing-bytes s at n read = rw (← read) refl
 
 module _ (s : List ℕ) (at n : ℕ) {l : List ℕ} {next : ℕ} (read : got l next ≡ decodeRun (packedBytes n) s at) where
   pub bytes-there : at + packedBytes n ≤ length s
-  bytes-there = run-found s at (packedBytes n) read .0
+  bytes-there = run-was s at (packedBytes n) (sym read) .0
 
   judged : {t : Bool} → unusedClear n (bytesAt s at (packedBytes n)) ≡ t
       → settled at (packedBytes n) (pick t (passes (bitsIn n (bytesAt s at (packedBytes n)))) (violates statusBit)) next ≡ decodeBits n s at
   unfolding decodeBits
-  judged e = rw (← read, run-found s at (packedBytes n) read .1, e) refl
+  judged e = rw (← read, run-was s at (packedBytes n) (sym read) .1 .1, e) refl
 
   -- every bit of the last byte is used
   pub all-used : n % 8 ≡ 0 → got (bitsIn n (bytesAt s at (packedBytes n))) next ≡ decodeBits n s at

@@ -4,7 +4,7 @@
 ghost use mathlib.Core.Path.{_≡_};
 ghost use Prim.Native.Nat.{_-_, _^_, _<_};
 ghost use lib.ListN.{length};
-ghost use Rattle.format.specs.Messages.{noBody, queryBody, hashBody, dwordBody, twoDwordsBody, stringBody, twoStringsBody};
+ghost use Rattle.format.specs.Messages.{queryBody, hashBody, dwordBody, twoDwordsBody, stringBody, twoStringsBody};
 ghost use Rattle.format.specs.Messages.{addressBody, addressesBody, hashAddressesBody, addressDwordBody, hashAddressTagsBody};
 ghost use Rattle.format.specs.Messages.{recordBody, recordsBody, recordsFlagBody, recordAddressBody, helloBody};
 ghost use Rattle.format.specs.Messages.{hashStringBody, hashsetBody, sendingPartBody, requestPartsBody, fileStatusBody};

@@ -22,11 +22,12 @@ use Rattle.query.specs.Meaning.{queryIn}
 use Rattle.bodies.specs.declared.Body.{Body}
 use Rattle.bodies.specs.Meaning.{bodyIn, heldAt}
 use Rattle.writing.specs.There.{bothThere, hashThere, itemsThere, placeThere}
+use Rattle.writing.proofs.There.{is-there, both-second, run-size}
 use Rattle.format.specs.RoundTrip.{IsThere}
 use Rattle.bodychecking.specs.declared.Extent.{Extent}
 use Rattle.bodychecking.specs.Extents.{Adds, BothAdd, Extends, NoEnd, absent, behindBytes, bothExtents, listBound, sized, tooLong}
 use Rattle.bodychecking.specs.Bodies.{BodyChecked, BodyEnds, BodyRule, EndsAt, bodyThere, bytesOf, queryThere}
-use Rattle.bodychecking.proofs.Places.{Listed, QueryListed, both-second, is-there, run-few, run-size}
+use Rattle.bodychecking.proofs.Places.{Listed, QueryListed, run-few}
 
 module _ {there : Outcome (Unit {0})} {Fits : Type 0} {size : ℕ} {Ends : ℕ → Type 0} {bound : ℕ} where
   pub adds : {e : Extent} (k : ℕ) → Extends there Fits size Ends bound e → k + bound < 18446744073709551616 → Adds k e

@@ -1,97 +1,32 @@
 -- What lies at a place that is there: runs, hashes, lists and queries.
-use Prim.Native.Nat.{ℕ, _+_, _-_, _≤_}
-use mathlib.Core.Path.{_≡_, refl, sym, ap, _∙_, subst}
+use Prim.Native.Nat.{ℕ, _-_, _≤_}
+use mathlib.Core.Path.{_≡_, refl, sym, ap}
 use mathlib.Core.List.{List}
 use native.Mathlib.Omega.{arith}
-use native.Mathlib.Decide.{decLe}
-use lib.ListN.{length, take, drop, length-drop, length-take, take-append-drop}
-use lib.Seq.{length-take-le}
+use lib.ListN.{length, length-drop, length-take}
 use Rattle.format.specs.Messages as messages
 use Rattle.format.specs.Layout.{encodeAddress, encodeAll, encodeHash, encodeQuery, encodeRecord, encodeTag}
 use Rattle.format.specs.Rules.{All, Bytes, ValidAddress, ValidHash, ValidQuery, ValidRecord, ValidTag}
-use Rattle.format.specs.Decoding.{Decoder, Outcome, bytesAt, decodeMany, decodeRun, ends, got, refused}
-use Rattle.format.specs.Order.{decodeAddress, decodeDword, decodeHash, decodeQuery, decodeRecord, decodeTag}
-use Rattle.format.proofs.Codec.{Codec, anywhere, bytes-drop, bytes-left, never, went}
+use Rattle.format.specs.Decoding.{Decoder, Outcome, bytesAt, decodeMany, ends, got, refused}
+use Rattle.format.specs.Order.{decodeAddress, decodeHash, decodeQuery, decodeRecord, decodeTag}
+use Rattle.format.proofs.Codec.{Codec, anywhere}
 use Rattle.format.proofs.Many.{ends-items}
 use Rattle.format.proofs.Items.{codec-address, codec-hash, codec-query, codec-record, codec-tag}
-use Rattle.format.proofs.There.{run-short}
-use Rattle.format.proofs.Writing.{NeedsByte, lies, many-lies, query-needed, tag-needed}
+use Rattle.format.proofs.Writing.{address-needed, hash-needed, lies, many-lies, NeedsByte, query-needed, record-needed, tag-needed}
 use Rattle.wire.specs.declared.Items.{Items}
-use Rattle.wire.specs.Meaning.{hashAt, itemsIn}
+use Rattle.wire.specs.Meaning.{itemsIn}
 use Rattle.query.specs.declared.Query.{Query}
 use Rattle.query.specs.Meaning.{queryIn, queryOf}
-use Rattle.writing.specs.There.{bothThere, hashThere, itemsThere}
-use Rattle.format.specs.RoundTrip.{IsThere}
+use Rattle.writing.specs.There.{itemsThere}
 use Rattle.bodychecking.specs.Bodies.{queryThere}
 
 pub got-ends : {A : Type 0} {o : Outcome A} {a : A} {next : ℕ} → got a next ≡ o → ends o ≡ got tt next
 unfolding ends
 got-ends e = rw (← e) refl
 
-pub is-there : {o : Outcome (Unit {0})} {next : ℕ} → o ≡ got tt next → IsThere o
-is-there e = subst IsThere (sym e) tt
-
-pub there-at : (o : Outcome (Unit {0})) → IsThere o → (next : ℕ) × (o ≡ got tt next)
-there-at (refused f) h = absurd h
-there-at (got u next) h = (next, refl)
-
--- Of two places that are there, each is.
-pub both-first : (a b : Outcome (Unit {0})) → IsThere (bothThere a b) → IsThere a
-both-first (refused f) b h = absurd h
-both-first (got u next) b h = tt
-
-pub both-second : (a b : Outcome (Unit {0})) → IsThere a → bothThere a b ≡ b
-both-second (refused f) b h = absurd h
-both-second (got u next) b h = refl
-
-pub both-last : (a b : Outcome (Unit {0})) → IsThere (bothThere a b) → IsThere b
-both-last a b h = subst IsThere (both-second a b (both-first a b h)) h
-
--- Runs
-
-module _ (s : List ℕ) (at n : ℕ) where
-  pub run-inside : {l : List ℕ} {next : ℕ} → decodeRun n s at ≡ got l next → at + n ≤ length s
-  run-inside e = go (decLe (at + n) (length s))
-    where
-      go : Dec (at + n ≤ length s) → at + n ≤ length s
-      go (yes h) = h
-      go (no f) = absurd (never (run-short s at n (omega arith) ∙ e))
-
-  pub run-size : IsThere (ends (decodeRun n s at)) → length (bytesAt s at n) ≡ n
-  unfolding ends
-  run-size h = go (decodeRun n s at) refl h
-    where
-      go : (o : Outcome (List ℕ)) → decodeRun n s at ≡ o → IsThere (ends o) → length (bytesAt s at n) ≡ n
-      go (refused f) e h = absurd h
-      go (got l next) e h = length-take-le n (drop at s) (omega (arith, run-inside e, length-drop at s))
-
-  pub run-bytes : Bytes s → Bytes (bytesAt s at n)
-  run-bytes hb = bytes-left (take n (drop at s)) (drop n (drop at s)) (rw take-append-drop (bytes-drop at s hb))
-
-  pub run-few : length (bytesAt s at n) ≤ length s
-  run-few = simp (length-take, length-drop) (omega arith)
-
-pub hash-valid : (s : List ℕ) → Bytes s → (at : ℕ) → IsThere (hashThere s at) → ValidHash (hashAt s at)
-unfolding decodeHash
-hash-valid s hb at h = (run-size s at 16 h, run-bytes s at 16 hb)
-
-run-needed : (n : ℕ) → NeedsByte (decodeRun n)
-run-needed n s at l next e = omega (arith, run-inside s at n e)
-
-hash-needed : NeedsByte decodeHash
-unfolding decodeHash
-hash-needed = run-needed 16
-
-address-needed : NeedsByte decodeAddress
-unfolding decodeAddress decodeDword
-address-needed s at a next e =
-    let w = went s (decodeDword s at) e in
-    let v = went s (decodeRun 4 s at) (w .was) in
-    run-needed 4 s at (v .first) (v .mid) (v .was)
-
-record-needed : NeedsByte decodeRecord
-unfolding decodeRecord
-record-needed s at a next e = let w = went s (decodeHash s at) e in hash-needed s at (w .first) (w .mid) (w .was)
+-- A run has no more bytes than there are.
+pub run-few : (s : List ℕ) (at n : ℕ) → length (bytesAt s at n) ≤ length s
+run-few s at n = simp (length-take, length-drop) (omega arith)
 
 -- A list whose items lie at its place, up to `end`.
 pub record Listed {A : Type 0} (d : Decoder A) (encode : A → List ℕ) (Valid : A → Type 0) (s : List ℕ) (l : Items) (end : ℕ) : Type 0 where

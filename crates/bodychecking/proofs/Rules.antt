@@ -17,7 +17,8 @@ use Rattle.format.specs.Decoding.{Outcome, Rule, ends, fault, got, refused, vio
 use Rattle.format.specs.Order.{decodeAddress, decodeHash, decodeRecord, decodeTag}
 use Rattle.format.specs.PacketOrder.{checkRange, checkRanges, decodeBits, decodeBody, decodeFlag, decodeRange, decodeRanges, decodeRequestParts, decodeSendingPart, decodeStatusRequest, decodeTriple, formOf}
 use Rattle.format.specs.Writing.{RecordFits, ValuesFit}
-use Rattle.format.proofs.Codec.{Codec, anywhere, behind, codec-byte, codec-counted, codec-dword, codec-pair, fits}
+use Rattle.format.proofs.Differ.{differ}
+use Rattle.format.proofs.Codec.{anywhere, behind, bytes-part, Codec, codec-byte, codec-counted, codec-dword, codec-pair, fits}
 use Rattle.format.proofs.Items.{codec-hash, codec-record}
 use Rattle.wire.specs.Meaning.{hashAt, itemsIn}
 use Rattle.records.specs.declared.Record.{Record}
@@ -29,17 +30,18 @@ use Rattle.bodies.specs.declared.SendingPart.{SendingPart}
 use Rattle.bodies.specs.declared.StatusRequest.{StatusRequest}
 use Rattle.bodies.specs.Meaning.{bodyIn, formMeaning}
 use Rattle.writing.specs.There.{bothThere, hashThere, itemsThere, placeThere}
+use Rattle.writing.proofs.There.{there-at, both-first, both-last, run-size, valid-hash}
 use Rattle.format.specs.RoundTrip.{IsThere}
 use Rattle.bodychecking.specs.Bodies.{BodyRule, bodyThere, queryThere, recordThere, breaks, differs, keeps}
 use Rattle.bodychecking.specs.Extents.{Bounded, brokenRule, flagRule, formRule, rangeRule}
-use Rattle.bodychecking.proofs.Places.{addresses-listed, both-first, both-last, hash-valid, hashes-listed, query-listed, records-listed, run-bytes, run-size, tags-listed, there-at}
+use Rattle.bodychecking.proofs.Places.{addresses-listed, hashes-listed, query-listed, records-listed, tags-listed}
 
 module _ (s : List ℕ) (hb : Bytes s) where
   record-valid : (r : Record) → Dword (r .client) × Word (r .port) → IsThere (recordThere s r) → RecordFits (recordIn s r) → ValidRecord (recordIn s r)
   record-valid r b t f =
       let h = hashThere s (r .hash) in
       let l = itemsThere decodeTag s (r .tags) in
-      record { hash = hash-valid s hb (r .hash) (both-first h l t); client = b .0; port = b .1; tags = (f .0, tags-listed s hb (r .tags) (there-at l (both-last h l t) .1) .valid) }
+      record { hash = valid-hash s hb (r .hash) (both-first h l t); client = b .0; port = b .1; tags = (f .0, tags-listed s hb (r .tags) (there-at l (both-last h l t) .1) .valid) }
 
 -- A flag above 1.
 flag-rule : (l : List messages.Record) (b : ℕ) → b < 256 → ValidValues messages.recordsBody l → BodyRule (messages.recordsFlagBody, (l, b)) (flagRule b)
@@ -132,7 +134,7 @@ module _ (m : messages.RequestParts) (h : ValidHash (m .hash)) (b : ValidTriple 
 
 -- 96: a form that the number does not say. The bytes are those of the other form.
 not-extended : messages.plain ≡ messages.extended → ⊥
-not-extended e = let z : _≡_ {A = ℕ} 0 1 = cc in omega arith
+not-extended e = differ cc
 
 module _ (n : ℕ) (few : Dword n) where
   form-differs : (f g : messages.Form) → formOf n ≡ g → (g ≡ messages.extended) ↔ (n / 65536 ≡ 0x5AAA) → ((f ≡ messages.extended) ↔ (n / 65536 ≡ 0x5AAA) → ⊥) →
@@ -159,7 +161,7 @@ module _ (n : ℕ) (few : Dword n) where
 
 module _ (s : List ℕ) (hb : Bytes s) where
   hash-first : (h : ℕ) (o : Outcome (Unit {0})) → IsThere (bothThere (hashThere s h) o) → ValidHash (hashAt s h)
-  hash-first h o t = hash-valid s hb h (both-first (hashThere s h) o t)
+  hash-first h o t = valid-hash s hb h (both-first (hashThere s h) o t)
 
   hash-then : (h : ℕ) (o : Outcome (Unit {0})) → IsThere (bothThere (hashThere s h) o) → (next : ℕ) × (o ≡ got tt next)
   hash-then h o t = there-at o (both-last (hashThere s h) o t)
@@ -167,11 +169,11 @@ module _ (s : List ℕ) (hb : Bytes s) where
   pub rules : (b : Body) → Bounded b → IsThere (bodyThere s b) → ValuesFit (bodyIn s b .0) (bodyIn s b .1) → BodyRule (bodyIn s b) (brokenRule b)
   rules Body.Nothing k t f = keeps tt
   rules (Body.Query q) k t f = keeps (query-listed s hb q (there-at (queryThere s q) t .1) .valid)
-  rules (Body.Hash h) k t f = keeps (hash-valid s hb h t)
+  rules (Body.Hash h) k t f = keeps (valid-hash s hb h t)
   rules (Body.Dword n) k t f = keeps k
   rules (Body.TwoDwords n m) k t f = keeps k
-  rules (Body.Text u) k t f = keeps (f, run-bytes s (u .at) (u .len) hb)
-  rules (Body.TwoTexts u v) k t f = keeps ((f .0, run-bytes s (u .at) (u .len) hb), (f .1, run-bytes s (v .at) (v .len) hb))
+  rules (Body.Text u) k t f = keeps (f, bytes-part s hb (u .at) (u .len))
+  rules (Body.TwoTexts u v) k t f = keeps ((f .0, bytes-part s hb (u .at) (u .len)), (f .1, bytes-part s hb (v .at) (v .len)))
   rules (Body.Address a) k t f = keeps k
   rules (Body.Addresses l) k t f = keeps (f, addresses-listed s hb l (there-at (itemsThere decodeAddress s l) t .1) .valid)
   rules (Body.HashAddresses h l) k t f =
@@ -186,15 +188,15 @@ module _ (s : List ℕ) (hb : Bytes s) where
   rules (Body.RecordsFlag l b) k t f = flag-rule (itemsIn decodeRecord s l) b k (f .0, records-listed s hb l (there-at (itemsThere decodeRecord s l) t .1) .valid)
   rules (Body.RecordAddress r a) k t f = keeps (record-valid s hb r (k .0) t f, k .1)
   rules (Body.Hello r a) k t f = keeps (record-valid s hb r (k .0) t f, k .1)
-  rules (Body.HashText h u) k t f = keeps (hash-first h (placeThere s u) t, (f, run-bytes s (u .at) (u .len) hb))
+  rules (Body.HashText h u) k t f = keeps (hash-first h (placeThere s u) t, (f, bytes-part s hb (u .at) (u .len)))
   rules (Body.Hashset h l) k t f =
       let o = itemsThere decodeHash s l in
       keeps (hash-first h o t, (f, hashes-listed s hb l (hash-then h o t .1) .valid))
   rules (Body.SendingPart p) k t f =
       let o = placeThere s (p .data) in
-      range-rule (bodyIn s (Body.SendingPart p) .1) (hash-first (p .hash) o t) k (run-bytes s (p .data .at) (p .data .len) hb) (p .data .len)
+      range-rule (bodyIn s (Body.SendingPart p) .1) (hash-first (p .hash) o t) k (bytes-part s hb (p .data .at) (p .data .len)) (p .data .len)
       (run-size s (p .data .at) (p .data .len) (both-last (hashThere s (p .hash)) o t))
-  rules (Body.RequestParts p) k t f = ranges-rule (bodyIn s (Body.RequestParts p) .1) (hash-valid s hb (p .hash) t) k
+  rules (Body.RequestParts p) k t f = ranges-rule (bodyIn s (Body.RequestParts p) .1) (valid-hash s hb (p .hash) t) k
   rules (Body.FileStatus p) k t f = keeps (record { hash = hash-first (p .hash) (ends (decodeBits (p .parts) s (p .bits))) t; parts = f })
   rules (Body.StatusRequest p) k t f = form-rule (p .number) k (p .form)
   rules (Body.Status u) k t f = keeps k

@@ -16,7 +16,7 @@ use Rattle.format.specs.Decoding.{Decoder, Rule, andThen, bytesAt, decodeRun, e
 use Rattle.format.specs.Order.{decodeAddress, decodeHash, decodeTag}
 use Rattle.format.specs.PacketOrder.{checkBits, decodeBits}
 use Rattle.format.specs.Writing.{overwritten}
-use Rattle.format.proofs.Codec.{length-littleEndian}
+use Rattle.format.proofs.Codec.{bytes-part, length-littleEndian}
 use Rattle.format.proofs.Bits.{bits-length, pack-unpack}
 use Rattle.wire.specs.declared.Items.{Items}
 use Rattle.wire.specs.declared.Place.{Place}
@@ -36,9 +36,10 @@ use Rattle.bodies.specs.Meaning.{bodyIn, heldAt, tripleOf}
 use Rattle.writing.specs.There.{hashThere, itemsThere, placeThere}
 use Rattle.format.specs.RoundTrip.{IsThere}
 use Rattle.writing.proofs.Pieces.{length-string}
+use Rattle.writing.proofs.There.{both-first, both-last, run-size, valid-hash}
 use Rattle.bodychecking.specs.Bodies.{bytesOf}
 use Rattle.bodychecking.proofs.Extents.{held-size}
-use Rattle.bodychecking.proofs.Places.{Listed, addresses-listed, both-first, both-last, hash-valid, hashes-listed, query-listed, records-listed, run-bytes, run-size, tags-listed}
+use Rattle.bodychecking.proofs.Places.{Listed, addresses-listed, hashes-listed, query-listed, records-listed, tags-listed}
 use Rattle.bodywriting.specs.Putting.{ListRun, Puts, Puttable, Run, listBytes}
 
 -- What was put are the bytes of the body.
@@ -56,7 +57,7 @@ bits-packed s hb n at h = first (leb (at + packedBytes n) (length s)) refl h
     second : Run s at (packedBytes n) → (t : Bool) → unusedClear n (bytesAt s at (packedBytes n)) ≡ t →
         IsThere (ends (settled at (packedBytes n) (pick t (passes (bitsIn n (bytesAt s at (packedBytes n)))) (violates Rule.statusBit)) (at + packedBytes n))) →
         Run s at (packedBytes n) × (packBits (heldAt n s at) ≡ bytesAt s at (packedBytes n))
-    second size true e h = (size, pack-unpack n (bytesAt s at (packedBytes n)) size (run-bytes s at (packedBytes n) hb) e)
+    second size true e h = (size, pack-unpack n (bytesAt s at (packedBytes n)) size (bytes-part s hb at (packedBytes n)) e)
     second size false e h = absurd h
 
     first : (t : Bool) → leb (at + packedBytes n) (length s) ≡ t →
@@ -94,7 +95,7 @@ module _ {s : List ℕ} {end : ℕ} {out : List ℕ} where
 
 -- Hashes and texts.
 hash-run : (s : List ℕ) → Bytes s → (h : ℕ) → IsThere (hashThere s h) → Run s h 16
-hash-run s hb h t = hash-valid s hb h t .0
+hash-run s hb h t = valid-hash s hb h t .0
 
 module _ (s : List ℕ) (t : Place) (h : IsThere (placeThere s t)) where
   text-run : Word (length (placeBytes s t)) → Run s (t .at) (t .len) × (t .len < 65536)

@@ -1,6 +1,6 @@
 -- Laws of entries that are written by themselves.
 use Prim.Native.Nat.{ℕ, _≤_, _<_}
-use mathlib.Core.Path.{_≡_, refl, sym, subst}
+use mathlib.Core.Path.{_≡_, refl, subst}
 use mathlib.Core.List.{List}
 use native.Mathlib.Omega.{arith}
 use lib.ListN.{length, length-append}
@@ -20,13 +20,14 @@ use Rattle.bodies.specs.declared.Body.{Body}
 use Rattle.bodies.specs.Meaning.{bodyIn}
 use Rattle.writing.specs.There.{hashThere, itemsThere}
 use Rattle.format.specs.RoundTrip.{IsThere}
-use Rattle.writing.specs.Writers.{writeChecked}
+use Rattle.writing.specs.Writers.{writeThere}
+use Rattle.writing.proofs.There.{there-at, both-last}
 use Rattle.bodychecking.specs.declared.BodyCheck.{BodyCheck}
 use Rattle.bodychecking.specs.Bodies.{BodyChecked, BodyEnds, bodyThere, bytesOf, recordThere}
 use Rattle.bodychecking.proofs.Extents.{records-fit}
-use Rattle.bodychecking.proofs.Places.{both-last, records-listed, tags-listed, there-at}
+use Rattle.bodychecking.proofs.Places.{records-listed, tags-listed}
 use Rattle.bodywriting.specs.Putting.{Puts}
-use Rattle.bodywriting.specs.Entries.{WritesBody, absent, overflows, tries, writeAddress, writeAddresses, writeRecord, writeRecords, writeThere}
+use Rattle.bodywriting.specs.Entries.{WritesBody, absent, overflows, tries, writeAddress, writeAddresses, writeRecord, writeRecords}
 
 -- What a check that found nothing says.
 pub record Fine (s : List ℕ) (b : Body) (c : BodyCheck) : Type 0 where
@@ -58,10 +59,10 @@ module _ {s : List ℕ} {b : Body} where
         let fits = le-leb (length (bytesOf (bodyIn s b))) (length output) (omega (arith, h .size)) in
         rw (n, o) (subst (WritesBody s b output) (rw fits refl) (tries (h .there) (h .fit)))
 
--- What is there is written by its number.
-there-writes : (o : Outcome (Unit {0})) (found : ℕ) (bytes output : List ℕ) → IsThere o → writeThere o found bytes output ≡ writeChecked found bytes output
-there-writes (refused f) found bytes output t = absurd t
-there-writes (got u next) found bytes output t = refl
+-- What is there is written.
+there-writes : (o : Outcome (Unit {0})) (output : List ℕ) {w : Written} → IsThere o → w ≡ writeThere o output w
+there-writes (refused f) output t = absurd t
+there-writes (got u next) output t = refl
 
 module _ (s : List ℕ) (hb : Bytes s) (output : List ℕ) where
   pub record-writes : {w : Written} (r : Record) → Dword (r .tags .count) → WritesBody s (Body.Record r) output w → w ≡ writeRecord s r output
@@ -71,7 +72,7 @@ module _ (s : List ℕ) (hb : Bytes s) (output : List ℕ) where
       let o = itemsThere decodeTag s (r .tags) in
       let x = tags-listed s hb (r .tags) (there-at o (both-last (hashThere s (r .hash)) o t) .1) in
       absurd (f (tags-fit (itemsIn decodeTag s (r .tags)) (omega (arith, x .count), x .valid)))
-  record-writes r few (tries t f) = sym (there-writes (recordThere s r) 0 _ output t)
+  record-writes r few (tries t f) = there-writes (recordThere s r) output t
 
   pub records-writes : {w : Written} (l : Items) → Dword (l .count) → WritesBody s (Body.Records l) output w → w ≡ writeRecords s l output
   unfolding writeRecords
@@ -79,15 +80,15 @@ module _ (s : List ℕ) (hb : Bytes s) (output : List ℕ) where
   records-writes l few (overflows t f) =
       let x = records-listed s hb l (there-at (itemsThere decodeRecord s l) t .1) in
       absurd (f (omega (arith, x .count), records-fit (itemsIn decodeRecord s l) (x .valid)))
-  records-writes l few (tries t f) = sym (there-writes (itemsThere decodeRecord s l) 0 _ output t)
+  records-writes l few (tries t f) = there-writes (itemsThere decodeRecord s l) output t
 
   pub addresses-writes : {w : Written} (l : Items) → WritesBody s (Body.Addresses l) output w → w ≡ writeAddresses s l output
   unfolding writeAddresses
   addresses-writes l (absent f e) = rw e refl
   addresses-writes l (overflows t f) =
-      rw (lt-leb (length (itemsIn decodeAddress s l)) 255 (omega (arith, f))) (sym (there-writes (itemsThere decodeAddress s l) 6 _ output t))
+      rw (lt-leb (length (itemsIn decodeAddress s l)) 255 (omega (arith, f))) (there-writes (itemsThere decodeAddress s l) output t)
   addresses-writes l (tries t f) =
-      rw (le-leb (length (itemsIn decodeAddress s l)) 255 (omega (arith, f))) (sym (there-writes (itemsThere decodeAddress s l) 0 _ output t))
+      rw (le-leb (length (itemsIn decodeAddress s l)) 255 (omega (arith, f))) (there-writes (itemsThere decodeAddress s l) output t)
 
 -- An address has 6 bytes.
 module _ (a : Address) (output : List ℕ) where

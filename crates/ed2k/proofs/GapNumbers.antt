@@ -2,7 +2,7 @@
 use Prim.Native.Nat.{ℕ, zero, suc, _+_, _-_, _*_, _≤_, _<_}
 use native.Mathlib.Omega.{arith}
 use native.Mathlib.Numerals.{add-one}
-use mathlib.Core.Path.{_≡_, refl, sym, ap, _∙_}
+use mathlib.Core.Path.{_≡_, refl, ap, _∙_}
 use mathlib.Core.List.{List, [], _∷_, _++_}
 use lib.ListN.{length, getD, drop, set, replicate, length-append, length-replicate, drop-of-length-le}
 use lib.Seq.{append-snoc, drop-cons, getD-drop, set-at}
@@ -18,14 +18,10 @@ use Rattle.gaps.specs.declared.MarkAnswer.{MarkAnswer}
 use Rattle.gaps.specs.Records.{place}
 use Rattle.gaps.proofs.Records.{placeAt}
 use Rattle.marking.specs.Numbers.{MarksNumbers, pairNumbers, pairsIn}
+use Rattle.marking.proofs.Numbers.{length-numbers, length-pairs}
 use Rattle.ed2k.specs.Gaps.{Marks}
 
 -- Reading
-
-length-pairs : (n : ℕ) (l : List ℕ) → length (pairsIn n l) ≡ n
-unfolding pairsIn
-length-pairs zero l = refl
-length-pairs (suc n) l = ap suc (length-pairs n (drop 2 l))
 
 last-pair : (n : ℕ) (l : List ℕ) → pairsIn (suc n) l ≡ pairsIn n l ++ place (getD l (2 * n) 0) (getD l (2 * n + 1) 0) ∷ []
 unfolding pairsIn
@@ -58,11 +54,6 @@ module _ (n : ℕ) (l : List ℕ) where
       rw (k, set-at (pairsIn n (drop 2 l)) (place 0 0) free p n (length-pairs n (drop 2 l)), next-pair, append-snoc) refl
 
 -- Writing
-
-length-numbers : (l : List Gap) → length (pairNumbers l) ≡ 2 * length l
-unfolding pairNumbers
-length-numbers [] = refl
-length-numbers (x ∷ l) = let e = length-numbers l in omega arith
 
 pub record PairsWritten (g : GapRecord) (old out : List ℕ) (wrote i : ℕ) : Type 0 where
   pub passed : i ≤ 64

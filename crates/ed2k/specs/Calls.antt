@@ -35,7 +35,6 @@ use Rattle.packets.specs.declared.Link.{Link}
 use Rattle.reader.specs.declared.Answer.{Answer}
 use Rattle.reader.specs.declared.Message.{Message}
 use Rattle.reader.specs.Meaning.{answerIn, AnswerPlaced}
-use Rattle.packets.specs.Meaning.{packetIn}
 use Rattle.writing.specs.There.{itemsThere}
 use Rattle.format.specs.RoundTrip.{RoundTrip, WritesAt}
 use Rattle.packetwriting.specs.Packets as packetwriting

@@ -12,7 +12,6 @@ use Rattle.packets.specs.declared.Packet.{Packet}
 use Rattle.met.specs.declared.KnownMet.{KnownMet}
 use Rattle.met.specs.declared.ServerMet.{ServerMet}
 use Rattle.met.specs.declared.HashBlocks.{HashBlocks}
-use Rattle.met.specs.declared.PartE1.{PartE1}
 use Rattle.met.specs.declared.PartMet.{PartMet}
 use Rattle.fields.specs.Fields.{filled, bodyNumbers, packetNumbers, knownNumbers, serverNumbers, partNumbers}
 use Rattle.fields.specs.Given.{bodyGiven, packetGiven, knownGiven, serverGiven, blocksGiven, partGiven}

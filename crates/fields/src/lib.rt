@@ -3,9 +3,8 @@
 //
 // specs/Fields.antt says which numbers a message has, specs/Given.antt which message numbers would be those of.
 ghost use mathlib.Core.Path.{_≡_};
-ghost use mathlib.Core.Bool.{Bool};
 ghost use mathlib.Core.List.{[], _∷_, _++_};
-ghost use Prim.Native.Nat.{_≤_, _<_};
+ghost use Prim.Native.Nat.{_<_};
 ghost use lib.ListN.{length, take};
 ghost use Rattle.format.specs.Tables.{same};
 ghost use Rattle.bodies.specs.declared.Body.{Body};

@@ -1,5 +1,5 @@
 -- Demand 3, for each of 01's six kinds and for the lone query and the lone tag list.
-use mathlib.Core.Path.{_≡_, refl}
+use mathlib.Core.Path.{_≡_}
 use mathlib.Core.Logic.{_↔_}
 use mathlib.Core.List.{List}
 use Prim.Native.Nat.{ℕ, _≤_}
@@ -8,7 +8,7 @@ use lib.ListN.{length}
 use Rattle.format.specs.Messages.{server, client, udp, Kind, serverLink, clientLink, udpLink, knownMet, serverMet, partMet, loneQuery, loneTags, Message}
 use Rattle.format.specs.Layout.{encode, encodeBody}
 use Rattle.format.specs.Rules.{Bytes, Dword, ceiling, ValidContent, Valid}
-use Rattle.format.specs.Decoding.{accepted, Reply, refusedWith, message, Answer, refusal, reply}
+use Rattle.format.specs.Decoding.{accepted, message, Answer, refusal, reply}
 use Rattle.format.specs.MetOrder.{decoder, decode}
 use Rattle.format.proofs.Codec.{atEnd, Codec}
 use Rattle.format.proofs.Whole as whole

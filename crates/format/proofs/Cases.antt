@@ -1,6 +1,6 @@
 -- Each case of 01's table holds, by computation.
 use mathlib.Core.Path.{refl}
-use Rattle.format.specs.Bits.{binary, tabulate, packBits, bitsIn, unusedClear}
+use Rattle.format.specs.Bits.{binary, tabulate, bitsIn, unusedClear}
 use Rattle.format.specs.Gaps.{missing, ordered, follows, lawful, count, between, remaining, subtract, marking}
 use Rattle.format.specs.Rules.{All, depth}
 use Rattle.format.specs.Decoding.{decodeRun, fromLittleEndian}

@@ -7,15 +7,16 @@ use mathlib.Core.List.{List, [], _∷_, _++_, append-assoc, append-nil}
 use Prim.Native.Nat.{ℕ, zero, suc, _+_, _*_, _-_, _/_, _%_, _^_, _<_, _≤_}
 use native.Mathlib.Omega.{arith}
 use native.Mathlib.Nat.{add-assoc}
-use lib.ListN.{length, take, drop, length-append, take-append-drop, length-take, length-drop}
+use lib.ListN.{length, take, drop, length-append, take-append-drop, length-drop}
 use lib.Seq.{take-at, drop-at, length-take-le, drop-drop, drop-length}
 use lib.Dec.{leb, eqb}
-use borrow.Author.Tests.{le-leb, leb-true, eqb-true, eqb-false, eq-eqb, ne-eqb}
+use borrow.Author.Tests.{le-leb, leb-true, eqb-true}
 use Rattle.format.specs.Tables.{lookup, pick, tableOf}
 use Rattle.format.specs.Layout.{counted, encodeAll, littleEndian}
 use Rattle.format.specs.Rules.{All, Bytes, Counted}
 use Rattle.format.specs.Decoding.{Check, Decoder, Fault, Outcome, Rule, _>>=_, _>>_, andThen, bytesAt, checked, decodeMany, decodeNumber, decodeRun, decodeTail, fault, found, fromLittleEndian, got, passes, pure, refused, settled, violates}
 use Rattle.format.specs.Order.{decodeByte, decodeCode, decodeCounted, decodeDword, decodeWord}
+use Rattle.format.proofs.Differ.{differ}
 
 -- An item may stand anywhere, or only at the end of the bytes.
 pub data Place : Type 0 where
@@ -38,7 +39,7 @@ pub record Codec {A : Type 0} (p : Place) (r : Decoder A) (encode : A → List �
 -- Helpers on outcomes.
 module _ {A : Type 0} where
   pub never : {f : Fault} {a : A} {r : ℕ} → refused f ≡ got a r → ⊥
-  never e = let z : _≡_ {A = ℕ} 0 1 = cc in omega arith
+  never e = differ cc
 
   pub same-value : {a b : A} {r s : ℕ} → got a r ≡ got b s → a ≡ b
   same-value e = cc
@@ -67,8 +68,15 @@ pub bytes-left : (l r : List ℕ) → Bytes (l ++ r) → Bytes l
 bytes-left [] r h = tt
 bytes-left (b ∷ l) r h = (h .0, bytes-left l r (h .1))
 
+pub bytes-append : (k l : List ℕ) → Bytes k → Bytes l → Bytes (k ++ l)
+bytes-append [] l hk hl = hl
+bytes-append (b ∷ k) l hk hl = (hk .0, bytes-append k l (hk .1) hl)
+
 pub bytes-drop : (at : ℕ) (s : List ℕ) → Bytes s → Bytes (drop at s)
 bytes-drop at s hb = bytes-right (take at s) (drop at s) (rw take-append-drop hb)
+
+pub bytes-part : (s : List ℕ) → Bytes s → (at n : ℕ) → Bytes (bytesAt s at n)
+bytes-part s hb at n = bytes-left (take n (drop at s)) (drop n (drop at s)) (rw take-append-drop (bytes-drop at s hb))
 
 pub glue : (x y rest : List ℕ) {bs mid : List ℕ} → bs ≡ x ++ mid → mid ≡ y ++ rest → bs ≡ (x ++ y) ++ rest
 glue x y rest p q = p ∙ ap (λ r. x ++ r) q ∙ sym (append-assoc x y rest)
@@ -344,7 +352,7 @@ codec-dword = codec-number 4
 
 -- A table that lists each thing under its code.
 pub lookup-code : {K : Type 0} (code : K → ℕ) (all : List K) (n : ℕ) (k : K) → lookup (tableOf code all) n ≡ some k → code k ≡ n
-lookup-code code [] n k e = let z : _≡_ {A = ℕ} 0 1 = cc in omega arith
+lookup-code code [] n k e = differ cc
 lookup-code {K} code (a ∷ all) n k e = go (eqb n (code a)) refl e (λ f. lookup-code code all n k f)
   where
     go : (b : Bool) → eqb n (code a) ≡ b → pick b (some a) (lookup (tableOf code all) n) ≡ some k → (lookup (tableOf code all) n ≡ some k → code k ≡ n) → code k ≡ n
@@ -370,15 +378,15 @@ codec-table code all there = codec-listed Rule.choice code all there
 -- Tests of a check.
 pub if-passes : {A : Type 0} (rule : Rule) {b : A} (a : A) (t : Bool) → pick t (passes a) (violates rule) ≡ passes b → (t ≡ true) × (a ≡ b)
 if-passes rule a true e = (refl, cc)
-if-passes rule a false e = let z : _≡_ {A = ℕ} 0 1 = cc in absurd (omega arith)
+if-passes rule a false e = differ cc
 
 pub unless-violates : {A : Type 0} (rule : Rule) {b : A} (v : Check A) (t : Bool) → pick t (violates rule) v ≡ passes b → (t ≡ false) × (v ≡ passes b)
-unless-violates rule v true e = let z : _≡_ {A = ℕ} 0 1 = cc in absurd (omega arith)
+unless-violates rule v true e = differ cc
 unless-violates rule v false e = (refl, e)
 
 pub if-violates : {A : Type 0} (rule : Rule) {b : A} (v : Check A) (t : Bool) → pick t v (violates rule) ≡ passes b → (t ≡ true) × (v ≡ passes b)
 if-violates rule v true e = (refl, e)
-if-violates rule v false e = let z : _≡_ {A = ℕ} 0 1 = cc in absurd (omega arith)
+if-violates rule v false e = differ cc
 
 -- The same bytes, the value in another form, where the rules make the two forms one.
 pub codec-map : {p : Place} {A B : Type 0} {r : Decoder A} {encode : A → List ℕ} {Valid : A → Type 0} (to : A → B) (from : B → A) (Valid′ : B → Type 0) →

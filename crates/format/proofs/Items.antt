@@ -1,11 +1,9 @@
 -- The law of each item.
-use mathlib.Core.Path.{_≡_, refl, sym, ap, _∙_}
-use mathlib.Core.Bool.{Bool, true, false}
+use mathlib.Core.Path.{_≡_, refl, sym, ap}
 use mathlib.Core.Logic.{_↔_}
 use mathlib.Core.List.{List, [], _∷_, _++_}
-use Prim.Native.Nat.{ℕ, zero, suc, max, _<_, _≤_}
+use Prim.Native.Nat.{ℕ, zero, suc, _<_, _≤_}
 use native.Mathlib.Omega.{arith}
-use lib.ListN.{length}
 use lib.Dec.{leb, eqb}
 use borrow.Author.Tests.{le-leb, leb-true, eqb-true, eqb-false, eq-eqb, ne-eqb}
 use Rattle.format.specs.Tables.{pick}
@@ -13,8 +11,8 @@ use Rattle.format.specs.Messages.{Bound, Operator, Query, TagType, and, 
 use Rattle.format.specs.Layout.{boundCode, encodeAddress, encodeHash, encodeName, encodeQuery, encodeRecord, encodeString, encodeTag, encodeTags, encodeValue, littleEndian, operatorCode, typeCode}
 use Rattle.format.specs.Rules.{Dword, ValidAddress, ValidHash, ValidLeaves, ValidName, ValidQuery, ValidRecord, ValidString, ValidTag, ValidTags, ValidValue, depth}
 use Rattle.format.specs.Decoding.{Decoder, Rule, _>>=_, andThen, checked, passes, pure, violates}
-use Rattle.format.specs.Order.{checkFixed, decodeFixed, QueryCase, caseCode, bounds, checkNameLength, decodeAddress, decodeCase, decodeCode, decodeDword, decodeHash, decodeName, decodeQuery, decodeQueryIn, decodeRecord, decodeString, decodeTag, decodeTags, decodeType, decodeValue, decodeValueOf, decodeWord, isField, isJoin, isKeyword, isLimit, operators, queryCases, tagTypes}
-use Rattle.format.proofs.Codec.{Place, anywhere, atEnd, Codec, never, here, codec-run, codec-after, codec-cases, codec-labelled, codec-pair, codec-checked, codec-via, regroup, no-more, andThen-same, same, recast, codec-counted-bytes, codec-counted, codec-byte, codec-word, codec-dword, codec-table, if-passes, unless-violates, if-violates}
+use Rattle.format.specs.Order.{decodeFixed, QueryCase, caseCode, bounds, checkNameLength, decodeAddress, decodeCase, decodeCode, decodeDword, decodeHash, decodeName, decodeQuery, decodeQueryIn, decodeRecord, decodeString, decodeTag, decodeTags, decodeType, decodeValue, decodeValueOf, decodeWord, isField, isJoin, isKeyword, isLimit, operators, queryCases}
+use Rattle.format.proofs.Codec.{Place, anywhere, Codec, never, here, codec-run, codec-after, codec-cases, codec-labelled, codec-pair, codec-checked, codec-via, regroup, same, recast, codec-counted-bytes, codec-counted, codec-byte, codec-word, codec-dword, codec-table, if-passes, unless-violates}
 
 pub codec-hash : {p : Place} → Codec p decodeHash encodeHash ValidHash
 unfolding decodeHash
@@ -162,12 +160,12 @@ bytes-query (keyword t) = refl
 bytes-query (field t n) = refl
 bytes-query (limit v s n) = refl
 
-deep : (q : Query) → 1 ≤ depth q
+pub some-depth : (q : Query) → 1 ≤ depth q
 unfolding depth
-deep (join o q r) = omega arith
-deep (keyword t) = omega arith
-deep (field t n) = omega arith
-deep (limit v s n) = omega arith
+some-depth (join o q r) = omega arith
+some-depth (keyword t) = omega arith
+some-depth (field t n) = omega arith
+some-depth (limit v s n) = omega arith
 
 together : (q : Query) → made (apart q .0) (apart q .1) ≡ q
 together (join o q r) = refl
@@ -183,7 +181,7 @@ back isLimit v = refl
 
 codec-queryIn : {p : Place} (d : ℕ) → Codec p (decodeQueryIn d) encodeQuery (In d)
 unfolding decodeQueryIn
-codec-queryIn zero = record { sound = λ s hb at i q next e z. absurd (never e); complete = λ s at q rest h e i z. absurd (omega (arith, deep q)) }
+codec-queryIn zero = record { sound = λ s hb at i q next e z. absurd (never e); complete = λ s at q rest h e i z. absurd (omega (arith, some-depth q)) }
 codec-queryIn (suc d) = recast bytes-query (rules-query d) (codec-cases made apart together back (case-decodes (decodeQueryIn d)) codec-case (codec-parts d (codec-queryIn d)))
 
 pub codec-query : {p : Place} → Codec p decodeQuery encodeQuery ValidQuery

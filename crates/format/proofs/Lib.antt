@@ -1,3 +1,4 @@
+pub mod Differ
 pub mod Gaps
 pub mod Intervals
 pub mod Bits

@@ -1,8 +1,8 @@
 -- The laws of a loop that decodes n items and keeps none of them.
-use Prim.Native.Nat.{ℕ, zero, suc, _-_, _<_, _≤_, _+_}
-use mathlib.Core.Path.{_≡_, refl, sym, _∙_}
+use Prim.Native.Nat.{ℕ, suc, _-_, _<_, _≤_, _+_}
+use mathlib.Core.Path.{_≡_, refl, _∙_}
 use native.Mathlib.Omega.{arith}
-use mathlib.Core.List.{List, [], _∷_}
+use mathlib.Core.List.{List, _∷_}
 use Rattle.format.specs.Decoding.{Decoder, Fault, Outcome, refused, got, andThen, pure, decodeMany, itemsOf, ends}
 
 ends-cons : {A : Type 0} (s : List ℕ) (a : A) (o : Outcome (List A)) → ends (andThen s o (λ l. pure (a ∷ l))) ≡ ends o

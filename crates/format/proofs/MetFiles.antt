@@ -1,20 +1,19 @@
 -- The law of each met file.
-use mathlib.Core.Path.{_≡_, refl, sym, ap, _∙_}
-use mathlib.Core.Bool.{Bool, true, false}
+use mathlib.Core.Path.{_≡_, refl, sym, _∙_}
 use mathlib.Core.Logic.{inl, inr}
 use mathlib.Core.List.{List, [], _∷_, _++_}
-use Prim.Native.Nat.{ℕ, zero, suc, _+_, _≤_}
+use Prim.Native.Nat.{ℕ, _+_}
 use native.Mathlib.Omega.{arith}
 use lib.ListN.{length}
 use Rattle.format.specs.Tables.{OneOf}
 use Rattle.format.specs.Messages.{HashBlocks, noBlocks, partBlock, blockBlock, bothBlocks}
 use Rattle.format.specs.Layout.{encodeAll, encodeFileEntry, encodeHash, encodeHashBlocks, encodeKnownMet, encodeServerEntry, encodeServerMet, littleEndian}
-use Rattle.format.specs.Rules.{All, Byte, Bytes, Counted, Dword, ValidBlockHash, ValidFileEntry, ValidHash, ValidHashBlocks, ValidKnownMet, ValidServerEntry, ValidServerMet, blockCount, metOpenings, partCount}
+use Rattle.format.specs.Rules.{All, Byte, ValidBlockHash, ValidFileEntry, ValidHash, ValidHashBlocks, ValidKnownMet, ValidServerEntry, ValidServerMet, blockCount, metOpenings, partCount}
 use Rattle.format.specs.Decoding.{Decoder, _>>=_, andThen, decodeMany, decodeRun, pure}
 use Rattle.format.specs.Order.{decodeCode, decodeFixed, decodeHash}
 use Rattle.format.specs.PacketOrder.{both}
 use Rattle.format.specs.MetOrder.{Mark, markCode, decodeFileEntry, decodeFirstBlock, decodeHashBlocks, decodeKnownMet, decodeSecondBlock, decodeServerEntry, decodeServerMet, marks, more, stop}
-use Rattle.format.proofs.Codec.{Place, anywhere, atEnd, Codec, here, codec-run, codec-tail, codec-pure, codec-after, codec-casesValid, codec-pair, codec-via, codec-map, regroup, no-more, andThen-same, same, recast, codec-counted, codec-many, codec-word, codec-dword, codec-table}
+use Rattle.format.proofs.Codec.{Place, atEnd, Codec, codec-run, codec-tail, codec-pure, codec-after, codec-casesValid, codec-pair, codec-via, regroup, andThen-same, same, recast, codec-counted, codec-many, codec-word, codec-dword, codec-table}
 use Rattle.format.proofs.Items.{codec-fixed, codec-hash, codec-tags}
 use Rattle.format.proofs.Packets.{codec-opening}
 
@@ -38,7 +37,7 @@ codec-known = same (λ s at. simp regroup) (recast (λ _. refl)
     (codec-pair (codec-opening metOpenings) (codec-counted codec-dword codec-entry))))
 
 -- server.met
-codec-server : {p : Place} → Codec p decodeServerEntry encodeServerEntry ValidServerEntry
+pub codec-server : {p : Place} → Codec p decodeServerEntry encodeServerEntry ValidServerEntry
 unfolding decodeServerEntry encodeServerEntry
 codec-server = same (λ s at. simp regroup) (recast (λ _. refl)
     (λ e. (λ h. (h .ip, (h .port, h .tags)), λ h. record { ip = h .0; port = h .1 .0; tags = h .1 .1 }))

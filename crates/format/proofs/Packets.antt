@@ -4,7 +4,7 @@ use mathlib.Core.Bool.{Bool, true, false}
 use mathlib.Core.Option.{Option, none, some}
 use mathlib.Core.Logic.{_↔_, _⊎_, inl, inr}
 use mathlib.Core.List.{List, [], _∷_, _++_}
-use Prim.Native.Nat.{ℕ, zero, suc, _+_, _-_, _/_, _<_, _≤_}
+use Prim.Native.Nat.{ℕ, _+_, _-_, _/_, _≤_}
 use native.Mathlib.Omega.{arith}
 use lib.ListN.{length, length-append}
 use lib.Dec.{leb, eqb}
@@ -16,7 +16,8 @@ use Rattle.format.specs.Layout.{encodeBody, encodeExtendedStatus, encode
 use Rattle.format.specs.Rules.{Byte, Bytes, Dword, ValidExtendedStatus, ValidFileStatus, ValidPacket, ValidRequestParts, ValidSendingPart, ValidStatusRequest, ValidTriple, ValidValues}
 use Rattle.format.specs.Decoding.{Rule, _>>=_, decodeTail, passes, pure, violates}
 use Rattle.format.specs.PacketOrder.{both, checkBits, checkRange, checkRanges, decodeBits, decodeBody, decodeExtendedStatus, decodeFileStatus, decodeFlag, decodeOpcode, decodeOpening, decodeRange, decodeRanges, decodeRequestParts, decodeSendingPart, decodeStatusRequest, decodeTcp, decodeTriple, decodeUdp, decodeValues, formOf, withShape}
-use Rattle.format.proofs.Codec.{Place, anywhere, atEnd, Codec, here, codec-run, codec-tail, codec-pure, codec-labelled, codec-after, codec-pair, codec-checked, codec-via, codec-map, regroup, no-more, same, recast, codec-counted, codec-byte, codec-word, codec-dword, if-passes, unless-violates, if-violates, found-passes, length-littleEndian}
+use Rattle.format.proofs.Differ.{differ}
+use Rattle.format.proofs.Codec.{Place, anywhere, atEnd, Codec, codec-run, codec-tail, codec-pure, codec-labelled, codec-after, codec-pair, codec-checked, codec-via, codec-map, regroup, no-more, same, recast, codec-counted, codec-byte, codec-word, codec-dword, if-passes, if-violates, found-passes, length-littleEndian}
 use Rattle.format.proofs.Items.{codec-fixed, codec-hash, codec-string, codec-address, codec-tags, codec-record, codec-query}
 use Rattle.format.proofs.Whole.{codec-before, codec-framed, codec-bySize}
 use Rattle.format.proofs.Bits.{packed-length, packed-bytes, packed-clear, bits-length, unpack-pack, pack-unpack}
@@ -100,12 +101,12 @@ form-means n = go (eqb (n / 65536) 0x5AAA) refl
   where
     go : (t : Bool) → eqb (n / 65536) 0x5AAA ≡ t → (pick t extended plain ≡ extended) ↔ (n / 65536 ≡ 0x5AAA)
     go true q = (λ _. eqb-true (n / 65536) 0x5AAA q, λ _. refl)
-    go false q = (λ e. let z : _≡_ {A = ℕ} 0 1 = cc in absurd (omega arith), λ e. absurd (eqb-false (n / 65536) 0x5AAA q e))
+    go false q = (λ e. differ cc, λ e. absurd (eqb-false (n / 65536) 0x5AAA q e))
 
 form-decided : (f : Form) (n : ℕ) → (f ≡ extended) ↔ (n / 65536 ≡ 0x5AAA) → formOf n ≡ f
 form-decided extended n h = form-means n .1 (h .0 refl)
 form-decided plain n h =
-    rw (ne-eqb (n / 65536) 0x5AAA (λ e. let q : plain ≡ extended = h .1 e in let z : _≡_ {A = ℕ} 0 1 = cc in omega arith))
+    rw (ne-eqb (n / 65536) 0x5AAA (λ e. let q : plain ≡ extended = h .1 e in differ cc))
 
 codec-statusRequest : {p : Place} → Codec p decodeStatusRequest encodeStatusRequest ValidStatusRequest
 unfolding decodeStatusRequest
@@ -156,7 +157,7 @@ codec-values statusBody = codec-bySize 12 (λ a h. simp (length-append, length-l
 
 -- The frame
 one-of : (l : List ℕ) (n : ℕ) → (oneOf l n ≡ true) ↔ OneOf l n
-one-of [] n = (λ e. let z : _≡_ {A = ℕ} 0 1 = cc in absurd (omega arith), λ h. absurd h)
+one-of [] n = (λ e. differ cc, λ h. absurd h)
 one-of (a ∷ l) n = go (eqb n a) refl (one-of l n)
   where
     later : (n ≡ a) ⊎ OneOf l n → (n ≡ a → ⊥) → OneOf l n
@@ -177,7 +178,7 @@ codec-opening openings = codec-checked 1 _ (λ b. b) (λ b. Byte b × OneOf open
 
 -- A link that lists an opcode under an opening byte has that opening byte.
 lists-opening : (link : Link) (b n : ℕ) (s : Shape) → lookup (rows link b) n ≡ some s → OneOf (keys link) b
-lists-opening [] b n s e = let z : _≡_ {A = ℕ} 0 1 = cc in absurd (omega arith)
+lists-opening [] b n s e = differ cc
 lists-opening (p ∷ link) b n s e = go (eqb b (p .0)) refl e (lists-opening link b n s)
   where
     go : (t : Bool) → eqb b (p .0) ≡ t → lookup (pick t (p .1) (rows link b)) n ≡ some s → (lookup (rows link b) n ≡ some s → OneOf (keys link) b) →
@@ -186,7 +187,7 @@ lists-opening (p ∷ link) b n s e = go (eqb b (p .0)) refl e (lists-opening lin
     go false q e later = inr (later e)
 
 with-shape : (b : ℕ) (o : Option Shape) (c : ℕ × Shape) → withShape b o ≡ some c → (c .0 ≡ b) × (o ≡ some (c .1))
-with-shape b none c e = let z : _≡_ {A = ℕ} 0 1 = cc in absurd (omega arith)
+with-shape b none c e = differ cc
 with-shape b (some s) c e = let q : (b, s) ≡ c = cc in (sym (ap (λ c. c .0) q), ap (λ c. some (c .1)) q)
 
 codec-opcode : (table : Opcodes) → Codec anywhere (decodeOpcode table) (λ c. littleEndian 1 (c .0)) (λ c. Byte (c .0) × (lookup table (c .0) ≡ some (c .1)))

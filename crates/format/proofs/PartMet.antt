@@ -1,5 +1,5 @@
 -- The law of part.met.
-use mathlib.Core.Path.{_≡_, refl, sym, ap, _∙_, subst}
+use mathlib.Core.Path.{_≡_, refl, sym, ap, subst}
 use mathlib.Core.Logic.{_↔_}
 use mathlib.Core.List.{List, [], _∷_, _++_}
 use Prim.Native.Nat.{ℕ, _-_, _*_, _≤_}
@@ -9,11 +9,11 @@ use Rattle.format.specs.Gaps.{Ordered}
 use Rattle.format.specs.Messages.{FileEntry, PartE1, PartMet, Tag, e0, e1}
 use Rattle.format.specs.Layout.{encodeFileEntry, encodePartE1, encodePartMet, encodeTags, littleEndian}
 use Rattle.format.specs.Rules.{All, Dword, SizeIs, ValidHashBlocks, ValidPartE0, ValidPartE1, ValidPartMet, ValidPartTags, ValidTag, ValidTags, blockCount, partCount, sizeTag}
-use Rattle.format.specs.Decoding.{Check, Decoder, Rule, _>>=_, andThen, checkedWhole, got, passes, pure}
+use Rattle.format.specs.Decoding.{Check, Decoder, Rule, andThen, checkedWhole, got, passes, pure}
 use Rattle.format.specs.GapTags.{gapsOf}
 use Rattle.format.specs.PartTagOrder.{checkPartTags, sizes}
 use Rattle.format.specs.MetOrder.{Edition, editionCode, decodeEdition, decodePartBody, decodePartE0, decodePartE1, decodePartMet, decodePartTags, isE0, isE1}
-use Rattle.format.proofs.Codec.{Place, anywhere, atEnd, Codec, Found, moved, went, settled-got, codec-pair, codec-after, codec-map, codec-cases, codec-listed, regroup, same, recast, codec-counted, codec-word, codec-dword}
+use Rattle.format.proofs.Codec.{Place, anywhere, Codec, Found, moved, went, settled-got, codec-pair, codec-after, codec-map, codec-cases, codec-listed, regroup, same, recast, codec-counted, codec-word, codec-dword}
 use Rattle.format.proofs.Items.{codec-fixed, codec-hash, codec-tags}
 use Rattle.format.proofs.MetFiles.{codec-blocks}
 use Rattle.format.proofs.PartTags.{size-sizes, check-means, means-check, gaps-ordered}

@@ -1,20 +1,21 @@
 -- What each refusal of a part.met's tags says, in plain words: 9, 6 and 8.
-use mathlib.Core.Path.{_≡_, refl, sym, ap, ap₂, _∙_, subst, subst₂}
+use mathlib.Core.Path.{_≡_, refl, sym, ap, _∙_}
 use mathlib.Core.Bool.{Bool, true, false}
 use mathlib.Core.Logic.{_↔_, _⊎_, inl, inr}
-use mathlib.Core.List.{List, [], _∷_, _++_, map, reverse, reverseAux}
-use Prim.Native.Nat.{ℕ, zero, suc, _+_, _<_, _≤_}
+use mathlib.Core.List.{List, [], _∷_, _++_, reverse}
+use Prim.Native.Nat.{ℕ, _+_, _≤_}
 use native.Mathlib.Omega.{arith}
 use lib.ListN.{length, length-reverseAux}
-use lib.Dec.{leb, ltb, eqb}
-use borrow.Author.Tests.{le-leb, leb-true, lt-leb, leb-false}
+use lib.Dec.{leb, ltb}
+use borrow.Author.Tests.{le-leb, leb-true}
 use Rattle.format.specs.Tables.{pick, same}
 use Rattle.format.specs.Messages.{Tag}
-use Rattle.format.specs.Rules.{GapPair, NoGapTag, SizeIs, ValidGapTags, done, gapOf, pair}
+use Rattle.format.specs.Rules.{GapPair, NoGapTag, SizeIs, ValidGapTags, done}
 use Rattle.format.specs.Decoding.{Check, Rule, andCheck, passes, violates}
 use Rattle.format.specs.GapTags.{Role, end, odd, plain, role, start}
 use Rattle.format.specs.PartTagOrder.{Progress, between, checkEnd, checkPartTags, checkStart, nextStart, numbered, scan, sizes, sole, step, used, within}
-use Rattle.format.proofs.PartTags.{violates-passes, passes-same, either-test, sizes-means, size-sizes, sole-fine, Means, role-means, Good, Front, Half, Left, back-between, back-within, scan-front, good-plain, gaps-good, check-means, means-check, gaps-lawful}
+use Rattle.format.proofs.Differ.{differ}
+use Rattle.format.proofs.PartTags.{violates-passes, sizes-means, size-sizes, Means, role-means, Good, Front, Half, Left, back-between, back-within, scan-front, good-plain, gaps-good, means-check, gaps-lawful}
 
 violates-same : {A : Type 0} {r q : Rule} → _≡_ {A = Check A} (violates r) (violates q) → r ≡ q
 violates-same e = cc
@@ -61,9 +62,9 @@ room-why ps role h v q f false t e = inl (f e)
 step-why : (size : ℕ) (s : Progress) (r : Role) (q : Rule) → step size s r ≡ violates q → Why s r q
 unfolding step
 step-why size (between ps) plain q e = absurd (passes-violates e)
-step-why size (between ps) odd q e = room-why ps odd (λ z. let z : _≡_ {A = ℕ} 0 1 = cc in omega arith) (violates Rule.order) q (λ e. sym (violates-same e)) (leb 64 (length ps)) refl e
-step-why size (between ps) (start d n) q e = room-why ps (start d n) (λ z. let z : _≡_ {A = ℕ} 0 1 = cc in omega arith) (checkStart ps d n) q (opens-order ps d n q) (leb 64 (length ps)) refl e
-step-why size (between ps) (end d n) q e = room-why ps (end d n) (λ z. let z : _≡_ {A = ℕ} 0 1 = cc in omega arith) (violates Rule.order) q (λ e. sym (violates-same e)) (leb 64 (length ps)) refl e
+step-why size (between ps) odd q e = room-why ps odd (λ z. differ cc) (violates Rule.order) q (λ e. sym (violates-same e)) (leb 64 (length ps)) refl e
+step-why size (between ps) (start d n) q e = room-why ps (start d n) (λ z. differ cc) (checkStart ps d n) q (opens-order ps d n q) (leb 64 (length ps)) refl e
+step-why size (between ps) (end d n) q e = room-why ps (end d n) (λ z. differ cc) (violates Rule.order) q (λ e. sym (violates-same e)) (leb 64 (length ps)) refl e
 step-why size (within ps d n) plain q e = inl (sym (violates-same e))
 step-why size (within ps d n) odd q e = inl (sym (violates-same e))
 step-why size (within ps d n) (start c m) q e = inl (sym (violates-same e))
@@ -98,8 +99,8 @@ nine tags = (there, λ h. rw (sole-none (sizes tags) (λ n e. h n (sizes-means n
     no-scan size e = go (andCheck-violates {B = ℕ × List Tag} (scan size (between []) tags) (λ _. passes (size, tags)) Rule.sizeTag e)
       where
         late : (Rule.sizeTag ≡ Rule.order) ⊎ (Rule.sizeTag ≡ Rule.gapCeiling) → ⊥
-        late (inl e) = let z : _≡_ {A = ℕ} 0 1 = cc in omega arith
-        late (inr e) = let z : _≡_ {A = ℕ} 0 1 = cc in omega arith
+        late (inl e) = differ cc
+        late (inr e) = differ cc
 
         go : (scan size (between []) tags ≡ violates Rule.sizeTag) ⊎ ((a : List GapPair) × ((scan size (between []) tags ≡ passes a) × (_≡_ {A = Check (ℕ × List Tag)} (passes (size, tags)) (violates Rule.sizeTag)))) → ⊥
         go (inl e) = late (scan-why size tags (between []) Rule.sizeTag e)
@@ -119,7 +120,7 @@ gap-role t (start d n) m h k = k d .0 (ap (λ t. t .name) m)
 gap-role t (end d n) m h k = k d .1 (ap (λ t. t .name) m)
 
 not-both : Rule.gapCeiling ≡ Rule.order → ⊥
-not-both e = let z : _≡_ {A = ℕ} 0 1 = cc in omega arith
+not-both e = differ cc
 
 six-sound : (size : ℕ) (l : List Tag) (s : Progress) → scan size s l ≡ violates Rule.gapCeiling → Left size s l GapBehind64
 unfolding scan Good

@@ -1,14 +1,14 @@
 -- The check of a part.met's tags says exactly its rules.
 use mathlib.Core.Path.{_≡_, refl, sym, ap, ap₂, _∙_, subst}
 use mathlib.Core.Bool.{Bool, true, false}
-use mathlib.Core.Option.{Option, none, some}
+use mathlib.Core.Option.{some}
 use mathlib.Core.Logic.{_↔_, _⊎_, inl, inr}
 use mathlib.Core.List.{List, [], _∷_, _++_, map, append-nil, reverse, reverseAux, reverse-reverse}
-use Prim.Native.Nat.{ℕ, zero, suc, _+_, _<_, _≤_}
+use Prim.Native.Nat.{ℕ, _+_, _<_, _≤_}
 use native.Mathlib.Omega.{arith}
 use lib.ListN.{length, length-map}
 use lib.Dec.{leb, ltb, eqb}
-use borrow.Author.Tests.{le-leb, leb-true, lt-leb, leb-false, lt-ltb, ltb-true, eqb-true, eqb-false, eq-eqb, ne-eqb}
+use borrow.Author.Tests.{le-leb, leb-true, lt-leb, leb-false, lt-ltb, ltb-true, eqb-true, eqb-false, eq-eqb}
 use Rattle.format.specs.Tables.{pick, same}
 use Rattle.format.specs.Gaps.{Ordered}
 use Rattle.format.specs.Messages.{Tag, TagType, TagValue, dwordType, floatType, hashType, stringType}
@@ -16,11 +16,12 @@ use Rattle.format.specs.Rules.{All, Apart, Digits, Distinct, GapPair, No
 use Rattle.format.specs.Decoding.{Check, Rule, andCheck, passes, violates}
 use Rattle.format.specs.GapTags.{Role, end, ending, gapEnds, gapStarts, gapsOf, numberOf, odd, plain, role, roleIn, start, starting, zipGaps}
 use Rattle.format.specs.PartTagOrder.{Progress, afterFull, between, checkPartTags, checkStart, decimal, nextStart, numbered, scan, sizeIn, sizes, sole, step, used, within}
+use Rattle.format.proofs.Differ.{differ}
 use Rattle.format.proofs.Codec.{if-passes, unless-violates, if-violates}
 
 -- Checks
 pub violates-passes : {A : Type 0} {rule : Rule} {a : A} → violates rule ≡ passes a → ⊥
-violates-passes e = let z : _≡_ {A = ℕ} 0 1 = cc in omega arith
+violates-passes e = differ cc
 
 pub passes-same : {A : Type 0} {a b : A} → passes a ≡ passes b → a ≡ b
 passes-same e = cc
@@ -36,7 +37,7 @@ andCheck-passes (violates rule) f e = absurd (violates-passes e)
 
 -- Tests on names
 pub no-true : false ≡ true → ⊥
-no-true e = let z : _≡_ {A = ℕ} 0 1 = cc in omega arith
+no-true e = differ cc
 
 pub both-true : (a b : Bool) → pick a b false ≡ true → (a ≡ true) × (b ≡ true)
 both-true true b e = (refl, e)
@@ -60,6 +61,9 @@ either-test false f g = g refl
 
 same-not : (k l : List ℕ) → (k ≡ l → ⊥) → same k l ≡ false
 same-not k l h = either-test (same k l) (λ e. absurd (h (same-true k l e))) (λ e. e)
+
+pub same-lengths : (k l : List ℕ) → (length k ≡ length l → ⊥) → same k l ≡ false
+same-lengths k l h = same-not k l (λ e. h (ap length e))
 
 decimal-means : (d : List ℕ) → (decimal d ≡ true) ↔ All (λ b. (0x30 ≤ b) × (b ≤ 0x39)) d
 unfolding decimal
@@ -109,7 +113,7 @@ sizes-size n l = refl
 
 not-size : (t : Tag) → sizeOf t ≡ [] → NoSizeTag t
 unfolding same
-not-size t e n q = let f : sizeOf t ≡ n ∷ [] = ap sizeOf q in let z : _≡_ {A = ℕ} 0 1 = cc in omega arith
+not-size t e n q = let f : sizeOf t ≡ n ∷ [] = ap sizeOf q in differ cc
 
 -- A tag is a size tag and its number the first of the sizes, or it is none and adds nothing.
 view-size : (t : Tag) (l : List Tag) → ((n : ℕ) × ((t ≡ sizeTag n) × (sizes (t ∷ l) ≡ n ∷ sizes l))) ⊎ (NoSizeTag t × (sizes (t ∷ l) ≡ sizes l))
@@ -125,7 +129,7 @@ none-sizes [] e = tt
 none-sizes (t ∷ l) e = go (view-size t l) (none-sizes l)
   where
     go : ((n : ℕ) × ((t ≡ sizeTag n) × (sizes (t ∷ l) ≡ n ∷ sizes l))) ⊎ (NoSizeTag t × (sizes (t ∷ l) ≡ sizes l)) → (sizes l ≡ [] → All NoSizeTag l) → All NoSizeTag (t ∷ l)
-    go (inl h) later = let f = h .1 .1 in let z : _≡_ {A = ℕ} 0 1 = cc in absurd (omega arith)
+    go (inl h) later = let f = h .1 .1 in differ cc
     go (inr h) later = (h .0, later (sym (h .1) ∙ e))
 
 sizes-none : (l : List Tag) → All NoSizeTag l → sizes l ≡ []
@@ -139,7 +143,7 @@ sizes-none (t ∷ l) h = go (view-size t l) (sizes-none l (h .1))
 
 pub sizes-means : (size : ℕ) (l : List Tag) → sizes l ≡ size ∷ [] → SizeIs size l
 unfolding sizes
-sizes-means size [] e = let z : _≡_ {A = ℕ} 0 1 = cc in absurd (omega arith)
+sizes-means size [] e = differ cc
 sizes-means size (t ∷ l) e = go (view-size t l) (sizes-means size l)
   where
     go : ((n : ℕ) × ((t ≡ sizeTag n) × (sizes (t ∷ l) ≡ n ∷ sizes l))) ⊎ (NoSizeTag t × (sizes (t ∷ l) ≡ sizes l)) → (sizes l ≡ size ∷ [] → SizeIs size l) → SizeIs size (t ∷ l)
@@ -188,7 +192,7 @@ ending-means d dwordType v = refl
 ending-means d floatType v = λ h. h d .1 refl
 
 means-in : (name : List ℕ) (k : TagType) (v : TagValue k) → Means (made name k v) (roleIn name (numberOf k v))
-means-in [] k v = λ rest. (λ e. let z : _≡_ {A = ℕ} 0 1 = cc in omega arith, λ e. let z : _≡_ {A = ℕ} 0 1 = cc in omega arith)
+means-in [] k v = λ rest. (λ e. differ cc, λ e. differ cc)
 means-in (b ∷ d) k v = either-test (eqb b 0x09)
     (λ e. rw e (rw (eqb-true b 0x09 e) (starting-means d k v)))
     (λ e. rw e (either-test (eqb b 0x0A)

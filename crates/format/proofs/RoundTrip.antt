@@ -1,7 +1,6 @@
 -- A write of the format goes both ways.
 use mathlib.Core.Path.{_≡_, refl, sym, ap, subst, _∙_}
 use mathlib.Core.Bool.{Bool, true, false}
-use mathlib.Core.Logic.{_↔_}
 use mathlib.Core.List.{List}
 use Prim.Native.Nat.{ℕ, _≤_}
 use native.Mathlib.Omega.{arith}
@@ -13,9 +12,8 @@ use Rattle.format.specs.Tables.{pick}
 use Rattle.format.specs.Messages.{Kind, Message}
 use Rattle.format.specs.Layout.{encode}
 use Rattle.format.specs.Rules.{Bytes, Valid}
-use Rattle.format.specs.Decoding.{Fault, Outcome, accepted, got, number, refused}
-use Rattle.format.specs.MetOrder.{decode}
-use Rattle.format.specs.Writing.{Judged, Written, Writes, overwritten, refuses, tries, unwritten, writtenInto}
+use Rattle.format.specs.Decoding.{Outcome, number}
+use Rattle.format.specs.Writing.{Written, Writes, overwritten, refuses, tries, unwritten}
 use Rattle.format.proofs.Writing.{judged-once, judged-valid, number-some, reads-writes, valid-judged, writes-reads}
 use Rattle.format.specs.RoundTrip.{IsThere, RoundTrip, WritesAt, absent, present}
 

@@ -1,16 +1,18 @@
 -- What code cites of runs and numbers: there, or short.
 use Prim.Native.Nat.{ℕ, suc, _+_, _*_, _≤_, _<_}
 use mathlib.Core.Path.{_≡_, refl, sym, ap, _∙_}
-use mathlib.Core.List.{List, [], _∷_}
-use lib.ListN.{length, take, drop, getD}
-use lib.Seq.{drop-cons}
+use mathlib.Core.List.{List, _∷_}
+use lib.ListN.{length, drop, getD, length-drop}
+use lib.Seq.{drop-cons, length-take-le}
 use native.Mathlib.Omega.{arith}
 use native.Mathlib.Numerals.{add-one}
 use native.Mathlib.Decide.{decLe}
 use borrow.Author.Tests.{le-leb, lt-leb}
 use Rattle.format.specs.Messages.{TagType}
-use Rattle.format.specs.Decoding.{andThen, bytesAt, decodeRun, fault, fromLittleEndian, got, pure, refused, short}
+use Rattle.format.specs.Decoding.{andThen, bytesAt, decodeNumber, decodeRun, fault, fromLittleEndian, got, pure, refused, short}
 use Rattle.format.specs.Order.{decodeByte, decodeDword, decodeValue, decodeValueOf, decodeWord}
+use Rattle.format.proofs.Differ.{differ}
+use Rattle.format.proofs.Codec.{Went, same-place, went}
 
 module _ (s : List ℕ) (at n : ℕ) where
   pub run-there : at + n ≤ length s → got (bytesAt s at n) (at + n) ≡ decodeRun n s at
@@ -20,6 +22,38 @@ module _ (s : List ℕ) (at n : ℕ) where
   pub run-short : length s < at + n → refused (fault short at n) ≡ decodeRun n s at
   unfolding decodeRun
   run-short h = rw (lt-leb _ _ h)
+
+-- A run that was decoded lies there, and is what lies there.
+module _ (s : List ℕ) (at n : ℕ) {l : List ℕ} {next : ℕ} where
+  pub run-was : decodeRun n s at ≡ got l next → (at + n ≤ length s) × ((next ≡ at + n) × (l ≡ bytesAt s at n))
+  run-was e = go (decLe (at + n) (length s))
+    where
+      go : Dec (at + n ≤ length s) → (at + n ≤ length s) × ((next ≡ at + n) × (l ≡ bytesAt s at n))
+      go (yes h) = (h, (cc (e, run-there s at n h), cc (e, run-there s at n h)))
+      go (no f) = differ (cc (e, run-short s at n (omega arith)))
+
+  pub run-length : decodeRun n s at ≡ got l next → length (bytesAt s at n) ≡ n
+  run-length e = length-take-le n (drop at s) (omega (arith, run-was e .0, length-drop at s))
+
+-- A number that was decoded lies there.
+module _ (s : List ℕ) (at : ℕ) {v next : ℕ} where
+  number-ends : (k : ℕ) → decodeNumber k s at ≡ got v next → (at + k ≤ length s) × (next ≡ at + k)
+  number-ends k e =
+      let w : Went s (decodeRun k s at) (λ l. pure (fromLittleEndian l)) v next = went s (decodeRun k s at) e in
+      let r = run-was s at k (w .was) in
+      (r .0, sym (same-place (w .then)) ∙ r .1 .0)
+
+  pub byte-ends : decodeByte s at ≡ got v next → (at + 1 ≤ length s) × (next ≡ at + 1)
+  unfolding decodeByte
+  byte-ends e = number-ends 1 e
+
+  pub word-ends : decodeWord s at ≡ got v next → (at + 2 ≤ length s) × (next ≡ at + 2)
+  unfolding decodeWord
+  word-ends e = number-ends 2 e
+
+  pub dword-ends : decodeDword s at ≡ got v next → (at + 4 ≤ length s) × (next ≡ at + 4)
+  unfolding decodeDword
+  dword-ends e = number-ends 4 e
 
 -- The first byte of a run.
 pub part-cons : (s : List ℕ) (at n : ℕ) → at < length s → bytesAt s at (suc n) ≡ getD s at 0 ∷ bytesAt s (at + 1) n
@@ -56,11 +90,3 @@ module _ (s : List ℕ) (at : ℕ) where
 pub value-is : (k : TagType) (s : List ℕ) (at : ℕ) → decodeValue k s at ≡ andThen s (decodeValueOf k s at) (λ v. pure (k, v))
 unfolding decodeValue
 value-is k s at = refl
-
--- A DWORD that was decoded ends within the bytes.
-pub dword-within : (s : List ℕ) (at : ℕ) {v q : ℕ} → got v q ≡ decodeDword s at → q ≤ length s
-dword-within s at {v} {q} e = go (decLe (at + 4) (length s))
-  where
-    go : Dec (at + 4 ≤ length s) → q ≤ length s
-    go (yes h) = let k : q ≡ at + 4 = cc (e, dword-there s at h) in omega arith
-    go (no f) = let z : _≡_ {A = ℕ} 0 1 = cc (e, dword-short s at (omega arith)) in absurd (omega arith)

@@ -3,13 +3,13 @@ use mathlib.Core.Path.{_≡_, refl, sym, ap, ap₂, _∙_}
 use mathlib.Core.Bool.{Bool, true, false}
 use mathlib.Core.Logic.{_↔_, _⊎_, inl, inr}
 use mathlib.Core.List.{List, [], _∷_, _++_}
-use Prim.Native.Nat.{ℕ, _≤_}
-use native.Mathlib.Omega.{arith}
-use lib.Dec.{leb, eqb}
+use Prim.Native.Nat.{ℕ}
+use lib.Dec.{eqb}
 use borrow.Author.Tests.{le-leb, leb-true, eqb-true, eq-eqb}
 use Rattle.format.specs.Tables.{pick, same}
 use Rattle.format.specs.Messages.{TagType, hashType, stringType, dwordType, floatType, TagValue, Tag, Operator, and, or, andNot, Bound, atLeast, atMost, Query, join, keyword, field, limit}
-use Rattle.format.specs.Truth.{Some, Occurs, StringTag, DwordTag, Within, LeafHolds, Both, Holds, some, prefix, occurs, onString, onDword, stringTag, dwordTag, within, leafHolds, combine, holds}
+use Rattle.format.specs.Truth.{Some, Occurs, StringTag, DwordTag, Within, Both, Holds, some, prefix, occurs, onString, onDword, stringTag, dwordTag, within, combine, holds}
+use Rattle.format.proofs.Differ.{differ}
 use Rattle.format.proofs.PartTags.{no-true, both-true, either-test, same-true, same-refl}
 
 -- A test is exact for a property.
@@ -41,7 +41,7 @@ module _ {A : Type 0} {p : A → Bool} {P : A → Type 0} (each : (a : A) → Ex
 prefix-exactly : (t s : List ℕ) → Exactly (prefix t s) ((after : List ℕ) × (s ≡ t ++ after))
 unfolding prefix
 prefix-exactly [] s = (λ e. (s, refl), λ h. refl)
-prefix-exactly (a ∷ t) [] = (λ e. absurd (no-true e), λ h. let e = h .1 in let z : _≡_ {A = ℕ} 0 1 = cc in absurd (omega arith))
+prefix-exactly (a ∷ t) [] = (λ e. absurd (no-true e), λ h. let e = h .1 in differ cc)
 prefix-exactly (a ∷ t) (b ∷ s) = (
   λ e.
       let x = both-true (eqb a b) (prefix t s) e in
@@ -63,7 +63,7 @@ occurs-exactly t [] = (
   where
     none : (before : List ℕ) {l : List ℕ} → [] ≡ before ++ l → [] ≡ l
     none [] e = e
-    none (b ∷ before) e = let z : _≡_ {A = ℕ} 0 1 = cc in absurd (omega arith)
+    none (b ∷ before) e = differ cc
 occurs-exactly t (b ∷ s) = (λ e. there (either-true (prefix t (b ∷ s)) (occurs t s) e) (occurs-exactly t s), λ h. back (h .before) (h .after) (h .here) (occurs-exactly t s))
   where
     there : (prefix t (b ∷ s) ≡ true) ⊎ (occurs t s ≡ true) → Exactly (occurs t s) (Occurs t s) → Occurs t (b ∷ s)

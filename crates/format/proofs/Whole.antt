@@ -1,12 +1,12 @@
 -- Decoders that go to the end of the bytes, and what the answer to a caller says.
-use mathlib.Core.Path.{_≡_, refl, sym, ap, _∙_, ap₂, subst, subst₂}
+use mathlib.Core.Path.{_≡_, refl, sym, ap, _∙_, ap₂}
 use mathlib.Core.Bool.{Bool, true, false}
 use mathlib.Core.Logic.{_↔_, _⊎_, inl, inr}
-use mathlib.Core.List.{List, [], _∷_, _++_, append-assoc, append-nil}
-use Prim.Native.Nat.{ℕ, zero, suc, _+_, _*_, _-_, _<_, _≤_}
+use mathlib.Core.List.{List, [], _++_, append-assoc, append-nil}
+use Prim.Native.Nat.{ℕ, _+_, _-_, _<_, _≤_}
 use native.Mathlib.Omega.{arith}
 use native.Mathlib.Nat.{add-assoc}
-use lib.ListN.{length, take, drop, length-append, length-drop}
+use lib.ListN.{length, drop, length-append, length-drop}
 use lib.Seq.{drop-length}
 use lib.Dec.{leb, eqb}
 use borrow.Author.Tests.{le-leb, leb-true, eqb-true, eqb-false, eq-eqb, ne-eqb}
@@ -15,7 +15,8 @@ use Rattle.format.specs.Layout.{dword, either}
 use Rattle.format.specs.Rules.{Bytes, Dword}
 use Rattle.format.specs.Decoding.{Check, Decoder, Outcome, Rule, _>>=_, _>>_, accepted, checkedBefore, decodeWhole, fault, finish, got, passes, pure, refusal, refused, violates}
 use Rattle.format.specs.PacketOrder.{bySize, checkLength, decodeLength}
-use Rattle.format.proofs.Codec.{Place, anywhere, atEnd, Codec, Found, never, same-value, same-place, moved, went, glue, behind, fits, settled-got, codec-via, regroup, no-more, same, recast, codec-dword, unless-violates, if-passes}
+use Rattle.format.proofs.Differ.{differ}
+use Rattle.format.proofs.Codec.{anywhere, atEnd, Codec, Found, same-value, same-place, moved, went, glue, behind, fits, settled-got, codec-via, regroup, no-more, same, recast, codec-dword, unless-violates, if-passes}
 
 -- What is checked by the number of bytes behind it, and then these.
 pub codec-before : {A : Type 0} {B : A → Type 0} {r : Decoder A} {q : (a : A) → Decoder (B a)} {encode : A → List ℕ} {Valid : A → Type 0}
@@ -110,12 +111,12 @@ codec-bySize {A} {B} {r} {q} {encode} {Valid} {encode′} {Valid′} k short lon
 
 -- The answer to a caller.
 finished : {A : Type 0} (s : List ℕ) (o : Outcome A) (a : A) → finish s o ≡ accepted a → o ≡ got a (length s)
-finished s (refused n) a e = let z : _≡_ {A = ℕ} 0 1 = cc in absurd (omega arith)
+finished s (refused n) a e = differ cc
 finished {A} s (got b at) a e = go (eqb at (length s)) refl e
   where
     go : (t : Bool) → eqb at (length s) ≡ t → pick t (accepted b) (refusal (fault Rule.rest at 1)) ≡ accepted a → got b at ≡ got a (length s)
     go true q f = let p : b ≡ a = cc in ap₂ (λ x n. got x n) p (eqb-true at (length s) q)
-    go false q f = let z : _≡_ {A = ℕ} 0 1 = cc in absurd (omega arith)
+    go false q f = differ cc
 
 module _ {A : Type 0} {r : Decoder A} {encode : A → List ℕ} {Valid : A → Type 0} (L : Codec atEnd r encode Valid) (ceiling : ℕ) where
   -- Accepted are exactly the bytes of a valid message within the ceiling, and it is that message.
@@ -124,7 +125,7 @@ module _ {A : Type 0} {r : Decoder A} {encode : A → List ℕ} {Valid : A → T
     where
       go : (t : Bool) → leb (length s) ceiling ≡ t → pick t (finish s (r s 0)) (refusal (fault Rule.bytesCeiling 0 (length s))) ≡ accepted a →
           (s ≡ encode a) × (Valid a × (length (encode a) ≤ ceiling))
-      go false q e = let z : _≡_ {A = ℕ} 0 1 = cc in absurd (omega arith)
+      go false q e = differ cc
       go true q e =
           let f = L .sound s hb 0 (omega arith) a (length s) (finished s (r s 0) a e) (drop-length s) in
           let b : s ≡ encode a = f .bytes ∙ ap (λ r. encode a ++ r) (drop-length s) ∙ append-nil (encode a) in

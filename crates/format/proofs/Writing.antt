@@ -2,33 +2,33 @@
 use mathlib.Core.Path.{_≡_, refl, sym, ap, _∙_, subst}
 use mathlib.Core.Bool.{Bool, true, false}
 use mathlib.Core.Logic.{_↔_}
-use mathlib.Core.List.{List, [], _∷_, _++_, append-nil}
+use mathlib.Core.List.{List, [], _∷_, append-nil}
 use Prim.Native.Nat.{ℕ, zero, suc, _+_, _-_, _≤_}
 use native.Mathlib.Omega.{arith}
-use native.Mathlib.Decide.{decLe}
 use lib.ListN.{length, take, drop, length-append, length-drop}
 use lib.Seq.{take-append-seam, take-at}
 use lib.Dec.{eqb, leb}
-use borrow.Author.Tests.{le-leb, lt-leb, leb-true, eq-eqb, eqb-true, eqb-false}
+use borrow.Author.Tests.{le-leb, leb-true, eq-eqb, eqb-true, eqb-false}
 use Rattle.format.specs.Tables.{pick}
 use Rattle.format.specs.Messages.{TagType, hashType, stringType, dwordType, floatType, TagValue, Tag, Record, Query, join, keyword, field, limit}
 use Rattle.format.specs.Messages.{Shape, Values, noBody, queryBody, hashBody, dwordBody, twoDwordsBody, stringBody, twoStringsBody, addressBody, addressesBody, hashAddressesBody, addressDwordBody, hashAddressTagsBody, recordBody, recordsBody, recordsFlagBody, recordAddressBody, helloBody, hashStringBody, hashsetBody, sendingPartBody, requestPartsBody, fileStatusBody, statusRequestBody, statusBody}
 use Rattle.format.specs.Messages.{FileEntry, ServerEntry, PartMet, e0, e1, Kind, serverLink, clientLink, udpLink, knownMet, serverMet, partMet, loneQuery, loneTags, Message}
 use Rattle.format.specs.Layout.{encode, encodeAll}
-use Rattle.format.specs.Rules.{All, Bytes, Dword, Valid, ValidValue, ValidTag, ValidTags, ValidRecord, ValidLeaves, ValidValues, ValidFileEntry, ValidServerEntry, ValidPartMet, ceiling}
-use Rattle.format.specs.Decoding.{Answer, Decoder, Fault, Rule, _>>=_, accepted, bytesAt, decodeMany, decodeWhole, fault, got, number, refusal}
-use Rattle.format.specs.Order.{decodeByte, decodeCode, decodeQuery, decodeQueryIn, decodeTag, decodeType, queryCases, tagTypes}
-use Rattle.format.specs.MetOrder.{decode}
+use Rattle.format.specs.Rules.{All, Bytes, Valid, ValidValue, ValidTag, ValidTags, ValidRecord, ValidLeaves, ValidValues, ValidFileEntry, ValidServerEntry, ValidPartMet, ceiling}
+use Rattle.format.specs.Decoding.{Answer, Decoder, Fault, Rule, accepted, bytesAt, decodeMany, decodeRun, decodeWhole, fault, got, number, refusal}
+use Rattle.format.specs.Order.{decodeAddress, decodeByte, decodeCode, decodeDword, decodeHash, decodeQuery, decodeQueryIn, decodeRecord, decodeTag, decodeType, queryCases, tagTypes}
+use Rattle.format.specs.MetOrder.{decode, decodeFileEntry, decodeServerEntry}
 use Rattle.format.specs.Writing.{CountsFit, ValueFits, TagFits, TagsFit, RecordFits, QueryFits, ValuesFit, FileEntryFits, ServerEntryFits, PartMetFits}
 use Rattle.format.specs.Writing.{Judged, overflows, another, refusedFor, fine, Written, overwritten, unwritten, writtenInto, Writes, refuses, tries}
+use Rattle.format.proofs.Differ.{differ}
 use Rattle.format.proofs.Codec.{anywhere, atEnd, Codec, Found, codec-many, moved, never, went}
-use Rattle.format.proofs.There.{byte-short}
+use Rattle.format.proofs.There.{byte-ends, dword-ends, run-was}
 use Rattle.format.proofs.Packets.{length-tcp}
 use Rattle.format.proofs.Acceptance.{codec, accepts}
 
 module _ {A : Type 0} where
   not-both : {f : Fault} {a : A} → refusal f ≡ accepted a → ⊥
-  not-both e = let z : _≡_ {A = ℕ} 0 1 = cc in omega arith
+  not-both e = differ cc
 
   same-message : {a b : A} → accepted a ≡ accepted b → a ≡ b
   same-message e = cc
@@ -53,11 +53,12 @@ number-some Rule.order e = omega arith
 number-some Rule.dataLength e = omega arith
 number-some Rule.sizeTag e = omega arith
 
--- The counts of a valid message fit.
-all-fit : {A : Type 0} {Valid Fits : A → Type 0} → ((a : A) → Valid a → Fits a) → (l : List A) → All Valid l → All Fits l
-all-fit fit [] h = tt
-all-fit fit (a ∷ l) h = (fit a (h .0), all-fit fit l (h .1))
+-- A rule at each element carries over to another.
+pub all-map : {A : Type 0} {P Q : A → Type 0} → ((a : A) → P a → Q a) → (l : List A) → All P l → All Q l
+all-map f [] h = tt
+all-map f (a ∷ l) h = (f a (h .0), all-map f l (h .1))
 
+-- The counts of a valid message fit.
 value-fits : (t : TagType) (v : TagValue t) → ValidValue t v → ValueFits t v
 value-fits hashType v h = tt
 value-fits stringType v h = h .0
@@ -68,7 +69,7 @@ pub tag-fits : (t : Tag) → ValidTag t → TagFits t
 tag-fits t h = (omega (arith, h .name .few), value-fits (t .value .0) (t .value .1) (h .value))
 
 pub tags-fit : (l : List Tag) → ValidTags l → TagsFit l
-tags-fit l h = (h .0, all-fit tag-fits l (h .1))
+tags-fit l h = (h .0, all-map tag-fits l (h .1))
 
 record-fits : (r : Record) → ValidRecord r → RecordFits r
 record-fits r h = tags-fit (r .tags) (h .tags)
@@ -94,8 +95,8 @@ values-fit hashAddressesBody v h = h .1 .0
 values-fit addressDwordBody v h = tt
 values-fit hashAddressTagsBody v h = tags-fit (v .1 .1) (h .1 .1)
 values-fit recordBody v h = record-fits v h
-values-fit recordsBody v h = (h .0, all-fit record-fits v (h .1))
-values-fit recordsFlagBody v h = (h .0 .0, all-fit record-fits (v .0) (h .0 .1))
+values-fit recordsBody v h = (h .0, all-map record-fits v (h .1))
+values-fit recordsFlagBody v h = (h .0 .0, all-map record-fits (v .0) (h .0 .1))
 values-fit recordAddressBody v h = record-fits (v .0) (h .0)
 values-fit helloBody v h = record-fits (v .0) (h .0)
 values-fit hashStringBody v h = h .1 .0
@@ -121,8 +122,8 @@ pub valid-fits : (k : Kind) (m : Message k) → Valid k m → CountsFit k m
 valid-fits serverLink m h = values-fit (m .body .0) (m .body .1) (h .content .values)
 valid-fits clientLink m h = values-fit (m .body .0) (m .body .1) (h .content .values)
 valid-fits udpLink m h = values-fit (m .body .0) (m .body .1) (h .content .values)
-valid-fits knownMet m h = (h .content .entries .0, all-fit file-fits (m .entries) (h .content .entries .1))
-valid-fits serverMet m h = (h .content .entries .0, all-fit server-fits (m .entries) (h .content .entries .1))
+valid-fits knownMet m h = (h .content .entries .0, all-map file-fits (m .entries) (h .content .entries .1))
+valid-fits serverMet m h = (h .content .entries .0, all-map server-fits (m .entries) (h .content .entries .1))
 valid-fits partMet m h = part-fits m (h .content)
 valid-fits loneQuery m h = query-fits m (h .content .0)
 valid-fits loneTags m h = tags-fit m (h .content)
@@ -248,16 +249,35 @@ found-lies {encode = encode} {s = s} {at} {next} {a} i f =
 abbrev pub NeedsByte : {A : Type 0} → Decoder A → Type 0
 NeedsByte {A} r = (s : List ℕ) (at : ℕ) (a : A) (next : ℕ) → r s at ≡ got a next → at ≤ length s
 
-byte-needed : NeedsByte decodeByte
-byte-needed s at a next e = go (decLe (at + 1) (length s))
-  where
-    go : Dec (at + 1 ≤ length s) → at ≤ length s
-    go (yes h) = omega arith
-    go (no f) = absurd (never (byte-short s at (omega arith) ∙ e))
+pub run-needed : (k : ℕ) → NeedsByte (decodeRun k)
+run-needed k s at a next e = omega (arith, run-was s at k e .0)
+
+pub hash-needed : NeedsByte decodeHash
+unfolding decodeHash
+hash-needed = run-needed 16
+
+dword-needed : NeedsByte decodeDword
+dword-needed s at a next e = omega (arith, dword-ends s at e .0)
+
+pub address-needed : NeedsByte decodeAddress
+unfolding decodeAddress
+address-needed s at a next e = let w = went s (decodeDword s at) e in dword-needed s at (w .first) (w .mid) (w .was)
+
+pub record-needed : NeedsByte decodeRecord
+unfolding decodeRecord
+record-needed s at a next e = let w = went s (decodeHash s at) e in hash-needed s at (w .first) (w .mid) (w .was)
+
+pub entry-needed : NeedsByte decodeFileEntry
+unfolding decodeFileEntry
+entry-needed s at a next e = let w = went s (decodeDword s at) e in dword-needed s at (w .first) (w .mid) (w .was)
+
+pub server-needed : NeedsByte decodeServerEntry
+unfolding decodeServerEntry
+server-needed s at a next e = let w = went s (decodeDword s at) e in dword-needed s at (w .first) (w .mid) (w .was)
 
 code-needed : {K : Type 0} (table : List (ℕ × K)) → NeedsByte (decodeCode table)
 unfolding decodeCode
-code-needed table s at k next e = let w = went s (decodeByte s at) e in byte-needed s at (w .first) (w .mid) (w .was)
+code-needed table s at k next e = let w = went s (decodeByte s at) e in omega (arith, byte-ends s at (w .was) .0)
 
 pub tag-needed : NeedsByte decodeTag
 unfolding decodeTag decodeType

@@ -4,7 +4,7 @@ use mathlib.Core.Bool.{true, _&&_}
 use mathlib.Core.List.{List, [], _∷_, _++_}
 use Prim.Native.Nat.{ℕ, zero, suc}
 use lib.ListN.{replicate}
-use Rattle.format.specs.Messages.{Tag, stringType, dwordType, and, join, keyword, Query, plain, extended, twoDwordsBody, statusRequestBody, fileStatusBody}
+use Rattle.format.specs.Messages.{stringType, dwordType, and, join, keyword, Query, plain, extended, twoDwordsBody, statusRequestBody, fileStatusBody}
 use Rattle.format.specs.Messages.{Kind, serverLink, clientLink, udpLink, loneQuery, loneTags, Message}
 use Rattle.format.specs.Gaps.{Gap, gap, lawful, sizeLimit, inside, Marking, rejected, leaves, marking}
 use Rattle.format.specs.Rules.{depth}

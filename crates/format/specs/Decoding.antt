@@ -1,6 +1,5 @@
 -- How bytes are decoded: item by item, each there before it is checked and checked before the next is looked at (01, "Order").
 -- A decoder takes the whole bytes and a place in them. It finds a fault, or a value and the place behind it.
-use mathlib.Core.Bool.{Bool, true, false}
 use mathlib.Core.Option.{Option, none, some}
 use mathlib.Core.List.{List, [], _∷_}
 use Prim.Native.Nat.{ℕ, zero, suc, _+_, _-_, _*_}

@@ -32,10 +32,14 @@ Ordered size low (g ∷ gaps) = (low ≤ g .start) × (g .start < g .end) × (g 
 abbrev pub sizeLimit : ℕ
 sizeLimit = 4294967295
 
--- A lawful gap record, document 01's term: a size up to the limit, and at most 64 gaps in order.
+-- The most gaps that a part.met or a gap record may have.
+abbrev pub gapLimit : ℕ
+gapLimit = 64
+
+-- A lawful gap record, document 01's term: a size up to the limit, and at most so many gaps, in order.
 pub record Lawful (limit size : ℕ) (gaps : List Gap) : Type 0 where
   pub fits : size ≤ limit
-  pub few : length gaps ≤ 64
+  pub few : length gaps ≤ gapLimit
   pub ordered : Ordered size 0 gaps
 
 -- Both rules as tests: of a next gap, of all gaps, of a record
@@ -47,7 +51,7 @@ ordered size low [] = true
 ordered size low (g ∷ gaps) = follows size low g && ordered size (g .end + 1) gaps
 
 unfoldable pub lawful : ℕ → ℕ → List Gap → Bool
-lawful limit size gaps = leb size limit && (leb (length gaps) 64 && ordered size 0 gaps)
+lawful limit size gaps = leb size limit && (leb (length gaps) gapLimit && ordered size 0 gaps)
 
 -- how many of the numbers below n pass the test p
 unfoldable pub count : (ℕ → Bool) → ℕ → ℕ
@@ -81,11 +85,11 @@ pub data Marking : Type 0 where
 abbrev pub inside : (size start end : ℕ) → Bool
 inside size start end = ltb start end && leb end size
 
--- 8 unless it is allowed (a lawful gap list, a range inside the file); 6 above 64 gaps in the outcome
+-- 8 unless it is allowed (a lawful gap list, a range inside the file); 6 above the most gaps in the outcome
 unfoldable pub marking : (allowed : Bool) (size : ℕ) → List Gap → ℕ → ℕ → Marking
 marking allowed size gaps start end =
     let left = subtract gaps start end in
-    cond allowed (cond (leb (length left) 64) (leaves left (count (missing left) size)) (rejected 6)) (rejected 8)
+    cond allowed (cond (leb (length left) gapLimit) (leaves left (count (missing left) size)) (rejected 6)) (rejected 8)
 
 -- The bytes from a up to b are missing too: they lengthen the gap that ends at a, or make a new last gap.
 unfoldable pub extend : List Gap → ℕ → ℕ → List Gap

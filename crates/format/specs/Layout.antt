@@ -1,7 +1,5 @@
 -- What a message's bytes are (01: the bytes that the layouts spell from it): its items in order, low byte first, with the
 -- counts and the header length worked out from its texts, names, lists and body. No word of reading.
-use mathlib.Core.Path.{_≡_}
-use mathlib.Core.Bool.{Bool}
 use mathlib.Core.List.{List, [], _∷_, _++_}
 use mathlib.Core.Logic.{_⊎_, inl, inr}
 use Prim.Native.Nat.{ℕ, zero, suc, _/_, _%_}

@@ -1,5 +1,4 @@
 -- The items in the order in which they are decoded and checked.
-use mathlib.Core.Option.{none, some}
 use mathlib.Core.List.{List, [], _∷_}
 use Prim.Native.Nat.{ℕ, zero, suc}
 use lib.Dec.{leb, eqb}

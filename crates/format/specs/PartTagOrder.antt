@@ -4,10 +4,11 @@ use mathlib.Core.Option.{Option, none, some}
 use mathlib.Core.List.{List, [], _∷_, _++_}
 use Prim.Native.Nat.{ℕ, suc}
 use lib.ListN.{length}
-use lib.Dec.{leb, ltb, eqb}
+use lib.Dec.{leb, ltb}
 use Rattle.format.specs.Tables.{pick, same}
+use Rattle.format.specs.Gaps.{gapLimit}
 use Rattle.format.specs.Messages.{Tag}
-use Rattle.format.specs.Rules.{gapLimit, GapPair}
+use Rattle.format.specs.Rules.{GapPair}
 use Rattle.format.specs.Decoding.{Rule, order, gapCeiling, Check, passes, violates, andCheck}
 use Rattle.format.specs.GapTags.{numberOf, Role, plain, odd, start, end, role}
 

@@ -2,12 +2,12 @@
 -- pairs numbered from 0 in shortest decimal.
 use mathlib.Core.Bool.{Bool, true, false, _&&_}
 use mathlib.Core.List.{List, [], _∷_, _++_}
-use Prim.Native.Nat.{ℕ, zero, suc, _+_, _/_, _%_}
+use Prim.Native.Nat.{ℕ, suc, _+_, _/_, _%_}
 use lib.ListN.{length}
 use lib.Dec.{leb, ltb, eqb}
 use Rattle.format.specs.Tables.{pick}
 use Rattle.format.specs.Gaps.{Gap, lawful}
-use Rattle.format.specs.Messages.{Tag, FileEntry, PartE1, PartMet, e0, e1, partMet}
+use Rattle.format.specs.Messages.{Tag, PartMet, e0, e1, partMet}
 use Rattle.format.specs.Layout.{encodePartMet}
 use Rattle.format.specs.Rules.{metCeiling, GapPair, startTag, endTag}
 use Rattle.format.specs.Decoding.{number, Answer, refusal, accepted, Check, passes, violates}

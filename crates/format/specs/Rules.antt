@@ -1,23 +1,22 @@
 -- The rules and limits of document 01, each stated of the message's values ("keeps the rules and limits" there is `Valid` here).
 -- The byte ceiling alone is a rule on the bytes, as 01 has it.
 use mathlib.Core.Path.{_≡_}
-use mathlib.Core.Bool.{Bool}
 use mathlib.Core.Option.{some}
 use mathlib.Core.Logic.{_↔_}
 use mathlib.Core.List.{List, [], _∷_, _++_, map}
 use Prim.Native.Nat.{ℕ, suc, max, _+_, _-_, _/_, _≤_, _<_}
 use lib.ListN.{length}
 use Rattle.format.specs.Tables.{OneOf, lookup, rows}
-use Rattle.format.specs.Gaps.{Gap, Ordered}
+use Rattle.format.specs.Gaps.{gapLimit, Gap, Ordered}
 use Rattle.format.specs.Messages.{Address, TagType, hashType, stringType, dwordType, floatType, TagValue, Tag, Record}
 use Rattle.format.specs.Messages.{Query, join, keyword, field, limit}
-use Rattle.format.specs.Messages.{SendingPart, Triple, RequestParts, FileStatus, extended, StatusRequest, ExtendedStatus, Shape, Values, Packet, Opcodes, Link, server, client, udp}
+use Rattle.format.specs.Messages.{SendingPart, Triple, RequestParts, FileStatus, extended, StatusRequest, ExtendedStatus, Shape, Values, Packet, Link, server, client, udp}
 use Rattle.format.specs.Messages.{noBody, queryBody, hashBody, dwordBody, twoDwordsBody, stringBody, twoStringsBody, addressBody, addressesBody, hashAddressesBody, addressDwordBody, hashAddressTagsBody, recordBody, recordsBody, recordsFlagBody, recordAddressBody, helloBody, hashStringBody, hashsetBody, sendingPartBody, requestPartsBody, fileStatusBody, statusRequestBody, statusBody}
 use Rattle.format.specs.Messages.{FileEntry, KnownMet, ServerEntry, ServerMet, HashBlocks, noBlocks, partBlock, blockBlock, bothBlocks, PartE1, PartMet, e0, e1}
 use Rattle.format.specs.Messages.{Kind, serverLink, clientLink, udpLink, knownMet, serverMet, partMet, loneQuery, loneTags, Message}
-use Rattle.format.specs.Layout.{either, encodeTcp, encodeUdp, encodeKnownMet, encodeServerMet, encodePartMet, encode}
+use Rattle.format.specs.Layout.{either, encode}
 
--- Ceilings
+-- Ceilings; that of gaps is gapLimit (Gaps).
 
 abbrev pub packetCeiling : ℕ
 packetCeiling = 65536
@@ -30,9 +29,6 @@ depthLimit = 24
 
 abbrev pub nameLimit : ℕ
 nameLimit = 255
-
-abbrev pub gapLimit : ℕ
-gapLimit = 64
 
 -- Items
 

@@ -1,8 +1,7 @@
 -- What a write is (01, "Order"): "A writer gives 6 for a text or list that its count field cannot hold; then 5 for a message whose
 -- finished bytes spell another one; then the number that the reader would give for them; and 10 last."
 use mathlib.Core.Path.{_≡_}
-use mathlib.Core.List.{List, [], _∷_, _++_}
-use mathlib.Core.Logic.{_⊎_}
+use mathlib.Core.List.{List, _++_}
 use Prim.Native.Nat.{ℕ}
 use lib.ListN.{length, drop}
 use lib.Dec.{leb}

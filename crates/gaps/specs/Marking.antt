@@ -2,9 +2,8 @@
 use Prim.Native.Nat.{ℕ, _≤_, _<_}
 use mathlib.Core.Bool.{Bool, _&&_, cond}
 use mathlib.Core.List.{List, [], _∷_}
-use lib.ListN.{length}
-use lib.Dec.{leb, ltb, eqb}
-use Rattle.format.specs.Gaps.{Gap, Lawful, missing, count, Marking, rejected, leaves, inside, marking}
+use lib.Dec.{eqb}
+use Rattle.format.specs.Gaps.{gapLimit, Gap, Lawful, missing, count, Marking, rejected, leaves, inside, marking}
 use Rattle.gaps.specs.declared.GapRecord.{GapRecord}
 use Rattle.gaps.specs.declared.Marked.{Marked}
 use Rattle.gaps.specs.declared.MarkAnswer.{MarkAnswer}
@@ -12,7 +11,7 @@ use Rattle.gaps.specs.Records.{gapsOf, recordOf, lawfulRecord}
 
 -- what a marking needs, else it is refused with 8
 pub record Markable (limit : ℕ) (g : GapRecord) (start end : ℕ) : Type 0 where
-  pub counted : g .count ≤ 64
+  pub counted : g .count ≤ gapLimit
   pub lawful : Lawful limit (g .size) (gapsOf g)
   pub order : start < end
   pub inside : end ≤ g .size

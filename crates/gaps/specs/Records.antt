@@ -4,7 +4,7 @@ use mathlib.Core.Bool.{Bool, _&&_, cond}
 use mathlib.Core.List.{List, [], _++_, map}
 use lib.ListN.{length, take, replicate}
 use lib.Dec.{leb}
-use Rattle.format.specs.Gaps.{Gap, gap, missing, lawful, count, between}
+use Rattle.format.specs.Gaps.{gapLimit, Gap, gap, missing, lawful, count, between}
 use Rattle.gaps.specs.declared.Gap.{Gap as Place}
 use Rattle.gaps.specs.declared.GapRecord.{GapRecord}
 
@@ -24,7 +24,7 @@ gapsOf g = map gapOf (take (g .count) (g .gaps))
 
 -- the record of a size and a list of gaps; the unused places hold 0
 abbrev pub recordOf : ℕ → List Gap → GapRecord
-recordOf size gaps = record { size = size; count = length gaps; gaps = map placeOf gaps ++ replicate (64 - length gaps) (place 0 0) }
+recordOf size gaps = record { size = size; count = length gaps; gaps = map placeOf gaps ++ replicate (gapLimit - length gaps) (place 0 0) }
 
 abbrev pub noneMissing : ℕ → GapRecord
 noneMissing size = recordOf size []
@@ -34,7 +34,7 @@ allMissing size = recordOf size (between 0 size)
 
 -- A lawful gap record, as document 01 says. Its unused places are not judged.
 unfoldable pub lawfulRecord : ℕ → GapRecord → Bool
-lawfulRecord limit g = leb (g .count) 64 && lawful limit (g .size) (gapsOf g)
+lawfulRecord limit g = leb (g .count) gapLimit && lawful limit (g .size) (gapsOf g)
 
 -- the number of missing bytes; 0 for a record that is not lawful
 unfoldable pub missingCount : ℕ → GapRecord → ℕ

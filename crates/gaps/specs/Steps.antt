@@ -3,7 +3,7 @@ use Prim.Native.Nat.{ℕ, _+_, min, max}
 use mathlib.Core.Bool.{true, false, cond}
 use lib.ListN.{length, set}
 use lib.Dec.{leb, ltb}
-use Rattle.format.specs.Gaps.{Gap, subtract}
+use Rattle.format.specs.Gaps.{gapLimit, Gap, subtract}
 use Rattle.gaps.specs.declared.GapRecord.{GapRecord}
 use Rattle.gaps.specs.declared.Pushed.{Pushed}
 use Rattle.gaps.specs.Records.{place, gapsOf, recordOf}
@@ -12,7 +12,7 @@ use Rattle.gaps.specs.Records.{place, gapsOf, recordOf}
 unfoldable pub pushed : GapRecord → ℕ → ℕ → Pushed
 pushed g a b =
     cond (ltb a b)
-    (cond (ltb (g .count) 64)
+    (cond (ltb (g .count) gapLimit)
     (record { full = false; after = record { size = g .size; count = g .count + 1; gaps = set (g .gaps) (g .count) (place a b) } })
     (record { full = true; after = g }))
     (record { full = false; after = g })
@@ -27,4 +27,4 @@ pushedRemaining g x start end =
 unfoldable pub subtracted : GapRecord → ℕ → ℕ → Pushed
 subtracted g start end =
     let gaps = subtract (gapsOf g) start end in
-    cond (leb (length gaps) 64) (record { full = false; after = recordOf (g .size) gaps }) (record { full = true; after = g })
+    cond (leb (length gaps) gapLimit) (record { full = false; after = recordOf (g .size) gaps }) (record { full = true; after = g })

@@ -3,7 +3,6 @@ use Prim.Native.Nat.{ℕ}
 use mathlib.Core.Path.{_≡_, refl, ap, _∙_}
 use mathlib.Core.Logic.{_↔_}
 use mathlib.Core.List.{List}
-use native.Mathlib.Omega.{arith}
 use lib.ListN.{getD}
 use mir.Syntax.{w8}
 use mir.Val.{Fits}
@@ -17,6 +16,7 @@ use Rattle.format.specs.PartTagOrder.{checkPartTags}
 use Rattle.format.specs.MetOrder.{decode}
 use Rattle.wire.specs.declared.Items.{Items}
 use Rattle.wire.specs.Meaning.{itemsIn, ItemsPlaced}
+use Rattle.format.proofs.Differ.{differ}
 use Rattle.wire.proofs.Replies.{exact}
 use Rattle.gaps.specs.Records.{recordOf}
 use Rattle.parttags.specs.declared.TagsVerdict.{TagsVerdict}
@@ -41,7 +41,7 @@ tags-in s (PartMet.E1 m) = refl
 passed : (tags : List Tag) (size : ℕ) (v : TagsVerdict) → TagsSized tags size → verdictMeaning tags v ≡ checkPartTags tags →
     gapsMeaning tags v ≡ recordOf (sizeFound (checkPartTags tags)) (gapsOf tags)
 passed tags size (TagsVerdict.Passes n) sized e = rw (← e) refl
-passed tags size (TagsVerdict.Violates rule) sized e = let z : _≡_ {A = ℕ} 0 1 = cc in absurd (omega arith)
+passed tags size (TagsVerdict.Violates rule) sized e = differ cc
 
 file-placed : (s : List ℕ) (file : PartMet) → PartMetPlaced s file → ItemsPlaced decodeTag s (tagsPlace file)
 file-placed s (PartMet.E0 e) p = p .1

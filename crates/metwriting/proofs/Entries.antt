@@ -14,7 +14,7 @@ use Rattle.format.specs.Order.{decodeHash, decodeTag}
 use Rattle.format.specs.Writing.{overwritten, unwritten}
 use Rattle.format.proofs.Codec.{length-littleEndian}
 use Rattle.format.proofs.Items.{codec-hash, codec-tag}
-use Rattle.format.proofs.Writing.{tag-needed}
+use Rattle.format.proofs.Writing.{hash-needed, tag-needed}
 use Rattle.wire.specs.declared.Items.{Items}
 use Rattle.wire.specs.Meaning.{hashAt, itemsIn}
 use Rattle.met.specs.declared.FileEntry.{FileEntry}
@@ -25,7 +25,7 @@ use Rattle.metwriting.specs.declared.EntryStep.{EntryStep}
 use Rattle.metwriting.specs.Files.{fileEntryThere, serverEntryThere}
 use Rattle.metwriting.specs.Lengths.{EntryMeaning, entryHead}
 use Rattle.metwriting.specs.Entries.{writeFileEntry, writeServerEntry}
-use Rattle.metwriting.proofs.Lists.{Here, hash-needed, hash-valid, hashes-size, list-here}
+use Rattle.metwriting.proofs.Lists.{Here, hash-valid, hashes-size, list-here}
 use Rattle.metwriting.proofs.Answers.{then-there}
 
 module _ (s : List ℕ) (known : (i : ℕ) → Fits w8 (getD s i 0)) where

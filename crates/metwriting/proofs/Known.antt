@@ -19,9 +19,9 @@ use Rattle.format.specs.Decoding.{Rule, bytesAt, fault, got, refused}
 use Rattle.format.specs.PacketOrder.{decodeOpening}
 use Rattle.format.specs.MetOrder.{decode, decodeKnownMet}
 use Rattle.format.specs.Writing.{CountsFit, FileEntryFits, Judged, Written, refusedFor}
-use Rattle.format.proofs.Codec.{anywhere, bytes-littleEndian, codec-byte, length-littleEndian}
+use Rattle.format.proofs.Codec.{anywhere, bytes-append, bytes-littleEndian, codec-byte, length-littleEndian}
 use Rattle.format.proofs.MetFiles.{codec-entry}
-use Rattle.format.proofs.Writing.{ceiling-judged, tags-fit, valid-judged}
+use Rattle.format.proofs.Writing.{all-map, ceiling-judged, entry-needed, tags-fit, valid-judged}
 use Rattle.met.specs.declared.KnownMet.{KnownMet}
 use Rattle.met.specs.Meaning.{knownMetIn}
 use Rattle.format.specs.RoundTrip.{RoundTrip, WritesAt}
@@ -29,7 +29,7 @@ use Rattle.format.proofs.RoundTrip.{round-trip}
 use Rattle.metwriting.specs.Files.{knownThere}
 use Rattle.metwriting.specs.Lengths.{openingNumber}
 use Rattle.metwriting.proofs.Answers.{Ready}
-use Rattle.metwriting.proofs.Lists.{Here, all-map, bytes-append, entry-needed, list-bytes, list-here}
+use Rattle.metwriting.proofs.Lists.{Here, list-bytes, list-here}
 
 file-fits : (e : messages.FileEntry) → ValidFileEntry e → FileEntryFits e
 file-fits e h = (h .parts .0, tags-fit (e .tags) (h .tags))

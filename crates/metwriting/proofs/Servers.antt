@@ -18,18 +18,20 @@ use Rattle.format.specs.Rules.{Byte, Bytes, Dword, ValidServerEntry, metCeiling
 use Rattle.format.specs.Decoding.{Rule, bytesAt, decodeRun, fault, got}
 use Rattle.format.specs.MetOrder.{decode, decodeServerEntry, decodeServerMet}
 use Rattle.format.specs.Writing.{CountsFit, ServerEntryFits, Judged, Written, refusedFor}
-use Rattle.format.proofs.Codec.{bytes-littleEndian, length-littleEndian}
-use Rattle.format.proofs.Writing.{ceiling-judged, tags-fit, valid-judged}
+use Rattle.format.proofs.Codec.{bytes-append, bytes-littleEndian, bytes-part, length-littleEndian}
+use Rattle.format.proofs.Writing.{all-map, ceiling-judged, server-needed, tags-fit, valid-judged}
 use Rattle.wire.proofs.Replies.{slice-bytes}
 use Rattle.met.specs.declared.ServerMet.{ServerMet}
 use Rattle.met.specs.Meaning.{serverMetIn}
+use Rattle.format.proofs.There.{run-length}
 use Rattle.writing.specs.There.{itemsThere}
 use Rattle.format.specs.RoundTrip.{RoundTrip, WritesAt}
 use Rattle.format.proofs.RoundTrip.{round-trip}
+use Rattle.format.proofs.MetFiles.{codec-server}
 use Rattle.metwriting.specs.Files.{serverThere}
 use Rattle.metwriting.specs.Lengths.{openingNumber}
 use Rattle.metwriting.proofs.Answers.{Ready, run-there, then-there}
-use Rattle.metwriting.proofs.Lists.{Here, all-map, bytes-append, bytes-part, codec-server, list-bytes, list-here, run-size, server-needed}
+use Rattle.metwriting.proofs.Lists.{Here, list-bytes, list-here}
 use Rattle.metwriting.proofs.Known.{wrong-opening}
 
 server-fits : (e : messages.ServerEntry) → ValidServerEntry e → ServerEntryFits e
@@ -51,7 +53,7 @@ module _ (s : List ℕ) (known : (i : ℕ) → Fits w8 (getD s i 0)) (m : Server
     server-bytes = rw (server-here .bytes, server-here .count) (simp append-assoc)
 
     pub part-sizes : (length (bytesAt s (m .entries .at) n) ≡ n) × (length (bytesAt s (m .tail .at) tail) ≡ tail)
-    part-sizes = (ap length (server-here .bytes) ∙ server-here .size, run-size s known (m .tail .at) tail run)
+    part-sizes = (ap length (server-here .bytes) ∙ server-here .size, run-length s (m .tail .at) tail (sym run))
 
     server-size : length (encodeServerMet file) ≡ 5 + (n + tail)
     server-size =

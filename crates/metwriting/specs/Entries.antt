@@ -6,16 +6,12 @@ use lib.ListN.{length}
 use lib.Dec.{leb}
 use Rattle.format.specs.Tables.{pick}
 use Rattle.format.specs.Layout.{encodeFileEntry, encodeServerEntry}
-use Rattle.format.specs.Decoding.{Outcome, got, number, refused}
 use Rattle.format.specs.Writing.{Written, unwritten, writtenInto}
 use Rattle.met.specs.declared.FileEntry.{FileEntry}
 use Rattle.met.specs.declared.ServerEntry.{ServerEntry}
 use Rattle.met.specs.Meaning.{fileEntryIn, serverEntryIn}
+use Rattle.writing.specs.Writers.{writeThere}
 use Rattle.metwriting.specs.Files.{fileEntryThere, serverEntryThere}
-
-abbrev pub writeThere : Outcome (Unit {0}) → List ℕ → Written → Written
-writeThere (refused f) output w = unwritten (number (f .rule)) output
-writeThere (got u next) output w = w
 
 unfoldable pub writeFileEntry : List ℕ → FileEntry → List ℕ → Written
 writeFileEntry s e output =

@@ -3,7 +3,6 @@ use Prim.Native.Nat.{ℕ}
 use mathlib.Core.Path.{_≡_, refl}
 use mathlib.Core.Bool.{Bool, true, false}
 use mathlib.Core.List.{List, [], _∷_}
-use native.Mathlib.Omega.{arith}
 use lib.Dec.{eqb}
 use borrow.Author.Tests.{eqb-true}
 use Rattle.format.specs.Tables.{pick}
@@ -13,15 +12,16 @@ use Rattle.format.specs.PacketOrder.{checkOpening, decodeOpening}
 use Rattle.wire.specs.declared.Cursor.{Cursor}
 use Rattle.wire.specs.declared.ByteStep.{ByteStep}
 use Rattle.wire.specs.Meaning.{byteMeaning}
+use Rattle.format.proofs.Differ.{differ}
 
 module _ (k : ℕ) (s : List ℕ) (at : ℕ) {b next : ℕ} where
   passed : (a n : ℕ) (t : Bool) → eqb a k ≡ t →
       got b next ≡ settled at 1 (pick (pick t true false) (passes a) (violates Rule.opening)) n → eqb b k ≡ true
   passed a n true q e = let p : b ≡ a = cc in rw p q
-  passed a n false q e = let z : _≡_ {A = ℕ} 0 1 = cc in absurd (omega arith)
+  passed a n false q e = differ cc
 
   decoded : (o : Outcome ℕ) → got b next ≡ andThen s o (λ a s n. settled at 1 (checkOpening (k ∷ []) a) n) → eqb b k ≡ true
-  decoded (refused f) e = let z : _≡_ {A = ℕ} 0 1 = cc in absurd (omega arith)
+  decoded (refused f) e = differ cc
   decoded (got a n) e = passed a n (eqb a k) refl e
 
 -- where a step answers with what is decoded

@@ -1,22 +1,16 @@
 -- The encoding of a packet whose places lie in a slice is made of bytes.
 use mathlib.Core.Path.{_≡_, refl}
-use mathlib.Core.Bool.{Bool, true, false}
-use mathlib.Core.List.{List, [], _∷_, _++_}
-use Prim.Native.Nat.{ℕ, _+_, _-_, _≤_}
-use native.Mathlib.Omega.{arith}
-use lib.ListN.{length, drop, take, take-append-drop}
-use lib.Dec.{leb}
-use borrow.Author.Tests.{leb-true}
-use Rattle.format.specs.Tables.{pick}
+use mathlib.Core.List.{List, _++_}
+use Prim.Native.Nat.{ℕ, _+_, _-_}
 use Rattle.format.specs.Messages as messages
 use Rattle.format.specs.Layout.{encode, encodeAddress, encodeAll, encodeBody, encodeExtendedStatus, encodeFileStatus, encodeQuery, encodeRecord, encodeRequestParts, encodeSendingPart, encodeString, encodeTags, encodeTcp, encodeTriple, encodeUdp, littleEndian}
 use Rattle.format.specs.Rules.{Bytes}
-use Rattle.format.specs.Decoding.{Decoder, Outcome, bytesAt, decodeMany, decodeRun, fault, got, itemsOf, refused, short}
-use Rattle.format.specs.Order.{decodeAddress, decodeDword, decodeHash, decodeQuery, decodeRecord, decodeTag}
-use Rattle.format.proofs.Codec.{Codec, anywhere, bytes-drop, bytes-left, bytes-littleEndian, never, went}
+use Rattle.format.specs.Decoding.{Decoder, Outcome, bytesAt, decodeMany, got, itemsOf, refused}
+use Rattle.format.specs.Order.{decodeQuery, decodeTag}
+use Rattle.format.proofs.Codec.{anywhere, bytes-append, bytes-littleEndian, bytes-part, Codec}
 use Rattle.format.proofs.Items.{codec-address, codec-hash, codec-query, codec-record, codec-tag}
 use Rattle.format.proofs.Bits.{packed-bytes}
-use Rattle.format.proofs.Writing.{NeedsByte, lies, many-lies, query-needed, tag-needed}
+use Rattle.format.proofs.Writing.{address-needed, hash-needed, lies, many-lies, NeedsByte, query-needed, record-needed, tag-needed}
 use Rattle.wire.specs.declared.Items.{Items}
 use Rattle.wire.specs.Meaning.{itemsIn}
 use Rattle.query.specs.Meaning.{queryOf}
@@ -33,43 +27,15 @@ record Plain (l : List ℕ) : Type 0 where
   bytes : Bytes l
 
 joined : {l r : List ℕ} → Plain l → Plain r → Plain (l ++ r)
-joined {l} {r} a b = record { bytes = go l (a .bytes) }
-  where
-    go : (l : List ℕ) → Bytes l → Bytes (l ++ r)
-    go [] h = b .bytes
-    go (x ∷ l) h = (h .0, go l (h .1))
+joined {l} {r} a b = record { bytes = bytes-append l r (a .bytes) (b .bytes) }
 
 number : (k n : ℕ) → Plain (littleEndian k n)
 number k n = record { bytes = bytes-littleEndian k n }
 
--- A decoder that needs a byte.
-run-needed : (k : ℕ) → NeedsByte (decodeRun k)
-unfolding decodeRun
-run-needed k s at l next e = go (leb (at + k) (length s)) refl e
-  where
-    go : (t : Bool) → leb (at + k) (length s) ≡ t → pick t (got (bytesAt s at k) (at + k)) (refused (fault short at k)) ≡ got l next → at ≤ length s
-    go true q e = let h = leb-true (at + k) (length s) q in omega arith
-    go false q e = absurd (never e)
-
-hash-needed : NeedsByte decodeHash
-unfolding decodeHash
-hash-needed = run-needed 16
-
-address-needed : NeedsByte decodeAddress
-unfolding decodeAddress decodeDword
-address-needed s at a next e =
-    let w = went s (decodeDword s at) e in
-    let v = went s (decodeRun 4 s at) (w .was) in
-    run-needed 4 s at (v .first) (v .mid) (v .was)
-
-record-needed : NeedsByte decodeRecord
-unfolding decodeRecord
-record-needed s at r next e = let w = went s (decodeHash s at) e in hash-needed s at (w .first) (w .mid) (w .was)
-
 module _ (s : List ℕ) (hb : Bytes s) where
   -- What lies at a place.
   run : (at n : ℕ) → Plain (bytesAt s at n)
-  run at n = record { bytes = bytes-left (take n (drop at s)) (drop n (drop at s)) (rw take-append-drop (bytes-drop at s hb)) }
+  run at n = record { bytes = bytes-part s hb at n }
 
   items : {A : Type 0} {d : Decoder A} {encode : A → List ℕ} {Valid : A → Type 0} → Codec anywhere d encode Valid → NeedsByte d → (n at : ℕ) →
       Plain (encodeAll encode (itemsOf (decodeMany n d s at)))

@@ -2,14 +2,13 @@
 use mathlib.Core.Path.{_≡_, refl, sym, ap, _∙_}
 use mathlib.Core.Bool.{Bool, true, false, not}
 use mathlib.Core.List.{List, [], _∷_}
-use Prim.Native.Nat.{ℕ}
-use native.Mathlib.Omega.{arith}
 use lib.ListN.{getD}
 use lib.Dec.{eqb}
 use borrow.Author.Tests.{eqb-true}
 use Rattle.format.specs.Messages.{Shape}
 use Rattle.format.specs.Messages.{noBody, queryBody, hashBody, dwordBody, twoDwordsBody, stringBody, twoStringsBody, addressBody, addressesBody, hashAddressesBody, addressDwordBody, hashAddressTagsBody, recordBody, recordsBody, recordsFlagBody, recordAddressBody, helloBody, hashStringBody, hashsetBody, sendingPartBody, requestPartsBody, fileStatusBody, statusRequestBody, statusBody}
 use Rattle.packetwriting.specs.Packets.{shapeNumber}
+use Rattle.format.proofs.Differ.{differ}
 
 -- The shapes in the order of their numbers.
 abbrev shapes : List Shape
@@ -47,4 +46,4 @@ same-shape a b e = go (eqb (shapeNumber a) (shapeNumber b)) refl e
   where
     go : (t : Bool) → eqb (shapeNumber a) (shapeNumber b) ≡ t → not t ≡ false → a ≡ b
     go true q e = sym (numbered a) ∙ ap (λ n. getD shapes n noBody) (eqb-true (shapeNumber a) (shapeNumber b) q) ∙ numbered b
-    go false q e = let z : _≡_ {A = ℕ} 0 1 = cc in absurd (omega arith)
+    go false q e = differ cc

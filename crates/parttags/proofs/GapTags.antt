@@ -12,7 +12,7 @@ use lib.Dec.{eqb}
 use Rattle.format.specs.Tables.{pick, same}
 use Rattle.format.specs.Messages as messages
 use Rattle.format.specs.Rules as rules
-use Rattle.format.specs.Rules.{gapLimit}
+use Rattle.format.specs.Gaps.{gapLimit}
 use Rattle.format.specs.Decoding.{passes, violates, andCheck, bytesAt}
 use Rattle.format.specs.GapTags.{numberOf, role, roleIn, plain, starting, ending}
 use Rattle.format.specs.PartTagOrder.{Progress, between, within, used, step, scan}

@@ -6,6 +6,7 @@ use mathlib.Core.List.{List, [], _∷_}
 use native.Mathlib.Nat.{sub-zero}
 use native.Mathlib.Omega.{arith}
 use Rattle.format.specs.Decoding.{Decoder, Fault, Outcome, refused, got, andThen, pure, decodeMany, itemsOf, ends}
+use Rattle.format.proofs.Differ.{differ}
 use Rattle.format.proofs.Many.{loop-step, loop-stop}
 
 items-cons : {A : Type 0} (s : List ℕ) (a : A) (o : Outcome (List A)) {end : ℕ} → ends o ≡ got tt end
@@ -16,8 +17,8 @@ items-cons s a (got l p) e = refl
 
 never-refused : {A : Type 0} (o : Outcome A) {f : Fault} {end : ℕ} → ends o ≡ got tt end → refused f ≡ o → ⊥
 unfolding ends
-never-refused (refused g) e q = let z : _≡_ {A = ℕ} 0 1 = cc in omega arith
-never-refused (got a p) e q = let z : _≡_ {A = ℕ} 0 1 = cc in omega arith
+never-refused (refused g) e q = differ cc
+never-refused (got a p) e q = differ cc
 
 module _ {A : Type 0} (d : Decoder A) (s : List ℕ) (n : ℕ) where
   -- the items that are left

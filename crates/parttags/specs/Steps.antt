@@ -5,8 +5,9 @@ use mathlib.Core.List.{List, [], _∷_, _++_}
 use Prim.Native.Nat.{ℕ, zero, suc, _≤_, _<_}
 use lib.ListN.{getD}
 use Rattle.format.specs.Gaps as gaps
+use Rattle.format.specs.Gaps.{gapLimit}
 use Rattle.format.specs.Messages as messages
-use Rattle.format.specs.Rules.{GapPair, gapLimit}
+use Rattle.format.specs.Rules.{GapPair}
 use Rattle.format.specs.Decoding as decoding
 use Rattle.format.specs.Decoding.{Check, passes, violates}
 use Rattle.format.specs.GapTags as gapTags

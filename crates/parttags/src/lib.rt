@@ -12,7 +12,7 @@ ghost use Prim.Native.Nat.{ℕ, _+_, _≤_, _<_};
 ghost use lib.Dec.{leb};
 ghost use Rattle.format.specs.Decoding.{violates};
 ghost use Rattle.format.specs.Decoding as decoding;
-ghost use Rattle.format.specs.Rules.{gapLimit};
+ghost use Rattle.format.specs.Gaps.{gapLimit};
 ghost use Rattle.format.specs.Order.{decodeTag};
 ghost use Rattle.format.specs.GapTags as gapTags;
 ghost use Rattle.format.specs.PartTagOrder as order;

@@ -13,6 +13,7 @@ use Rattle.format.specs.Decoding.{decodeRun, got}
 use Rattle.format.specs.Order.{decodeHash}
 use Rattle.format.proofs.Codec.{codec-run, length-littleEndian}
 use Rattle.format.proofs.Items.{codec-hash}
+use Rattle.format.proofs.Writing.{run-needed, hash-needed}
 use Rattle.wire.specs.declared.Items.{Items}
 use Rattle.wire.specs.Meaning.{itemsIn}
 use Rattle.met.specs.declared.HashBlocks.{HashBlocks}
@@ -20,7 +21,7 @@ use Rattle.writing.specs.There.{itemsThere}
 use Rattle.metwriting.specs.declared.LengthStep.{LengthStep}
 use Rattle.metwriting.specs.Lengths.{lengthMeaning}
 use Rattle.metwriting.proofs.Answers.{then-there}
-use Rattle.metwriting.proofs.Lists.{Here, hash-needed, list-here, run-needed}
+use Rattle.metwriting.proofs.Lists.{Here, list-here}
 use Rattle.partwriting.specs.declared.Area.{Area}
 use Rattle.partwriting.specs.Steps.{AreaLies, AreaMeaning, AreaOf, areaBytes, areaNumber, areaSize, oneBlock}
 

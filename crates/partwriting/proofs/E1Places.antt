@@ -20,10 +20,11 @@ use Rattle.format.specs.Order.{decodeHash, decodeTag}
 use Rattle.format.specs.PartTagOrder.{checkPartTags}
 use Rattle.format.specs.MetOrder.{decodeHashBlocks}
 use Rattle.format.specs.Writing.{Written}
-use Rattle.format.proofs.Codec.{Codec, anywhere, bytes-littleEndian, codec-run, length-littleEndian, never}
+use Rattle.format.proofs.PartTags.{both-true, no-true}
+use Rattle.format.proofs.Codec.{anywhere, bytes-append, bytes-littleEndian, bytes-part, Codec, codec-run, length-littleEndian, never}
 use Rattle.format.proofs.Items.{codec-hash, codec-tag}
 use Rattle.format.proofs.Many.{ends-items}
-use Rattle.format.proofs.Writing.{NeedsByte, many-lies, tag-needed}
+use Rattle.format.proofs.Writing.{hash-needed, many-lies, NeedsByte, run-needed, tag-needed}
 use Rattle.wire.specs.declared.Items.{Items}
 use Rattle.wire.specs.Meaning.{hashAt, itemsIn}
 use Rattle.wire.proofs.Replies.{slice-bytes}
@@ -35,7 +36,7 @@ use Rattle.writing.specs.There.{bothThere, itemsThere}
 use Rattle.format.specs.RoundTrip.{RoundTrip, WritesAt}
 use Rattle.format.proofs.RoundTrip.{round-trip}
 use Rattle.metwriting.proofs.Answers.{Ready, then-there}
-use Rattle.metwriting.proofs.Lists.{Here, bytes-append, bytes-part, hash-needed, hash-valid, list-bytes, list-here, run-needed}
+use Rattle.metwriting.proofs.Lists.{Here, hash-valid, list-bytes, list-here}
 use Rattle.partwriting.specs.declared.Area.{Area}
 use Rattle.partwriting.specs.declared.E1Step.{E1Step}
 use Rattle.partwriting.specs.Files.{blocksThere, partE1There, partThere}
@@ -43,9 +44,6 @@ use Rattle.partwriting.specs.Steps.{E1Meaning, afterTags, allowed, areaB
 use Rattle.partwriting.proofs.AreaBytes.{area-sized, at-mark}
 use Rattle.partwriting.proofs.Blocks.{followed, outcomeNumber}
 use Rattle.partwriting.proofs.E1.{e1-judged}
-
-no-test : false ≡ true → ⊥
-no-test e = let z : _≡_ {A = ℕ} 0 1 = cc in omega arith
 
 both-there : (first second : Outcome (Unit {0})) {next : ℕ} → got tt next ≡ bothThere first second → (n : ℕ) × ((got tt n ≡ first) × (got tt next ≡ second))
 both-there (refused f) second e = absurd (never (sym e))
@@ -69,17 +67,13 @@ module _ (s : List ℕ) (known : (i : ℕ) → Fits w8 (getD s i 0)) where
   unfolding ValidHashBlocks
   allowed-valid size HashBlocks.Nothing e t = tt
   allowed-valid size (HashBlocks.Parts l) e t = let v = parts-valid l e in (v .0 ∙ eqb-true _ _ t, v .1)
-  allowed-valid size (HashBlocks.Blocks k) e t = no-test t
+  allowed-valid size (HashBlocks.Blocks k) e t = no-true t
   allowed-valid size (HashBlocks.Both l k) e t =
       let h = both-there (itemsThere decodeHash s l) (itemsThere (decodeRun 8) s k) e in
       let v = parts-valid l (h .1 .0) in
       let w = blocks-valid k (h .1 .1) in
-      let q = tests (eqb (l .count) (partCount size)) (eqb (k .count) (blockCount size)) t in
+      let q = both-true (eqb (l .count) (partCount size)) (eqb (k .count) (blockCount size)) t in
       ((v .0 ∙ eqb-true _ _ (q .0), v .1), (w .0 ∙ eqb-true _ _ (q .1), w .1))
-    where
-      tests : (x y : Bool) → pick x y false ≡ true → (x ≡ true) × (y ≡ true)
-      tests true y e = (refl, e)
-      tests false y e = absurd (no-test e)
 
   valid-allowed : (size : ℕ) (b : HashBlocks) {next : ℕ} → got tt next ≡ blocksThere s b → ValidHashBlocks size (blocksIn s b) → allowed size b ≡ true
   unfolding ValidHashBlocks
@@ -93,7 +87,7 @@ module _ (s : List ℕ) (known : (i : ℕ) → Fits w8 (getD s i 0)) where
   -- Blocks that are not allowed open with a mark.
   opens : (size : ℕ) (b : HashBlocks) → allowed size b ≡ false → (getD (encodeHashBlocks (blocksIn s b)) 0 0 ≡ 1) × (1 ≤ length (encodeHashBlocks (blocksIn s b)))
   unfolding encodeHashBlocks
-  opens size HashBlocks.Nothing e = absurd (no-test (sym e))
+  opens size HashBlocks.Nothing e = absurd (no-true (sym e))
   opens size (HashBlocks.Parts l) e = (sym (at-mark _ 0 refl), simp (length-append, length-littleEndian) (omega arith))
   opens size (HashBlocks.Blocks k) e = (sym (at-mark _ 0 refl), simp (length-append, length-littleEndian) (omega arith))
   opens size (HashBlocks.Both l k) e = (sym (at-mark _ 0 refl), simp (length-append, length-littleEndian) (omega arith))
@@ -176,7 +170,7 @@ module _ (s : List ℕ) (known : (i : ℕ) → Fits w8 (getD s i 0)) where
     decided size true q = inl (allowed-valid size (m .blocks) (h .1 .1 .here) q)
     decided size false q =
         inr (
-          λ v. no-test (sym q ∙ valid-allowed size (m .blocks) (h .1 .1 .here) v),
+          λ v. no-true (sym q ∙ valid-allowed size (m .blocks) (h .1 .1 .here) v),
           λ x at e i.
               let o = opens size (m .blocks) q in
               rw (q, h .1 .1 .bytes) (followed size x at (encodeHashBlocks (blocksIn s (m .blocks))) e i (o .0) (o .1)),

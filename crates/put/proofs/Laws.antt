@@ -4,14 +4,13 @@ use native.Mathlib.Omega.{arith}
 use native.Mathlib.Nat.{zero-add, le-of-suc-le-suc, not-suc-le-zero, div-div-eq-div-mul}
 use native.Mathlib.Numerals.{add-one}
 use mathlib.Core.Path.{_≡_, refl, ap, _∙_}
-use mathlib.Core.Bool.{Bool, true, false}
+use mathlib.Core.Bool.{true, false}
 use mathlib.Core.List.{List, [], _∷_, _++_, append-assoc, append-nil}
 use borrow.Rule.Slice.PartMut.{midOf, putMid}
 use borrow.Author.Tests.{eq-eqb, ne-eqb}
 use lib.ListN.{drop-of-length-le, length, take, drop, set, getD, length-append, length-drop}
 use lib.Seq.{take-all, sets, sets-eq, take-length, take-append-seam, drop-append-seam, drop-drop, drop-cons}
-use lib.Dec.{eqb}
-use Rattle.format.specs.Tables.{pick, same}
+use Rattle.format.specs.Tables.{same}
 use Rattle.format.specs.Layout.{littleEndian}
 use Rattle.format.specs.Writing.{overwritten}
 
@@ -62,17 +61,6 @@ pub length-overwritten : (p old : List ℕ) → length p ≤ length old → leng
 length-overwritten p old h = simp (length-append, length-drop) (omega arith)
 
 -- Two runs of bytes are compared from the front; from place i on they are still to be compared.
-never : (t : Bool) → pick t false false ≡ false
-never true = refl
-never false = refl
-
-pub same-lengths : (a b : List ℕ) → (length a ≡ length b → ⊥) → same a b ≡ false
-unfolding same
-same-lengths [] [] h = absurd (h refl)
-same-lengths [] (y ∷ b) h = refl
-same-lengths (x ∷ a) [] h = refl
-same-lengths (x ∷ a) (y ∷ b) h = rw (same-lengths a b (λ e. h (ap suc e))) (never (eqb x y))
-
 module _ (a b : List ℕ) (i : ℕ) (so-far : same a b ≡ same (drop i a) (drop i b)) where
   pub same-next : i < length a → i < length b → getD a i 0 ≡ getD b i 0 → same a b ≡ same (drop (i + 1) a) (drop (i + 1) b)
   unfolding same

@@ -9,18 +9,18 @@ use native.Mathlib.Omega.{arith}
 use lib.ListN.{length, drop, getD, length-append, length-drop}
 use lib.Seq.{take-at}
 use borrow.Rule.Slice.PartMut.{midOf, putMid}
-use lib.Dec.{leb, eqb}
-use borrow.Author.Tests.{leb-true}
+use lib.Dec.{eqb}
 use Rattle.format.specs.Tables.{pick}
 use Rattle.format.specs.Messages.{Tag}
 use Rattle.format.specs.Layout.{encodeAll, encodeTag}
 use Rattle.format.specs.Rules.{Bytes}
-use Rattle.format.specs.Decoding.{bytesAt, decodeMany, decodeRun, ends, got, itemsOf}
+use Rattle.format.specs.Decoding.{bytesAt, decodeMany, ends, got, itemsOf}
 use Rattle.format.specs.Order.{decodeByte, decodeCode, decodeTag, decodeType}
 use Rattle.format.specs.GapTags.{role, roleIn, numberOf}
 use Rattle.format.specs.Putting.{isPlain, plainTags}
 use Rattle.format.specs.Writing.{overwritten}
-use Rattle.format.proofs.Codec.{anywhere, never, went}
+use Rattle.format.proofs.There.{byte-ends}
+use Rattle.format.proofs.Codec.{anywhere, went}
 use Rattle.format.proofs.PartTags.{either-test}
 use Rattle.format.proofs.Items.{codec-tag}
 use Rattle.parttags.proofs.Rest.{Reached, reached-first, next-turn, rest, rest-none}
@@ -52,18 +52,12 @@ module _ (t : Tag) (name : List ℕ) (e : name ≡ t .name) where
       go (b ∷ d) h = named b d (numberOf (t .value .0) (t .value .1))
 
 -- A tag that was decoded, and its bytes.
-inside-run : (s : List ℕ) (at : ℕ) {l : List ℕ} {p : ℕ} → decodeRun 1 s at ≡ got l p → at < length s
-unfolding decodeRun
-inside-run s at {l} {p} e = either-test (leb (at + 1) (length s))
-    (λ q. omega (arith, leb-true (at + 1) (length s) q))
-    (λ q. absurd (never (rw q at e)))
-
 inside-tag : (s : List ℕ) (at : ℕ) {t : Tag} {p : ℕ} → decodeTag s at ≡ got t p → at < length s
-unfolding decodeTag decodeType decodeCode decodeByte
+unfolding decodeTag decodeType decodeCode
 inside-tag s at e =
     let type = went s (decodeType s at) e in
     let code = went s (decodeByte s at) (type .was) in
-    inside-run s at (went s (decodeRun 1 s at) (code .was) .was)
+    omega (arith, byte-ends s at (code .was) .0)
 
 kept-one : (t : Tag) → length (keptTags t) ≤ 1
 kept-one t = either-test (isPlain (role t)) (λ q. rw q (omega arith)) (λ q. rw q (omega arith))

@@ -13,7 +13,7 @@ use Rattle.format.specs.Gaps.{Gap, Ordered, Lawful, lawful}
 use Rattle.format.specs.Messages.{Tag, PartMet, e0, e1, partMet}
 use Rattle.format.specs.Layout.{encodeAll, encodePartMet, encodeTag, encodeTags}
 use Rattle.format.specs.Rules.{All, Bytes, Digits, SizeIs, Valid, ValidHashBlocks, ValidPartMet, ValidTag, ValidTags, dwordTag, metCeiling}
-use Rattle.format.specs.Decoding.{Answer, Check, Rule, accepted, number, passes, refusal, violates}
+use Rattle.format.specs.Decoding.{Answer, Check, accepted, number, passes, refusal, violates}
 use Rattle.format.specs.GapTags.{gapsOf}
 use Rattle.format.specs.PartTagOrder.{checkPartTags}
 use Rattle.format.specs.MetOrder.{decode}
@@ -24,6 +24,7 @@ use Rattle.format.proofs.Gaps.{both-true, lawful-exactly}
 use Rattle.format.proofs.PartTags.{check-means, means-check, no-true, size-sizes}
 use Rattle.format.proofs.PartMet.{codec-part}
 use Rattle.format.proofs.Acceptance.{accepts}
+use Rattle.format.proofs.Writing.{number-some}
 use Rattle.putting.specs.Pieces.{headOf, tailOf}
 use Rattle.putting.proofs.Decimals.{decimal-digits}
 use Rattle.putting.proofs.Regapped.{all-plain, gaps-regapped, plain-regapped, size-regapped, valid-regapped}
@@ -130,23 +131,7 @@ pub record PutBack (size : ℕ) (gaps : List Gap) (file new : List ℕ) : Type 0
   pub othersStay : plainTags (tagsOf (withGaps gaps before)) ≡ plainTags (tagsOf before)
   pub checked : checkPartTags (tagsOf (withGaps gaps before)) ≡ passes (size, tagsOf (withGaps gaps before))
 
-pub refused-some : (rule : Rule) → number rule ≡ 0 → ⊥
-refused-some = elim [
-  | Rule.short ↦ λ e. omega arith
-  | Rule.opening ↦ λ e. omega arith
-  | Rule.frameLength ↦ λ e. omega arith
-  | Rule.kind ↦ λ e. omega arith
-  | Rule.choice ↦ λ e. omega arith
-  | Rule.statusBit ↦ λ e. omega arith
-  | Rule.bytesCeiling ↦ λ e. omega arith
-  | Rule.depthCeiling ↦ λ e. omega arith
-  | Rule.nameCeiling ↦ λ e. omega arith
-  | Rule.gapCeiling ↦ λ e. omega arith
-  | Rule.rest ↦ λ e. omega arith
-  | Rule.order ↦ λ e. omega arith
-  | Rule.dataLength ↦ λ e. omega arith
-  | Rule.sizeTag ↦ λ e. omega arith
-]
+
 
 tags-withGaps : (gaps : List Gap) (m : PartMet) → tagsOf (withGaps gaps m) ≡ regapped gaps (tagsOf m)
 unfolding withGaps tagsOf
@@ -192,7 +177,7 @@ module _ (limit size : ℕ) (gaps : List Gap) (limited : limit ≤ 4294967295) (
 
       answered : (a : Answer PartMet) → decode partMet file ≡ a → let w = putAfter a limit size gaps output in
           w .number ≡ 0 → PutBack size gaps file (take (w .length) (w .output))
-      answered (refusal f) q e = absurd (refused-some (f .rule) e)
+      answered (refusal f) q e = absurd (number-some (f .rule) e)
       answered (accepted m) q e =
           let new = encodePartMet (withGaps gaps m) in
           picked m q (fitting limit size gaps m) (leb (length new) metCeiling) (leb (length new) (length output)) refl refl e

@@ -14,10 +14,11 @@ use Rattle.format.specs.Putting.{tagsOf, withGaps}
 use Rattle.format.proofs.PartTags.{either-test}
 use Rattle.gaps.specs.declared.GapRecord.{GapRecord}
 use Rattle.format.specs.Gaps.{sizeLimit}
+use Rattle.format.proofs.Writing.{number-some}
 use Rattle.gaps.specs.Records.{gapsOf, recordOf}
 use Rattle.met.specs.Meaning as met
 use Rattle.putting.specs.Meaning.{putRecord, unlawfulAfter}
-use Rattle.putting.proofs.ReadBack.{PutBack, put-back, refused-some}
+use Rattle.putting.proofs.ReadBack.{PutBack, put-back}
 
 tags-same : (m : PartMet) → met.tagsOf m ≡ tagsOf m
 unfolding tagsOf
@@ -33,7 +34,7 @@ module _ (file : List ℕ) (bytes : Bytes file) (g : GapRecord) (output : List �
   new = take (answer .length) (answer .output)
 
   unlawful-some : (a : Answer PartMet) → unlawfulAfter a output .number ≡ 0 → ⊥
-  unlawful-some (refusal f) e = refused-some (f .rule) e
+  unlawful-some (refusal f) e = number-some (f .rule) e
   unlawful-some (accepted m) e = omega arith
 
   pub record-back : answer .number ≡ 0 → PutBack (g .size) (gapsOf g) file new

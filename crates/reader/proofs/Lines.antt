@@ -3,7 +3,6 @@ use Prim.Native.Nat.{ℕ}
 use mathlib.Core.Path.{_≡_, refl, ap}
 use mathlib.Core.Option.{none, some}
 use mathlib.Core.List.{List}
-use native.Mathlib.Omega.{arith}
 use lib.ListN.{length}
 use Rattle.format.specs.Messages as messages
 use Rattle.format.specs.Messages.{knownMet, serverMet, partMet, serverLink, clientLink, udpLink}
@@ -15,13 +14,14 @@ use Rattle.reader.specs.declared.Message.{Message}
 use Rattle.reader.specs.declared.Answer.{Answer}
 use Rattle.reader.specs.declared.Summary.{Summary}
 use Rattle.reader.specs.Meaning.{kindOf, answerIn, packetAnswer, knownAnswer, serverAnswer, partAnswer, codeOf, summaryFor, summaryOf}
+use Rattle.format.proofs.Differ.{differ}
 
 abbrev pub lineOf : ℕ → Answer → Summary
 lineOf n (Answer.Accepted m) = record { number = 0; code = codeOf m; length = n }
 lineOf n (Answer.Refused k) = record { number = k; code = 0; length = 0 }
 
 never : {A B : Type 0} {y : A} → none ≡ some y → B
-never e = let z : _≡_ {A = ℕ} 0 1 = cc in absurd (omega arith)
+never e = differ cc
 
 -- a line of the reply that an answer stands for
 told : {A : Type 0} (line : Reply A → Summary) {y z : Reply A} → some z ≡ some y → line y ≡ line z

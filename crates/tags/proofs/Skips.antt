@@ -13,6 +13,7 @@ use Rattle.format.specs.Tables.{lookup, pick}
 use Rattle.format.specs.Messages.{TagType, dwordType, floatType, hashType, stringType}
 use Rattle.format.specs.Decoding.{Outcome, decodeRun, ends, got, refused}
 use Rattle.format.specs.Order.{decodeCode, decodeDword, decodeHash, decodeName, decodeString, decodeTag, decodeType, decodeValueOf, tagTypes}
+use Rattle.format.proofs.Differ.{differ}
 use Rattle.format.proofs.There.{byte-there, dword-there, run-there, value-is, word-there}
 use Rattle.wire.proofs.Loops.{ended-got}
 use Rattle.tags.specs.Skips.{EndsThere, placeBehind, valueEnds, valueSize}
@@ -104,7 +105,7 @@ module _ (s : List ℕ) (at n code : ℕ) (is : code ≡ getD s at 0) (e : n ≡
     where
       go : (o : Option TagType) → lookup tagTypes code ≡ o → EndsThere (valueEnds o s (at + 3 + n)) r → EndsThere (ends (decodeTag s at)) r
       go o l (inl z) = inl z
-      go none l (inr v) = let z : _≡_ {A = ℕ} 0 1 = cc in absurd (omega arith)
+      go none l (inr v) = differ cc
       go (some t) l (inr v) = inr (ends-with t l v)
 
 -- What ends there has that place behind it; and what has a place behind it ends there.

@@ -3,7 +3,6 @@ use Prim.Native.Nat.{ℕ}
 use mathlib.Core.Path.{_≡_, refl, sym, ap, _∙_}
 use mathlib.Core.Bool.{Bool, true, false}
 use mathlib.Core.List.{List}
-use native.Mathlib.Omega.{arith}
 use lib.ListN.{length}
 use lib.Dec.{leb, eqb}
 use Rattle.format.specs.Tables.{pick}
@@ -13,12 +12,13 @@ use Rattle.format.specs.Decoding.{Answer, refusal, accepted, finish, Reply, ref
 use Rattle.format.specs.Order.{decodeQueryIn, decodeQuery}
 use Rattle.format.specs.MetOrder.{decode}
 use Rattle.format.specs.Truth.{holds, onTags, onQuery, truth}
+use Rattle.format.proofs.Differ.{differ}
 use Rattle.format.proofs.Codec.{never, same-value}
 use Rattle.truth.specs.Meaning.{truths}
 
 -- A reply is not both a number and a message.
 no-reply : {A P : Type 0} {n : ℕ} {m : A} → _≡_ {A = Reply A} (refusedWith n) (message m) → P
-no-reply e = let z : _≡_ {A = ℕ} 0 1 = cc in absurd (omega arith)
+no-reply e = differ cc
 
 on-refused-query : (a : Answer Query) (b : Answer (List Tag)) {n : ℕ} →
     refusedWith n ≡ reply a → record { number = n; holds = false } ≡ onQuery a b

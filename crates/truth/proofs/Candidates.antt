@@ -7,52 +7,23 @@ use mathlib.Core.List.{List, [], _∷_}
 use native.Mathlib.Omega.{arith}
 use lib.ListN.{length, getD, length-take, length-drop}
 use lib.Dec.{eqb, leb}
-use borrow.Author.Tests.{eq-eqb, ne-eqb, leb-true}
+use borrow.Author.Tests.{eq-eqb, ne-eqb}
 use Rattle.format.specs.Tables.{lookup, pick, same}
 use Rattle.format.specs.Messages.{Tag, TagType, TagValue, hashType, stringType, dwordType, floatType}
 use Rattle.format.specs.Layout.{typeCode}
-use Rattle.format.specs.Decoding.{Outcome, refused, got, settled, found, passes, violates, choice, nameCeiling, short, fault, checked, ends, fromLittleEndian, pure, bytesAt, decodeNumber, decodeRun}
-use Rattle.format.specs.Order.{checkNameLength, decodeByte, decodeCode, decodeDword, decodeHash, decodeName, decodeString, decodeTag, decodeType, decodeValue, decodeValueOf, decodeWord, tagTypes}
+use Rattle.format.specs.Decoding.{Outcome, refused, got, settled, found, passes, violates, choice, nameCeiling, checked, ends, pure, bytesAt, decodeRun}
+use Rattle.format.specs.Order.{checkNameLength, decodeByte, decodeCode, decodeHash, decodeName, decodeString, decodeTag, decodeType, decodeValue, decodeValueOf, decodeWord, tagTypes}
 use Rattle.format.specs.Truth.{onString, onDword, stringTag, dwordTag}
+use Rattle.format.proofs.Differ.{differ}
 use Rattle.format.proofs.Codec.{lookup-code, never, same-place, same-value, Went, went}
-use Rattle.format.proofs.There.{byte-there, value-is, word-there}
+use Rattle.format.proofs.There.{byte-ends, byte-there, dword-ends, run-was, value-is, word-ends, word-there}
+use Rattle.format.proofs.PartTags.{same-lengths}
 use Rattle.tags.specs.Skips.{valueSize}
 use Rattle.truth.specs.Meaning.{Lies, LooksFor, Passes, isOf, onItem, tagsFrom}
 use Rattle.truth.specs.declared.Spot.{Spot}
 use Rattle.truth.proofs.Found.{rest-lies, some-step}
-use Rattle.truth.proofs.Texts.{same-longer}
-
-not-both : true ≡ false → ⊥
-not-both e = let z : _≡_ {A = ℕ} 0 1 = ap (λ b. pick b 0 1) e in omega arith
 
 -- The parts of a tag, by their bytes.
-run-was : (s : List ℕ) (at n : ℕ) {l : List ℕ} {next : ℕ} → decodeRun n s at ≡ got l next → (at + n ≤ length s) × ((next ≡ at + n) × (l ≡ bytesAt s at n))
-unfolding decodeRun
-run-was s at n {l} {next} e = go (leb (at + n) (length s)) refl e
-  where
-    go : (b : Bool) → leb (at + n) (length s) ≡ b → pick b (got (bytesAt s at n) (at + n)) (refused (fault short at n)) ≡ got l next →
-        (at + n ≤ length s) × ((next ≡ at + n) × (l ≡ bytesAt s at n))
-    go true t e = (leb-true _ _ t, (sym (same-place e), sym (same-value e)))
-    go false t e = absurd (never e)
-
-number-ends : (k : ℕ) (s : List ℕ) (at : ℕ) {v next : ℕ} → decodeNumber k s at ≡ got v next → (at + k ≤ length s) × (next ≡ at + k)
-number-ends k s at {v} {next} e =
-    let w : Went s (decodeRun k s at) (λ l. pure (fromLittleEndian l)) v next = went s (decodeRun k s at) e in
-    let r = run-was s at k (w .was) in
-    (r .0, sym (same-place (w .then)) ∙ r .1 .0)
-
-dword-ends : (s : List ℕ) (at : ℕ) {v next : ℕ} → decodeDword s at ≡ got v next → (at + 4 ≤ length s) × (next ≡ at + 4)
-unfolding decodeDword
-dword-ends s at e = number-ends 4 s at e
-
-byte-ends : (s : List ℕ) (at : ℕ) {v next : ℕ} → decodeByte s at ≡ got v next → (at + 1 ≤ length s) × (next ≡ at + 1)
-unfolding decodeByte
-byte-ends s at e = number-ends 1 s at e
-
-word-ends : (s : List ℕ) (at : ℕ) {v next : ℕ} → decodeWord s at ≡ got v next → (at + 2 ≤ length s) × (next ≡ at + 2)
-unfolding decodeWord
-word-ends s at e = number-ends 2 s at e
-
 byte-was : (s : List ℕ) (at : ℕ) {v next : ℕ} → decodeByte s at ≡ got v next → (next ≡ at + 1) × (v ≡ getD s at 0)
 byte-was s at e = let r = byte-ends s at e in (r .1, sym (same-value (byte-there s at (r .0) ∙ e)))
 
@@ -179,7 +150,7 @@ module _ (s : List ℕ) (at n : ℕ) (word : n ≡ getD s (at + 1) 0 + 256 * get
       by-name this = on-tag (λ o. same (bytesAt s (at + 3) n) name ≡ onItem (isOf code name) o) (λ t next w. rw (w .is, w .code, eq-eqb _ _ this, w .name-is) refl)
 
       pub other-length : getD s at 0 ≡ code → (n ≡ length name → ⊥) → false ≡ onItem (isOf code name) (decodeTag s at)
-      other-length this other = sym (same-longer _ _ (λ z. other (sym part-length ∙ z))) ∙ by-name this
+      other-length this other = sym (same-lengths _ _ (λ z. other (sym part-length ∙ z))) ∙ by-name this
         where
           part-length : length (bytesAt s (at + 3) n) ≡ n
           part-length = let h = name-lies in simp (length-take, length-drop) (omega arith)
@@ -233,7 +204,7 @@ looks-for-text name p t e = go (same (t .name) name) (t .value .0) (t .value .1)
     go : (b : Bool) (k : TagType) (v : TagValue k) → pick (eqb (typeCode k) 2) b false ≡ false → pick b (onString p k v) false ≡ false
     go false k v e = refl
     go true hashType v e = refl
-    go true stringType v e = absurd (not-both e)
+    go true stringType v e = differ cc
     go true dwordType v e = refl
     go true floatType v e = refl
 
@@ -245,7 +216,7 @@ looks-for-number name p t e = go (same (t .name) name) (t .value .0) (t .value .
     go false k v e = refl
     go true hashType v e = refl
     go true stringType v e = refl
-    go true dwordType v e = absurd (not-both e)
+    go true dwordType v e = differ cc
     go true floatType v e = refl
 
 -- A tag of another type or name is passed.

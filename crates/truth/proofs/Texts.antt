@@ -1,6 +1,6 @@
 -- The laws of the loops that compare bytes: i bytes are behind, and the rest decides.
-use Prim.Native.Nat.{ℕ, suc, _+_, _-_, _<_, _≤_}
-use mathlib.Core.Path.{_≡_, refl, ap, _∙_}
+use Prim.Native.Nat.{ℕ, _+_, _-_, _<_, _≤_}
+use mathlib.Core.Path.{_≡_, refl, _∙_}
 use mathlib.Core.Bool.{Bool, true, false}
 use mathlib.Core.List.{List, [], _∷_}
 use native.Mathlib.Omega.{arith}
@@ -50,13 +50,6 @@ same-prefix [] [] e = refl
 same-prefix [] (b ∷ l) e = absurd (omega arith)
 same-prefix (a ∷ k) [] e = absurd (omega arith)
 same-prefix (a ∷ k) (b ∷ l) e = rw (same-prefix k l (omega arith)) refl
-
-pub same-longer : (k l : List ℕ) → (length k ≡ length l → ⊥) → same k l ≡ false
-unfolding same
-same-longer [] [] f = absurd (f refl)
-same-longer [] (b ∷ l) f = refl
-same-longer (a ∷ k) [] f = refl
-same-longer (a ∷ k) (b ∷ l) f = rw (same-longer k l (λ e. f (ap suc e))) (both-false (eqb a b))
 
 -- A text somewhere in another.
 module _ (t s : List ℕ) (i : ℕ) where

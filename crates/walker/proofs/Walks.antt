@@ -6,7 +6,6 @@ use mathlib.Core.Bool.{Bool, true, false}
 use mathlib.Core.Logic.{_↔_}
 use mathlib.Core.List.{List, [], _∷_}
 use native.Mathlib.Omega.{arith}
-use native.Mathlib.Decide.{decLe}
 use lib.ListN.{length, length-append, length-drop}
 use lib.Dec.{eqb, ltb}
 use borrow.Author.Tests.{le-ltb, ltb-true, ltb-false, ne-eqb}
@@ -15,15 +14,14 @@ use Rattle.format.specs.Messages.{Tag}
 use Rattle.format.specs.Rules.{Bytes}
 use Rattle.format.specs.Decoding.{fault, rest, Decoder, Outcome, refused, got, andThen, pure, decodeMany, finish, accepted, refusal, refusedWith, reply}
 use Rattle.format.specs.Order.{decodeDword, decodeTag, decodeCounted, decodeTags}
+use Rattle.format.proofs.Differ.{differ}
 use Rattle.format.proofs.Codec.{anywhere, never, same-value, same-place, went}
 use Rattle.format.proofs.Items.{codec-tag}
-use Rattle.format.proofs.There.{dword-there, dword-short, dword-within}
+use Rattle.format.proofs.There.{dword-ends}
 use Rattle.walker.specs.Walk as walk
 use Rattle.walker.specs.Walk.{Walk, tag, end, walkOf, walkFrom, begin, walkAt, Walks, stops, goes}
 
 -- Steps by their kind.
-differ : {P : Type 0} → _≡_ {A = ℕ} 0 1 → P
-differ z = absurd (omega arith)
 
 module _ {t : Tag} {next more : ℕ} where
   done-tag : (b : Bool) {P : Type 0} → pick b (walk.refusal 7) end ≡ tag t next more → P
@@ -142,11 +140,7 @@ module _ (s : List ℕ) where
   start = refl
 
   first-place : {n first : ℕ} → decodeDword s 0 ≡ got n first → first ≡ 4
-  first-place {n} {first} e = go (decLe 4 (length s))
-    where
-      go : Dec (4 ≤ length s) → first ≡ 4
-      go (yes h) = same-place (sym e ∙ sym (dword-there s 0 h))
-      go (no f) = absurd (never (dword-short s 0 (omega arith) ∙ e))
+  first-place e = dword-ends s 0 e .1
 
   started : {n first : ℕ} → decodeDword s 0 ≡ got n first → walkAt s 0 0 ≡ walkAt s first n
   started {n} {first} e = start ∙ ap (begin s) e ∙ sym (behind first n (omega (arith, first-place e)))
@@ -160,7 +154,7 @@ module _ (s : List ℕ) where
         never-walks (goes q w) = let r = sym (start ∙ ap (begin s) e) ∙ q in differ cc
     by-count l (got n first) e =
         let some : 0 < first = omega (arith, first-place e) in
-        let h = dword-within s 0 (sym e) in
+        let h : first ≤ length s = omega (arith, dword-ends s 0 e) in
         (λ w. all-given hb n first some h l (restart (sym (started e)) w), λ d. restart (started e) (given hb n first some h l d))
 
     -- A walk comes to the end with exactly the tags that are the whole of the bytes.
@@ -173,7 +167,7 @@ module _ (s : List ℕ) where
     refused-by-count [] (refused f) e (stops q) = let r = sym (start ∙ ap (begin s) e) ∙ q in cc
     refused-by-count (t ∷ l) (refused f) e (goes q w) = let r = sym (start ∙ ap (begin s) e) ∙ q in differ cc
     refused-by-count l (got n first) e w =
-        refused-given hb n first (omega (arith, first-place e)) (dword-within s 0 (sym e)) l (restart (sym (started e)) w)
+        refused-given hb n first (omega (arith, first-place e)) (omega (arith, dword-ends s 0 e)) l (restart (sym (started e)) w)
 
     -- A walk that comes to a refusal has the number that the reader of the list gives.
     pub walk-refuses : (l : List Tag) {k : ℕ} → Walks s (walk.refusal k) 0 0 l → refusedWith k ≡ reply (finish s (decodeTags s 0))

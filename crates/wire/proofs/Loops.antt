@@ -7,6 +7,7 @@ use lib.ListN.{length}
 use native.Mathlib.Omega.{arith}
 use Rattle.format.specs.Decoding.{Decoder, Fault, Outcome, bytesAt, decodeMany, decodeRun, ends, got, itemsOf, refused}
 use Rattle.format.specs.Order.{decodeHash}
+use Rattle.format.proofs.Differ.{differ}
 use Rattle.format.proofs.There.{run-there}
 use Rattle.format.proofs.Many.{ends-items, many-step, loop-step, loop-stop, loop-ends, loop-done}
 
@@ -17,13 +18,13 @@ ReadUpTo d s first n i at = (i ≤ n) × (ends (decodeMany n d s first) ≡ ends
 -- What an outcome was, by its end.
 pub ended-got : {A : Type 0} (o : Outcome A) {next : ℕ} → got tt next ≡ ends o → (a : A) × (got a next ≡ o)
 unfolding ends
-ended-got (refused f) e = let z : _≡_ {A = ℕ} 0 1 = cc in absurd (omega arith)
+ended-got (refused f) e = differ cc
 ended-got (got a p) e = (a, cc)
 
 pub ended-refused : {A : Type 0} (o : Outcome A) {f : Fault} → refused f ≡ ends o → refused f ≡ o
 unfolding ends
 ended-refused (refused g) e = cc
-ended-refused (got a p) e = let z : _≡_ {A = ℕ} 0 1 = cc in absurd (omega arith)
+ended-refused (got a p) e = differ cc
 
 module _ {A : Type 0} (d : Decoder A) (s : List ℕ) (first n : ℕ) where
   pub begins : ReadUpTo d s first n 0 first

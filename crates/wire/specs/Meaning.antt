@@ -6,7 +6,6 @@ use Rattle.format.specs.Decoding as decoding
 use Rattle.format.specs.Decoding.{Outcome, refused, got, bytesAt, Decoder, decodeMany, itemsOf, ends}
 use Rattle.wire.specs.declared.Rule.{Rule}
 use Rattle.wire.specs.declared.Fault.{Fault}
-use Rattle.wire.specs.declared.Cursor.{Cursor}
 use Rattle.wire.specs.declared.Place.{Place}
 use Rattle.wire.specs.declared.Items.{Items}
 use Rattle.wire.specs.declared.ByteStep.{ByteStep}

@@ -20,7 +20,7 @@ use Rattle.format.specs.MetOrder.{decode}
 use Rattle.format.specs.Writing.{Judged, QueryFits, refusedFor, unwritten}
 use Rattle.format.proofs.Codec.{Codec, anywhere, behind, codec-table, fits, length-littleEndian, never, same-value}
 use Rattle.format.proofs.Acceptance.{accepts}
-use Rattle.format.proofs.Items.{codec-query}
+use Rattle.format.proofs.Items.{codec-query, some-depth}
 use Rattle.format.proofs.Writing.{ceiling-judged, query-fits, valid-judged}
 use Rattle.wire.proofs.Replies.{slice-bytes}
 use Rattle.query.specs.declared.Query as place
@@ -103,12 +103,7 @@ leaf-same c d same s at parts rest e i =
     )
     refl
 
-some-depth : (q : Query) → 1 ≤ depth q
-unfolding depth
-some-depth (join o q r) = omega arith
-some-depth (keyword t) = omega arith
-some-depth (field t n) = omega arith
-some-depth (limit v b n) = omega arith
+
 
 -- A query of at most the depth that is left is decoded.
 shallow : (d : ℕ) (q : Query) → ValidLeaves q → depth q ≤ d → (s : List ℕ) (at : ℕ) (rest : List ℕ) → drop at s ≡ encodeQuery q ++ rest → at ≤ length s →

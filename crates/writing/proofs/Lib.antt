@@ -1,3 +1,4 @@
+pub mod There
 pub mod Laws
 pub mod Writes
 pub mod Pieces

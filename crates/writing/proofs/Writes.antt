@@ -1,16 +1,16 @@
 -- Each writer's definition is a write of the format, where its pieces are a message.
 use Prim.Native.Nat.{ℕ, _-_}
 use mathlib.Core.Path.{_≡_, refl, subst, sym}
-use mathlib.Core.List.{List, [], _∷_, _++_}
-use lib.ListN.{drop, length, take, take-append-drop}
+use mathlib.Core.List.{List, []}
+use lib.ListN.{length}
 use Rattle.format.specs.Messages.{Bound, Operator, Query, Tag, field, join, keyword, limit, loneQuery, loneTags}
 use Rattle.format.specs.Layout.{boundCode, byte, dword, encodeAll, encodeName, encodeQuery, encodeString, encodeTag, encodeTags, operatorCode, word}
 use Rattle.format.specs.Rules.{Bytes, Dword, ValidTags}
-use Rattle.format.specs.Decoding.{Answer, Outcome, accepted, bytesAt, decodeMany, ends, got, itemsOf, refusal, refused}
+use Rattle.format.specs.Decoding.{Answer, Outcome, accepted, decodeMany, ends, got, itemsOf, refusal, refused}
 use Rattle.format.specs.Order.{decodeQuery, decodeTag}
 use Rattle.format.specs.MetOrder.{decode}
 use Rattle.format.specs.Writing.{Judged, Written}
-use Rattle.format.proofs.Codec.{bytes-drop, bytes-left, bytes-littleEndian}
+use Rattle.format.proofs.Codec.{bytes-append, bytes-littleEndian, bytes-part}
 use Rattle.format.proofs.Items.{codec-query, codec-tag}
 use Rattle.format.proofs.Acceptance.{accepts}
 use Rattle.format.proofs.Writing.{ceiling-writes, judged-writes, lies, many-lies, query-fits, query-needed, tag-needed, tags-fit}
@@ -25,14 +25,6 @@ use Rattle.format.proofs.RoundTrip.{round-trip}
 use Rattle.writing.proofs.Joins.{join-judged}
 use Rattle.writing.proofs.Leaves.{field-judged, keyword-judged, limit-judged}
 
--- What lies at a place of bytes is bytes.
-pub bytes-at : (s : List ℕ) (at n : ℕ) → Bytes s → Bytes (bytesAt s at n)
-bytes-at s at n hb = bytes-left (take n (drop at s)) (drop n (drop at s)) (rw (take-append-drop n (drop at s)) (bytes-drop at s hb))
-
-pub bytes-both : (l r : List ℕ) → Bytes l → Bytes r → Bytes (l ++ r)
-bytes-both [] r hl hr = hr
-bytes-both (b ∷ l) r hl hr = (hl .0, bytes-both l r (hl .1) hr)
-
 -- What lies at a place, written as a whole message.
 module _ (s : List ℕ) (hb : Bytes s) (output : List ℕ) where
   found-tags : (n at : ℕ) → Dword n → (o : Outcome (List Tag)) → decodeMany n decodeTag s at ≡ o →
@@ -42,7 +34,7 @@ module _ (s : List ℕ) (hb : Bytes s) (output : List ℕ) where
   found-tags n at h (got tags end) e =
       let l = many-lies codec-tag tag-needed s hb at n e in
       let content : ValidTags tags = (rw (l .valid .0) h, l .valid .1) in
-      let bytes = bytes-both (dword (length tags)) (encodeAll encodeTag tags) (bytes-littleEndian 4 (length tags)) (subst Bytes (l .bytes) (bytes-at s at (end - at) hb)) in
+      let bytes = bytes-append (dword (length tags)) (encodeAll encodeTag tags) (bytes-littleEndian 4 (length tags)) (subst Bytes (l .bytes) (bytes-part s hb at (end - at))) in
       round-trip loneTags tags output (got tt end) (λ _. bytes)
       (present end refl (ceiling-writes loneTags tags output (tags-fit tags content) (λ few. record { content = content; few = few })))
 
@@ -57,7 +49,7 @@ module _ (s : List ℕ) (hb : Bytes s) (output : List ℕ) where
   found-query at (refused f) e = round-trip loneQuery (keyword []) output (refused f) absurd (absent f refl)
   found-query at (got q end) e =
       let l = lies codec-query query-needed s hb at e in
-      round-trip loneQuery q output (got tt end) (λ _. subst Bytes (l .bytes) (bytes-at s at (end - at) hb))
+      round-trip loneQuery q output (got tt end) (λ _. subst Bytes (l .bytes) (bytes-part s hb at (end - at)))
       (present end refl (ceiling-writes loneQuery q output (query-fits q (l .valid .0)) (λ few. record { content = l .valid; few = few })))
 
   pub query-round : (q : place.Query) {w : Written} → w ≡ writeQuery s q output →
@@ -77,27 +69,27 @@ module _ (output : List ℕ) where
   pub keyword-round : (t : List ℕ) → Bytes t → {w : Written} → w ≡ writeKeyword t output → (w ≡ writeKeyword t output) × RoundTrip loneQuery given (keyword t) output w
   unfolding writeKeyword encodeQuery encodeString
   keyword-round t ht e =
-      let bytes = bytes-both (byte 1) _ (bytes-littleEndian 1 1) (bytes-both (word (length t)) t (bytes-littleEndian 2 (length t)) ht) in
+      let bytes = bytes-append (byte 1) _ (bytes-littleEndian 1 1) (bytes-append (word (length t)) t (bytes-littleEndian 2 (length t)) ht) in
       (e, subst (RoundTrip loneQuery given (keyword t) output) (sym e) (judged-round (keyword t) (keywordNumber (length t)) (keyword-judged t ht) bytes))
 
   name-bytes : (n : List ℕ) → Bytes n → Bytes (encodeName n)
   unfolding encodeName
-  name-bytes n hn = bytes-both (word (length n)) n (bytes-littleEndian 2 (length n)) hn
+  name-bytes n hn = bytes-append (word (length n)) n (bytes-littleEndian 2 (length n)) hn
 
   pub field-round : (t n : List ℕ) → Bytes t → Bytes n → {w : Written} → w ≡ writeField t n output →
       (w ≡ writeField t n output) × RoundTrip loneQuery given (field t n) output w
   unfolding writeField encodeQuery encodeString
   field-round t n ht hn e =
-      let text = bytes-both (word (length t)) t (bytes-littleEndian 2 (length t)) ht in
-      let bytes = bytes-both (byte 2) _ (bytes-littleEndian 1 2) (bytes-both (encodeString t) (encodeName n) text (name-bytes n hn)) in
+      let text = bytes-append (word (length t)) t (bytes-littleEndian 2 (length t)) ht in
+      let bytes = bytes-append (byte 2) _ (bytes-littleEndian 1 2) (bytes-append (encodeString t) (encodeName n) text (name-bytes n hn)) in
       (e, subst (RoundTrip loneQuery given (field t n) output) (sym e) (judged-round (field t n) (fieldNumber (length t) (length n)) (field-judged t n ht hn) bytes))
 
   pub limit-round : (v : ℕ) (b : Bound) (n : List ℕ) → Dword v → Bytes n → {w : Written} → w ≡ writeLimit v b n output →
       (w ≡ writeLimit v b n output) × RoundTrip loneQuery given (limit v b n) output w
   unfolding writeLimit encodeQuery
   limit-round v b n hv hn e =
-      let named = bytes-both (byte (boundCode b)) (encodeName n) (bytes-littleEndian 1 (boundCode b)) (name-bytes n hn) in
-      let bytes = bytes-both (byte 3) _ (bytes-littleEndian 1 3) (bytes-both (dword v) _ (bytes-littleEndian 4 v) named) in
+      let named = bytes-append (byte (boundCode b)) (encodeName n) (bytes-littleEndian 1 (boundCode b)) (name-bytes n hn) in
+      let bytes = bytes-append (byte 3) _ (bytes-littleEndian 1 3) (bytes-append (dword v) _ (bytes-littleEndian 4 v) named) in
       (e, subst (RoundTrip loneQuery given (limit v b n) output) (sym e) (judged-round (limit v b n) (limitNumber (length n)) (limit-judged v b n hv hn) bytes))
 
   -- A side that is no lone query has its own number.
@@ -105,7 +97,7 @@ module _ (output : List ℕ) where
     sides-bytes : (q r : Query) → Bytes (encodeQuery q) → Bytes (encodeQuery r) → Bytes (encodeQuery (join o q r))
     unfolding encodeQuery
     sides-bytes q r hq hr =
-        bytes-both (byte 0) _ (bytes-littleEndian 1 0) (bytes-both (byte (operatorCode o)) _ (bytes-littleEndian 1 (operatorCode o)) (bytes-both (encodeQuery q) (encodeQuery r) hq hr))
+        bytes-append (byte 0) _ (bytes-littleEndian 1 0) (bytes-append (byte (operatorCode o)) _ (bytes-littleEndian 1 (operatorCode o)) (bytes-append (encodeQuery q) (encodeQuery r) hq hr))
 
     sides-round : (x y : Answer Query) → decode loneQuery a ≡ x → decode loneQuery b ≡ y →
         RoundTrip loneQuery (sidesThere x y) (joinOf o x y) output (writeSides o x y output)

@@ -29,7 +29,12 @@ answered a output = record { number = a .number; length = a .length; output = ou
 abbrev pub writeWithin : List ℕ → List ℕ → Written
 writeWithin bytes output = pick (leb (length bytes) packetCeiling) (writtenInto bytes output) (unwritten 6 output)
 
--- What lies at a place. Where it does not lie, there is no message, and the number is that of its own reading.
+-- A write of what lies at places. Where they do not hold what they should, the number is that of their own reading, before all others.
+abbrev pub writeThere : Outcome (Unit {0}) → List ℕ → Written → Written
+writeThere (refused f) output w = unwritten (number (f .rule)) output
+writeThere (got u next) output w = w
+
+-- The same for a message whose value is read there.
 abbrev pub writeFound : {A : Type 0} → (A → List ℕ) → Outcome A → List ℕ → Written
 writeFound encode (refused f) output = unwritten (number (f .rule)) output
 writeFound encode (got a next) output = writeWithin (encode a) output

@@ -2,7 +2,7 @@
 
 use super::Random;
 use super::messages::{counted, framed, tag, text};
-use super::met::{Gaps, file_entry, lawful_part_tags, server_entry};
+use super::met::{Gaps, client_entry, file_entry, lawful_part_tags, server_entry};
 
 /// A message of the kind that is about as long as wanted, and often just as long.
 pub fn grown(random: &mut Random, kind: u8, length: usize) -> Vec<u8> {
@@ -89,6 +89,11 @@ fn long_met(random: &mut Random, length: usize, entry: fn(&mut Random, &mut Vec<
     let count = fill(random, &mut file, length, entry);
     file[1..5].copy_from_slice(&count.to_le_bytes());
     file
+}
+
+/// A known.met as a client writes it, about as long as wanted.
+pub fn client_known_met(random: &mut Random, length: usize) -> Vec<u8> {
+    long_met(random, length, client_entry)
 }
 
 /// The size that a long part.met has.

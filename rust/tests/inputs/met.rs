@@ -29,6 +29,29 @@ pub fn file_entry(random: &mut Random, out: &mut Vec<u8>) {
     tag_list(random, out);
 }
 
+/// A model's entry as aMule writes it: a hash for each part, and the tags of ../samples/amule_known_0E.met, always in this order.
+pub fn client_entry(random: &mut Random, out: &mut Vec<u8>) {
+    let size = random.within(20_000_000, 300_000_000);
+    let parts = size / 9_728_000 + 1;
+    out.extend(random.bytes(20));
+    out.extend((parts as u16).to_le_bytes());
+    out.extend(random.bytes(16 * parts));
+    out.extend(9u32.to_le_bytes());
+    let name = vec![b'n'; random.within(10, 60)];
+    text_tag(1, &name, out);
+    text_tag(1, &name, out);
+    for (name, number) in [(0x02, size as u32), (0x50, 0), (0x54, 0), (0x51, 1), (0x52, 1), (0x19, 5)] {
+        dword_tag(&[name], number, out);
+    }
+    text_tag(0x27, &[b'A'; 32], out);
+}
+
+fn text_tag(name: u8, text: &[u8], out: &mut Vec<u8>) {
+    out.push(2);
+    counted(&[name], out);
+    counted(text, out);
+}
+
 fn part_hashes(random: &mut Random, out: &mut Vec<u8>) {
     let count = random.pick(&[0, 0, 1, 2, 20]);
     out.extend((count as u16).to_le_bytes());

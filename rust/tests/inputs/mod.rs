@@ -8,7 +8,7 @@ mod messages;
 mod met;
 
 pub use damage::damaged;
-pub use grown::{LONG_PART_SIZE, grown, long_part_met};
+pub use grown::{LONG_PART_SIZE, client_known_met, grown, long_part_met};
 pub use made::*;
 pub use messages::*;
 pub use met::*;

@@ -1,8 +1,6 @@
 use Prim.Native.Nat.{_+_, _/_}
-use mathlib.Core.Path.{refl}
 use native.Mathlib.Omega.{arith}
-use Rattle.format.specs.PacketOrder.{decodeBits}
-use Rattle.bodies.proofs.StatusBits.{bytes-there, all-used, unused-clear, unused-set}
+use Rattle.bodies.proofs.StatusBits.{missing-bytes, bytes-there, all-used, unused-clear, unused-set}
 use borrow.Author.Needs.{needs}
 use Rattle.bodies.proofs.read_bits.Statement.{statement}
 use Rattle.bodies.proofs.read_bits.Tie as tie
@@ -23,8 +21,9 @@ fault-requires : tie.Need-fault-requires
 fault-requires c κs = search needs
 
 returns : tie.Need-returns
-unfolding decodeBits
-returns c = rw (c .fault .ensures, ← c .before .before .before .run .ensures, c .before .enum-told .given .1) refl
+returns c =
+    let told = c .before .enum-told .given .1 in
+    rw (c .fault .ensures, told) (missing-bytes _ _ _ (rw told at (c .before .before .before .run .ensures)))
 
 returns-2 : tie.Need-returns-2
 returns-2 c =

@@ -1,7 +1,8 @@
 use mathlib.Core.Path.{refl}
 use native.Mathlib.Omega.{arith}
+use Rattle.writing.proofs.There.{is-there}
 use Rattle.bodychecking.proofs.Extents.{absent-extends, plain-extends}
-use Rattle.bodychecking.proofs.Places.{got-ends, is-there}
+use Rattle.bodychecking.proofs.Places.{got-ends}
 use borrow.Author.Needs.{needs}
 use Rattle.bodychecking.proofs.bits_extent.Statement.{statement}
 use Rattle.bodychecking.proofs.bits_extent.Tie as tie

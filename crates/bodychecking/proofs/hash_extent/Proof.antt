@@ -1,5 +1,6 @@
+use Rattle.writing.proofs.There.{is-there}
 use Rattle.bodychecking.proofs.Extents.{absent-extends, hash-extends}
-use Rattle.bodychecking.proofs.Places.{got-ends, is-there}
+use Rattle.bodychecking.proofs.Places.{got-ends}
 use borrow.Author.Needs.{needs}
 use Rattle.bodychecking.proofs.hash_extent.Statement.{statement}
 use Rattle.bodychecking.proofs.hash_extent.Tie as tie

@@ -1,6 +1,7 @@
 use native.Mathlib.Omega.{arith}
+use Rattle.writing.proofs.There.{is-there}
 use Rattle.bodychecking.proofs.Extents.{absent-extends, place-extends}
-use Rattle.bodychecking.proofs.Places.{got-ends, is-there}
+use Rattle.bodychecking.proofs.Places.{got-ends}
 use borrow.Author.Needs.{needs}
 use Rattle.bodychecking.proofs.place_extent.Statement.{statement}
 use Rattle.bodychecking.proofs.place_extent.Tie as tie

@@ -1,5 +1,6 @@
+use Rattle.writing.proofs.There.{is-there}
 use Rattle.bodychecking.proofs.Extents.{absent-extends, text-extends, text-long}
-use Rattle.bodychecking.proofs.Places.{got-ends, is-there}
+use Rattle.bodychecking.proofs.Places.{got-ends}
 use borrow.Author.Needs.{needs}
 use Rattle.bodychecking.proofs.text_extent.Statement.{statement}
 use Rattle.bodychecking.proofs.text_extent.Tie as tie

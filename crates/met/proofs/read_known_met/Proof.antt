@@ -2,6 +2,7 @@ use mathlib.Core.Path.{refl}
 use denote.Ref.{now}
 use borrow.Author.Tests.{lt-leb, le-leb, eq-eqb, ne-eqb}
 use Rattle.format.specs.Messages.{knownMet}
+use Rattle.format.specs.Rules.{metCeiling}
 use Rattle.format.specs.MetOrder.{decode}
 use Rattle.wire.proofs.Replies.{exact-placed}
 use borrow.Author.Needs.{needs}
@@ -16,7 +17,7 @@ unfolding decode
 returns c =
     let b = c .before .before in
     exact-placed knownMet (now (b .before .args .s)) (b .shared-slice-known .given)
-    (rw (c .number .ensures, lt-leb _ _ (c .before .if1 .taken)) refl)
+    (rw (c .number .ensures, lt-leb _ metCeiling (c .before .if1 .taken)) refl)
     tt
 
 read-known-met-at-requires : tie.Need-read-known-met-at-requires
@@ -42,7 +43,7 @@ returns-2 c =
     (rw (
       c .number2 .ensures,
       c .before .fault .ensures,
-      le-leb _ _ (b .before .if1 .left),
+      le-leb _ metCeiling (b .before .if1 .left),
       ← b .read-known-met-at .ensures .0,
       c .before .before .enum-told .given .1,
     )
@@ -54,7 +55,7 @@ unfolding decode
 returns-3 c =
     let b = c .before .before .before .before in
     exact-placed knownMet (now (b .before .before .before .args .s)) (b .before .before .shared-slice-known .given)
-    (rw (le-leb _ _ (b .before .if1 .left), ← b .read-known-met-at .ensures .0, c .before .before .m .given .1, eq-eqb _ _ (c .if2 .taken)) refl)
+    (rw (le-leb _ metCeiling (b .before .if1 .left), ← b .read-known-met-at .ensures .0, c .before .before .m .given .1, eq-eqb _ _ (c .if2 .taken)) refl)
     (rw (c .before .before .m .given .1) at (b .read-known-met-at .ensures .1))
 
 number-requires-3 : tie.Need-number-requires-3
@@ -67,7 +68,7 @@ returns-4 c =
     exact-placed knownMet (now (b .before .before .before .args .s)) (b .before .before .shared-slice-known .given)
     (rw (
       c .number3 .ensures,
-      le-leb _ _ (b .before .if1 .left),
+      le-leb _ metCeiling (b .before .if1 .left),
       ← b .read-known-met-at .ensures .0,
       c .before .before .before .m .given .1,
       ne-eqb _ _ (c .before .if2 .left),

@@ -2,6 +2,7 @@ use mathlib.Core.Path.{refl}
 use denote.Ref.{now}
 use borrow.Author.Tests.{lt-leb, le-leb, eq-eqb, ne-eqb}
 use Rattle.format.specs.Messages.{partMet}
+use Rattle.format.specs.Rules.{metCeiling}
 use Rattle.format.specs.MetOrder.{decode}
 use Rattle.met.proofs.PartFile.{exact-sized}
 use borrow.Author.Needs.{needs}
@@ -16,7 +17,7 @@ unfolding decode
 returns c =
     let b = c .before .before in
     exact-sized partMet (now (b .before .args .s)) (b .shared-slice-known .given)
-    (rw (c .number .ensures, lt-leb _ _ (c .before .if1 .taken)) refl)
+    (rw (c .number .ensures, lt-leb _ metCeiling (c .before .if1 .taken)) refl)
     tt
     tt
 
@@ -43,7 +44,7 @@ returns-2 c =
     (rw (
       c .number2 .ensures,
       c .before .fault .ensures,
-      le-leb _ _ (b .before .if1 .left),
+      le-leb _ metCeiling (b .before .if1 .left),
       ← b .read-part-met-at .ensures .0,
       c .before .before .enum-told .given .1,
     )
@@ -57,7 +58,7 @@ returns-3 c =
     let b = c .before .before .before .before in
     let m = c .before .before .m .given .1 in
     exact-sized partMet (now (b .before .before .before .args .s)) (b .before .before .shared-slice-known .given)
-    (rw (le-leb _ _ (b .before .if1 .left), ← b .read-part-met-at .ensures .0, m, eq-eqb _ _ (c .if2 .taken)) refl)
+    (rw (le-leb _ metCeiling (b .before .if1 .left), ← b .read-part-met-at .ensures .0, m, eq-eqb _ _ (c .if2 .taken)) refl)
     (rw m at (b .read-part-met-at .ensures .1 .0))
     (rw m at (b .read-part-met-at .ensures .1 .1))
 
@@ -71,7 +72,7 @@ returns-4 c =
     exact-sized partMet (now (b .before .before .before .args .s)) (b .before .before .shared-slice-known .given)
     (rw (
       c .number3 .ensures,
-      le-leb _ _ (b .before .if1 .left),
+      le-leb _ metCeiling (b .before .if1 .left),
       ← b .read-part-met-at .ensures .0,
       c .before .before .before .m .given .1,
       ne-eqb _ _ (c .before .if2 .left),

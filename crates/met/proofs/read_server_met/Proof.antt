@@ -2,6 +2,7 @@ use mathlib.Core.Path.{refl}
 use denote.Ref.{now}
 use borrow.Author.Tests.{lt-leb, le-leb, eq-eqb}
 use Rattle.format.specs.Messages.{serverMet}
+use Rattle.format.specs.Rules.{metCeiling}
 use Rattle.format.specs.MetOrder.{decode}
 use Rattle.wire.proofs.Replies.{exact-placed}
 use lib.ListN.{length}
@@ -17,7 +18,7 @@ unfolding decode
 returns c =
     let b = c .before .before in
     exact-placed serverMet (now (b .before .args .s)) (b .shared-slice-known .given)
-    (rw (c .number .ensures, lt-leb _ _ (c .before .if1 .taken)) refl)
+    (rw (c .number .ensures, lt-leb _ metCeiling (c .before .if1 .taken)) refl)
     tt
 
 read-server-met-at-requires : tie.Need-read-server-met-at-requires
@@ -43,7 +44,7 @@ returns-2 c =
     (rw (
       c .number2 .ensures,
       c .before .fault .ensures,
-      le-leb _ _ (b .before .if1 .left),
+      le-leb _ metCeiling (b .before .if1 .left),
       ← b .read-server-met-at .ensures .0,
       c .before .before .enum-told .given .1,
     )
@@ -56,7 +57,7 @@ returns-3 c =
     let b = c .before .before .before in
     let s = now (b .before .before .before .args .s) in
     exact-placed serverMet s (b .before .before .shared-slice-known .given)
-    (rw (le-leb _ _ (b .before .if1 .left), ← b .read-server-met-at .ensures .0, c .before .m .given .1, eq-eqb (length s) (length s) refl) refl)
+    (rw (le-leb _ metCeiling (b .before .if1 .left), ← b .read-server-met-at .ensures .0, c .before .m .given .1, eq-eqb (length s) (length s) refl) refl)
     (rw (c .before .m .given .1) at (b .read-server-met-at .ensures .1))
 
 pub read-server-met-spec : {M : Type 1} → statement M

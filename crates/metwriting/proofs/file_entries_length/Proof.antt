@@ -1,7 +1,8 @@
 use mathlib.Core.Path.{_∙_}
 use denote.Ref.{now}
 use Rattle.format.proofs.MetFiles.{codec-entry}
-use Rattle.metwriting.proofs.Lists.{entry-needed, list-behind, list-ends}
+use Rattle.format.proofs.Writing.{entry-needed}
+use Rattle.metwriting.proofs.Lists.{list-behind, list-ends}
 use borrow.Author.Needs.{needs}
 use Rattle.metwriting.proofs.file_entries_length.Statement.{statement}
 use Rattle.metwriting.proofs.file_entries_length.Tie as tie

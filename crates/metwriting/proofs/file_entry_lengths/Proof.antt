@@ -37,7 +37,6 @@ fault-requires-2 c κs = search needs
 returns-2 : tie.Need-returns-2
 returns-2 c =
     let b4 = c .before .before .before .before in
-    let b8 = b4 .before .before .before .before in
     let hash = rw (b4 .enum-told .given .1) at (b4 .before .before .hash .ensures) in
     let read = rw (c .before .enum-told3 .given .1) at (c .before .before .before .hashes-length .ensures) in
     rw (c .fault2 .ensures, c .before .enum-told3 .given .1) (then-there (run-there hash) (first-missing _ read))
@@ -58,7 +57,6 @@ returns-3 : tie.Need-returns-3
 returns-3 c =
     let b4 = c .before .before .before .before in
     let b8 = b4 .before .before .before .before in
-    let b12 = b8 .before .before .before .before in
     let hash = rw (b8 .enum-told .given .1) at (b8 .before .before .hash .ensures) in
     let parts = rw (b4 .before .p .given .1) at (b4 .before .before .before .hashes-length .ensures) in
     let read = rw (c .before .enum-told4 .given .1) at (c .before .before .before .tags-length .ensures) in
@@ -73,7 +71,7 @@ returns-4 c =
     let hash = rw (b8 .enum-told .given .1) at (b8 .before .before .hash .ensures) in
     let parts = rw (b4 .before .p .given .1) at (b4 .before .before .before .hashes-length .ensures) in
     let tags = rw (c .before .t .given .1) at (c .before .before .before .tags-length .ensures) in
-    (hash-there (now (a .s)) (b8 .before .before .before .shared-slice-known .given) (a .e .hash) hash, (parts, tags))
+    (hash-there (now (a .s)) (a .e .hash) hash, (parts, tags))
 
 pub file-entry-lengths-spec : {M : Type 1} → statement M
 file-entry-lengths-spec =

@@ -1,7 +1,8 @@
 use mathlib.Core.Path.{_∙_}
 use denote.Ref.{now}
 use Rattle.format.proofs.Items.{codec-hash}
-use Rattle.metwriting.proofs.Lists.{hash-needed, list-behind, list-ends}
+use Rattle.format.proofs.Writing.{hash-needed}
+use Rattle.metwriting.proofs.Lists.{list-behind, list-ends}
 use borrow.Author.Needs.{needs}
 use Rattle.metwriting.proofs.hashes_length.Statement.{statement}
 use Rattle.metwriting.proofs.hashes_length.Tie as tie

@@ -1,6 +1,8 @@
 use mathlib.Core.Path.{_∙_}
 use denote.Ref.{now}
-use Rattle.metwriting.proofs.Lists.{codec-server, server-needed, list-behind, list-ends}
+use Rattle.format.proofs.MetFiles.{codec-server}
+use Rattle.format.proofs.Writing.{server-needed}
+use Rattle.metwriting.proofs.Lists.{list-behind, list-ends}
 use borrow.Author.Needs.{needs}
 use Rattle.metwriting.proofs.server_entries_length.Statement.{statement}
 use Rattle.metwriting.proofs.server_entries_length.Tie as tie

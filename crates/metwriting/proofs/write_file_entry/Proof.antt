@@ -89,9 +89,6 @@ put-file-entry-requires : tie.Need-put-file-entry-requires
 put-file-entry-requires c κs =
     let b4 = c .before .before .before .before in
     let b8 = b4 .before .before .before .before in
-    let b12 = b8 .before .before .before .before in
-    let a = b12 .args in
-    let known = b8 .before .before .before .shared-slice-known .given in
     let read = rw (b4 .before .before .before .l .given .1) at (b8 .before .file-entry-lengths .ensures) in
     (read, c .before .before .before .if1 .left, omega (arith, c .before .if3 .left, c .before .before .if2 .left))
 

@@ -63,9 +63,6 @@ returns-3 c =
 put-server-entry-requires : tie.Need-put-server-entry-requires
 put-server-entry-requires c κs =
     let b4 = c .before .before .before .before in
-    let b8 = b4 .before .before .before .before in
-    let a = b8 .before .args in
-    let known = b8 .shared-slice-known .given in
     let read = rw (b4 .l .given .1) at (b4 .before .before .tags-length .ensures) in
     (read, omega (arith, c .before .if2 .left, c .before .before .if1 .left))
 

@@ -40,7 +40,7 @@ returns-3 c =
       b .d .given .1,
       ne-eqb _ _ (c .before .before .if1 .left),
       ← c .before .remaining .ensures,
-      eq-eqb _ _ (c .if2 .taken),
+      eq-eqb _ (c .before .remaining .result) (c .if2 .taken),
     )
     refl
 
@@ -53,7 +53,7 @@ returns-4 c =
       b .d .given .1,
       ne-eqb _ _ (c .before .before .if1 .left),
       ← c .before .remaining .ensures,
-      ne-eqb _ _ (c .if2 .left),
+      ne-eqb _ (c .before .remaining .result) (c .if2 .left),
     )
     refl
 

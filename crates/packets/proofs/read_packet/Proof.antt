@@ -2,6 +2,7 @@ use mathlib.Core.Path.{refl}
 use denote.Ref.{now}
 use borrow.Author.Tests.{lt-leb, le-leb, eq-eqb, ne-eqb}
 use borrow.Author.Needs.{needs}
+use Rattle.format.specs.Rules.{packetCeiling}
 use Rattle.packets.proofs.Links.{exact-link}
 use Rattle.packets.proofs.read_packet.Statement.{statement}
 use Rattle.packets.proofs.read_packet.Tie as tie
@@ -14,7 +15,7 @@ returns c =
     let b = c .before .before in
     let args = b .before .args in
     exact-link (args .link) (now (args .s)) (b .shared-slice-known .given)
-    (rw (c .number .ensures, lt-leb _ _ (c .before .if1 .taken)) refl)
+    (rw (c .number .ensures, lt-leb _ packetCeiling (c .before .if1 .taken)) refl)
     tt
 
 read-head-requires : tie.Need-read-head-requires
@@ -40,7 +41,7 @@ returns-2 c =
     (rw (
       c .number2 .ensures,
       c .before .fault .ensures,
-      le-leb _ _ (h .before .if1 .left),
+      le-leb _ packetCeiling (h .before .if1 .left),
       ← h .read-head .ensures,
       c .before .before .enum-told .given .1,
     )
@@ -71,7 +72,7 @@ returns-3 c =
     (rw (
       c .number3 .ensures,
       c .before .fault2 .ensures,
-      le-leb _ _ (h .before .if1 .left),
+      le-leb _ packetCeiling (h .before .if1 .left),
       ← h .read-head .ensures,
       b .before .before .h .given .1,
       ← b .read-body .ensures .0,
@@ -87,7 +88,7 @@ returns-4 c =
     let args = h .before .before .before .args in
     exact-link (args .link) (now (args .s)) (h .before .before .shared-slice-known .given)
     (rw (
-      le-leb _ _ (h .before .if1 .left),
+      le-leb _ packetCeiling (h .before .if1 .left),
       ← h .read-head .ensures,
       b .before .before .h .given .1,
       ← b .read-body .ensures .0,
@@ -108,7 +109,7 @@ returns-5 c =
     exact-link (args .link) (now (args .s)) (h .before .before .shared-slice-known .given)
     (rw (
       c .number4 .ensures,
-      le-leb _ _ (h .before .if1 .left),
+      le-leb _ packetCeiling (h .before .if1 .left),
       ← h .read-head .ensures,
       b .before .before .h .given .1,
       ← b .read-body .ensures .0,

@@ -1,7 +1,7 @@
 use mathlib.Core.Path.{sym}
 use mathlib.Core.List.{[], _∷_}
 use denote.Ref.{now}
-use Rattle.put.proofs.Laws.{same-lengths}
+use Rattle.format.proofs.PartTags.{same-lengths}
 use Rattle.parttags.proofs.Names.{same-one}
 use borrow.Author.Needs.{needs}
 use Rattle.parttags.proofs.is_size_name.Statement.{statement}

@@ -2,7 +2,7 @@
 use Prim.Native.Nat.{_≤_}
 use mathlib.Core.Path.{_≡_, refl, sym, _∙_}
 use denote.Ref.{now}
-use Rattle.format.specs.Rules.{gapLimit}
+use Rattle.format.specs.Gaps.{gapLimit}
 use Rattle.format.specs.PartTagOrder.{used}
 use Rattle.parttags.specs.Steps.{firstPairs, pairsOf}
 use Rattle.parttags.proofs.GapTags.{pairs-none, used-last}

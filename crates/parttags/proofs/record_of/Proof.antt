@@ -1,7 +1,7 @@
 -- The loop: the record holds the gaps of the first `filled` pairs, and 0 in the other places.
 use Prim.Native.Nat.{_≤_, _-_}
 use mathlib.Core.Path.{_≡_, refl, _∙_}
-use Rattle.format.specs.Rules.{gapLimit}
+use Rattle.format.specs.Gaps.{gapLimit}
 use Rattle.gaps.specs.declared.GapRecord.{GapRecord}
 use Rattle.parttags.specs.Steps.{firstGaps}
 use Rattle.parttags.proofs.GapTags.{placesOf, places-next, places-record}

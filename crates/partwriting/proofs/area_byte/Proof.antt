@@ -32,7 +32,6 @@ returns c = rw (c .enum-told .given .1) (at-closing _)
 
 returns-2 : tie.Need-returns-2
 returns-2 c =
-    let b4 = c .before .before .before .before in
     rw (c .before .before .before .a .given .1, ← c .before .bytes-at .ensures) (c .last-byte .ensures)
 
 returns-3 : tie.Need-returns-3

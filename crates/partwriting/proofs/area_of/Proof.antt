@@ -48,7 +48,6 @@ returns-3 c =
 
 returns-4 : tie.Need-returns-4
 returns-4 c =
-    let b4 = c .before .before .before .before in
     rw (c .before .before .b3 .given .1) (c .two-blocks .ensures)
 
 pub area-of-spec : {M : Type 1} → statement M

@@ -1,7 +1,8 @@
 use mathlib.Core.Path.{_∙_}
 use denote.Ref.{now}
 use Rattle.format.proofs.Codec.{codec-run}
-use Rattle.metwriting.proofs.Lists.{list-behind, list-ends, run-needed}
+use Rattle.format.proofs.Writing.{run-needed}
+use Rattle.metwriting.proofs.Lists.{list-behind, list-ends}
 use borrow.Author.Needs.{needs}
 use Rattle.partwriting.proofs.block_hashes_length.Statement.{statement}
 use Rattle.partwriting.proofs.block_hashes_length.Tie as tie

@@ -14,8 +14,6 @@ use Rattle.partwriting.proofs.e0_number.Tie as tie
 returns : tie.Need-returns
 unfolding e0Number
 returns c =
-    let b4 = c .before .before .before .before in
-    let a = b4 .args in
     rw (lt-leb _ _ (c .if1 .taken)) refl
 
 returns-2 : tie.Need-returns-2

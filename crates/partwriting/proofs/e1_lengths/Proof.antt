@@ -37,7 +37,6 @@ fault-requires-2 c κs = search needs
 returns-2 : tie.Need-returns-2
 returns-2 c =
     let b4 = c .before .before .before .before in
-    let b8 = b4 .before .before .before .before in
     let told = c .before .enum-told3 .given .1 in
     let hash = rw (b4 .enum-told .given .1) at (b4 .before .before .hash .ensures) in
     rw (c .fault2 .ensures, told) (then-there (run-there hash) (first-missing _ (rw told at (c .before .before .before .tags-length .ensures))))
@@ -58,7 +57,6 @@ returns-3 : tie.Need-returns-3
 returns-3 c =
     let b4 = c .before .before .before .before in
     let b8 = b4 .before .before .before .before in
-    let b12 = b8 .before .before .before .before in
     let told = c .before .enum-told4 .given .1 in
     let hash = rw (b8 .enum-told .given .1) at (b8 .before .before .hash .ensures) in
     let tags = rw (b4 .before .l .given .1) at (b4 .before .before .before .tags-length .ensures) in
@@ -73,7 +71,7 @@ returns-4 c =
     let hash = rw (b8 .enum-told .given .1) at (b8 .before .before .hash .ensures) in
     let tags = rw (b4 .before .l .given .1) at (b4 .before .before .before .tags-length .ensures) in
     let area = rw (c .before .b .given .1) at (c .before .before .before .area-of .ensures) in
-    (hash-there (now (a .s)) (b8 .before .before .before .shared-slice-known .given) (a .m .hash) hash, (tags, area))
+    (hash-there (now (a .s)) (a .m .hash) hash, (tags, area))
 
 pub e1-lengths-spec : {M : Type 1} → statement M
 e1-lengths-spec =

@@ -37,7 +37,6 @@ returns-2 : tie.Need-returns-2
 unfolding e1Number
 returns-2 c =
     let b4 = c .before .before .before .before in
-    let b8 = b4 .before .before .before .before in
     let tags = rw (c .before .before .verdict .given .1) at (b4 .check-tags .ensures) in
     rw (sym (b4 .before .before .is-within .ensures) ∙ not-false _ (b4 .before .if1 .left), ← tags) (c .blocks-number .ensures)
 
@@ -45,7 +44,6 @@ returns-3 : tie.Need-returns-3
 unfolding e1Number
 returns-3 c =
     let b4 = c .before .before .before .before in
-    let b8 = b4 .before .before .before .before in
     let tags = rw (c .before .before .verdict2 .given .1) at (b4 .check-tags .ensures) in
     rw (sym (b4 .before .before .is-within .ensures) ∙ not-false _ (b4 .before .if1 .left), ← tags) (c .number .ensures)
 

@@ -30,7 +30,6 @@ returns c = search needs
 
 returns-2 : tie.Need-returns-2
 returns-2 c =
-    let b4 = c .before .before .before .before in
     rw (c .before .before .before .b .given .1, c .before .part-count .ensures) refl
 
 returns-3 : tie.Need-returns-3
@@ -39,7 +38,6 @@ returns-3 c = search needs
 returns-4 : tie.Need-returns-4
 returns-4 c =
     let b4 = c .before .before .before .before in
-    let b8 = b4 .before .before .before .before in
     let same = rw (b4 .part-count2 .ensures) at (c .before .before .if1 .taken) in
     rw (b4 .before .before .b2 .given .1, eq-eqb _ _ same, c .before .block-count .ensures) refl
 

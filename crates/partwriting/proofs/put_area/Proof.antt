@@ -47,7 +47,6 @@ same-length c = search needs
 returns : tie.Need-returns
 returns c =
     let b4 = c .before .before .before .before in
-    let b8 = b4 .before .before .before .before in
     rw (b4 .enum-told .given .1) (refl, c .before .before .put-byte .ensures)
 
 same-length-2 : tie.Need-same-length-2

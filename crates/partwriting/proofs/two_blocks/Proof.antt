@@ -37,7 +37,6 @@ fault-requires-2 c κs = search needs
 returns-2 : tie.Need-returns-2
 returns-2 c =
     let b4 = c .before .before .before .before in
-    let b8 = b4 .before .before .before .before in
     let told = c .before .enum-told2 .given .1 in
     let parts = rw (b4 .before .p .given .1) at (b4 .before .before .before .hashes-length .ensures) in
     rw (c .fault2 .ensures, told) (then-there parts (rw told at (c .before .before .before .block-hashes-length .ensures)))

@@ -28,7 +28,6 @@ refused-requires c κs = search needs
 returns : tie.Need-returns
 returns c =
     let b4 = c .before .before .before .before in
-    let b8 = b4 .before .before .before .before in
     let told = c .before .before .before .enum-told .given .1 in
     let read = rw told at (b4 .before .file-entry-lengths .ensures) in
     rw (c .refused .ensures, c .before .number .ensures, c .before .before .fault .ensures, told) (missing _ read)
@@ -72,7 +71,6 @@ returns-3 c =
 put-part-e0-requires : tie.Need-put-part-e0-requires
 put-part-e0-requires c κs =
     let b4 = c .before .before .before .before in
-    let b8 = b4 .before .before .before .before in
     let read = rw (b4 .before .l .given .1) at (b4 .before .before .before .file-entry-lengths .ensures) in
     let fits = e0-fits _ _ _ (sym (c .before .before .before .e0-number .ensures) ∙ c .before .before .if1 .left) in
     (read, fits .0, c .before .if2 .left)

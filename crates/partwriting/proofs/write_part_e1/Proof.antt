@@ -28,7 +28,6 @@ refused-requires c κs = search needs
 returns : tie.Need-returns
 returns c =
     let b4 = c .before .before .before .before in
-    let b8 = b4 .before .before .before .before in
     let told = c .before .before .before .enum-told .given .1 in
     let read = rw told at (b4 .before .e1-lengths .ensures) in
     rw (c .refused .ensures, c .before .number .ensures, c .before .before .fault .ensures, told) (missing _ read)
@@ -53,20 +52,14 @@ returns-2 c =
 
 area-size-requires : tie.Need-area-size-requires
 area-size-requires c κs =
-    let b4 = c .before .before .before .before in
-    let b8 = b4 .before .before .before .before in
     omega (arith, e1-fits _ _ _ (sym (c .before .e1-number .ensures) ∙ c .if1 .left))
 
 add-if2 : tie.Need-add-if2
 add-if2 c =
-    let b4 = c .before .before .before .before in
-    let b8 = b4 .before .before .before .before in
     omega (arith, e1-fits _ _ _ (sym (c .before .before .e1-number .ensures) ∙ c .before .if1 .left), c .area-size .ensures)
 
 add-if2-2 : tie.Need-add-if2-2
 add-if2-2 c =
-    let b4 = c .before .before .before .before in
-    let b8 = b4 .before .before .before .before in
     omega (arith, e1-fits _ _ _ (sym (c .before .before .e1-number .ensures) ∙ c .before .if1 .left), c .area-size .ensures)
 
 refused-requires-3 : tie.Need-refused-requires-3

@@ -4,7 +4,8 @@ use native.Mathlib.Omega.{arith}
 use lib.ListN.{drop}
 use denote.Ref.{now}
 use Rattle.format.specs.Tables.{same}
-use Rattle.put.proofs.Laws.{same-lengths, same-next, same-stop, same-done}
+use Rattle.format.proofs.PartTags.{same-lengths}
+use Rattle.put.proofs.Laws.{same-next, same-stop, same-done}
 use Rattle.put.proofs.same.Statement.{statement}
 use Rattle.put.proofs.same.Tie as tie
 

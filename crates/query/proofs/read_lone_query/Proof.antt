@@ -1,6 +1,7 @@
 use mathlib.Core.Path.{refl}
 use borrow.Author.Tests.{lt-leb, le-leb, eq-eqb, ne-eqb}
 use Rattle.format.specs.Messages.{loneQuery}
+use Rattle.format.specs.Rules.{packetCeiling}
 use Rattle.format.specs.MetOrder.{decode}
 use Rattle.wire.proofs.Replies.{exact-placed}
 use borrow.Author.Needs.{needs}
@@ -12,7 +13,7 @@ number-requires c κs = search needs
 
 returns : tie.Need-returns
 unfolding decode
-returns c = exact-placed loneQuery _ (c .before .before .shared-slice-known .given) (rw (c .number .ensures, lt-leb _ _ (c .before .if1 .taken)) refl) tt
+returns c = exact-placed loneQuery _ (c .before .before .shared-slice-known .given) (rw (c .number .ensures, lt-leb _ packetCeiling (c .before .if1 .taken)) refl) tt
 
 read-query-requires : tie.Need-read-query-requires
 read-query-requires c κs = search needs
@@ -34,7 +35,7 @@ unfolding decode
 returns-2 c =
     let b = c .before .before .before .before in
     exact-placed loneQuery _ (b .before .before .shared-slice-known .given)
-    (rw (c .number2 .ensures, c .before .fault .ensures, le-leb _ _ (b .before .if1 .left))
+    (rw (c .number2 .ensures, c .before .fault .ensures, le-leb _ packetCeiling (b .before .if1 .left))
     (rw (← b .read-query .ensures .0, c .before .before .enum-told .given .1) refl))
     tt
 
@@ -43,7 +44,7 @@ unfolding decode
 returns-3 c =
     let b = c .before .before .before in
     exact-placed loneQuery _ (b .before .before .before .before .shared-slice-known .given)
-    (rw (le-leb _ _ (b .before .before .before .if1 .left), ← b .before .before .read-query .ensures .0, b .q .given .1, eq-eqb _ _ (c .if2 .taken)) refl)
+    (rw (le-leb _ packetCeiling (b .before .before .before .if1 .left), ← b .before .before .read-query .ensures .0, b .q .given .1, eq-eqb _ _ (c .if2 .taken)) refl)
     (rw (b .q .given .1) at (b .before .before .read-query .ensures .1))
 
 number-requires-3 : tie.Need-number-requires-3
@@ -54,7 +55,7 @@ unfolding decode
 returns-4 c =
     let b = c .before .before .before .before in
     exact-placed loneQuery _ (b .before .before .before .before .shared-slice-known .given)
-    (rw (c .number3 .ensures, le-leb _ _ (b .before .before .before .if1 .left))
+    (rw (c .number3 .ensures, le-leb _ packetCeiling (b .before .before .before .if1 .left))
     (rw (← b .before .before .read-query .ensures .0, b .q .given .1, ne-eqb _ _ (c .before .if2 .left)) refl))
     tt
 

@@ -1,4 +1,4 @@
-use Rattle.saving.proofs.Saves.{save-refused, save-accepted}
+use Rattle.saving.proofs.Saves.{save-refused, save-conflict, save-over}
 use borrow.Author.Tests.{le-leb, lt-leb, not-true, not-false}
 use mathlib.Core.Path.{refl}
 use borrow.Author.Needs.{needs}
@@ -32,8 +32,8 @@ returns-2 : tie.Need-returns-2
 returns-2 c =
     let s = c .before .before in
     let read = rw (s .before .enum-told .given .1) at (s .before .before .before .read-part-met .ensures .0) in
-    let differ = not-true (s .same .result) (c .before .if1 .taken) in
-    rw (c .refused2 .ensures, save-accepted _ _ _ _ _ read, ← s .same .ensures, differ) refl
+    let differ = rw (not-true (s .same .result) (c .before .if1 .taken)) at (s .same .ensures) in
+    rw (c .refused2 .ensures, save-conflict _ _ _ _ _ read differ) refl
 
 refused-requires-3 : tie.Need-refused-requires-3
 refused-requires-3 c κs = search needs
@@ -42,8 +42,8 @@ returns-3 : tie.Need-returns-3
 returns-3 c =
     let s = c .before .before .before in
     let read = rw (s .before .enum-told .given .1) at (s .before .before .before .read-part-met .ensures .0) in
-    let equal = not-false (s .same .result) (c .before .before .if1 .left) in
-    rw (c .refused3 .ensures, save-accepted _ _ _ _ _ read, ← s .same .ensures, equal, lt-leb _ _ (c .before .if2 .taken)) refl
+    let equal = rw (not-false (s .same .result) (c .before .before .if1 .left)) at (s .same .ensures) in
+    rw (c .refused3 .ensures, save-over _ _ _ _ _ read equal, lt-leb _ _ (c .before .if2 .taken)) refl
 
 copy-requires : tie.Need-copy-requires
 copy-requires c κs = search needs
@@ -55,9 +55,9 @@ returns-4 : tie.Need-returns-4
 returns-4 c =
     let s = c .before .before .before .before .before .before in
     let read = rw (s .before .enum-told .given .1) at (s .before .before .before .read-part-met .ensures .0) in
-    let equal = not-false (s .same .result) (c .before .before .before .before .before .if1 .left) in
+    let equal = rw (not-false (s .same .result) (c .before .before .before .before .before .if1 .left)) at (s .same .ensures) in
     let room = le-leb _ _ (c .before .before .before .before .if2 .left) in
-    rw (save-accepted _ _ _ _ _ read, ← s .same .ensures, equal, room, ← c .before .before .copy .ensures) refl
+    rw (save-over _ _ _ _ _ read equal, room, ← c .before .before .copy .ensures) refl
 
 pub save-spec : {M : Type 1} → statement M
 save-spec =

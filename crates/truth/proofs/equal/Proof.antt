@@ -1,5 +1,6 @@
 use mathlib.Core.Path.{sym, _∙_}
-use Rattle.truth.proofs.Texts.{same-prefix, same-longer}
+use Rattle.format.proofs.PartTags.{same-lengths}
+use Rattle.truth.proofs.Texts.{same-prefix}
 use borrow.Author.Needs.{needs}
 use Rattle.truth.proofs.equal.Statement.{statement}
 use Rattle.truth.proofs.equal.Tie as tie
@@ -11,7 +12,7 @@ returns : tie.Need-returns
 returns c = c .starts-with .ensures ∙ same-prefix _ _ (c .before .if1 .taken)
 
 returns-2 : tie.Need-returns-2
-returns-2 c = sym (same-longer _ _ (c .if1 .left))
+returns-2 c = sym (same-lengths _ _ (c .if1 .left))
 
 pub equal-spec : {M : Type 1} → statement M
 equal-spec = tie.close (tie.spec starts-with-requires returns returns-2)

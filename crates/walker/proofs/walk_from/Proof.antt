@@ -10,11 +10,13 @@ number-requires c κs = search needs
 
 returns : tie.Need-returns
 unfolding walkFrom
-returns c = rw (c .number .ensures, eq-eqb _ _ (c .before .before .if1 .taken), lt-ltb _ _ (c .before .if2 .taken)) refl
+returns c =
+    let at = c .before .before .before .before .args .at in
+    rw (c .number .ensures, eq-eqb _ 0 (c .before .before .if1 .taken), lt-ltb at _ (c .before .if2 .taken)) refl
 
 returns-2 : tie.Need-returns-2
 unfolding walkFrom
-returns-2 c = rw (eq-eqb _ _ (c .before .if1 .taken), le-ltb _ _ (c .if2 .left)) refl
+returns-2 c = rw (eq-eqb _ 0 (c .before .if1 .taken), le-ltb (c .before .before .before .args .at) _ (c .if2 .left)) refl
 
 read-tag-requires : tie.Need-read-tag-requires
 read-tag-requires c κs = search needs

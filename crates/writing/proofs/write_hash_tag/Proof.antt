@@ -82,7 +82,6 @@ put-hash-tag-requires c κs =
     let b8 = b4 .before .before .before .before in
     let b12 = b8 .before .before .before .before in
     let a = b12 .args in
-    let place = b4 .before .before .h .given .0 .0 in
     let read = rw (b4 .before .before .h .given .1) at (b8 .hash .ensures) in
     let h = tag-fits (length (now (a .name))) 0 (sym (b4 .tag-number .ensures) ∙ c .before .before .before .if1 .left) in
     (h .0, rw (c .before .bytes-at .ensures) (hash-length (now (a .src)) (a .at) read), c .before .before .if2 .left)

@@ -1,5 +1,6 @@
 use mathlib.Core.Path.{refl}
 use borrow.Author.Tests.{lt-leb, le-leb, eq-eqb, ne-eqb}
+use Rattle.format.specs.Rules.{nameLimit}
 use Rattle.format.specs.Order.{decodeName}
 use borrow.Author.Needs.{needs}
 use Rattle.wire.proofs.Cursor.name.Statement.{statement}
@@ -23,13 +24,13 @@ returns c = rw (c .fault .ensures, ← c .before .before .before .word .ensures,
 
 returns-2 : tie.Need-returns-2
 unfolding decodeName
-returns-2 c = rw (← c .before .before .before .before .word .ensures, c .before .before .w .given .1, eq-eqb _ _ (c .if1 .taken)) refl
+returns-2 c = rw (← c .before .before .before .before .word .ensures, c .before .before .w .given .1, eq-eqb _ 0 (c .if1 .taken)) refl
 
 returns-3 : tie.Need-returns-3
 unfolding decodeName
 returns-3 c =
     let b = c .before .before .before in
-    rw (← b .before .before .word .ensures, b .w .given .1, ne-eqb _ _ (c .before .if1 .left), lt-leb _ _ (c .if2 .taken)) refl
+    rw (← b .before .before .word .ensures, b .w .given .1, ne-eqb _ 0 (c .before .if1 .left), lt-leb _ nameLimit (c .if2 .taken)) refl
 
 cast-run : tie.Need-cast-run
 cast-run c = search needs
@@ -41,7 +42,7 @@ returns-4 : tie.Need-returns-4
 unfolding decodeName
 returns-4 c =
     let b = c .before .before .before .before in
-    rw (← b .before .before .word .ensures, b .w .given .1, ne-eqb _ _ (c .before .before .if1 .left), le-leb _ _ (c .before .if2 .left))
+    rw (← b .before .before .word .ensures, b .w .given .1, ne-eqb _ 0 (c .before .before .if1 .left), le-leb _ nameLimit (c .before .if2 .left))
     (c .run .ensures)
 
 pub name-spec : {M : Type 1} → statement M
