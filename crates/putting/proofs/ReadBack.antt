@@ -131,8 +131,6 @@ pub record PutBack (size : ℕ) (gaps : List Gap) (file new : List ℕ) : Type 0
   pub othersStay : plainTags (tagsOf (withGaps gaps before)) ≡ plainTags (tagsOf before)
   pub checked : checkPartTags (tagsOf (withGaps gaps before)) ≡ passes (size, tagsOf (withGaps gaps before))
 
-
-
 tags-withGaps : (gaps : List Gap) (m : PartMet) → tagsOf (withGaps gaps m) ≡ regapped gaps (tagsOf m)
 unfolding withGaps tagsOf
 tags-withGaps gaps (e0 e) = refl

@@ -103,8 +103,6 @@ leaf-same c d same s at parts rest e i =
     )
     refl
 
-
-
 -- A query of at most the depth that is left is decoded.
 shallow : (d : ℕ) (q : Query) → ValidLeaves q → depth q ≤ d → (s : List ℕ) (at : ℕ) (rest : List ℕ) → drop at s ≡ encodeQuery q ++ rest → at ≤ length s →
     decodeQueryIn d s at ≡ got q (at + length (encodeQuery q))
