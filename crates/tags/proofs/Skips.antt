@@ -23,7 +23,7 @@ unfolding ends
 run-ends s at n h = rw (← run-there s at n h) refl
 
 -- A DWORD ends with its four bytes.
-dword-ends : (s : List ℕ) (at : ℕ) → at + 4 ≤ length s → ends (decodeDword s at) ≡ got tt (at + 4)
+pub dword-ends : (s : List ℕ) (at : ℕ) → at + 4 ≤ length s → ends (decodeDword s at) ≡ got tt (at + 4)
 unfolding ends
 dword-ends s at h = rw (← dword-there s at h) refl
 

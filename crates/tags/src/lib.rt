@@ -17,7 +17,7 @@ ghost use Rattle.format.specs.Layout.{encodeTags};
 ghost use Rattle.format.specs.Rules.{Valid};
 ghost use Rattle.format.specs.Tables.{lookup, pick};
 ghost use Rattle.format.specs.Decoding.{decodeMany, ends, reply, message};
-ghost use Rattle.format.specs.Order.{decodeType, decodeValue, decodeTag, decodeTags, tagTypes};
+ghost use Rattle.format.specs.Order.{decodeDword, decodeType, decodeValue, decodeTag, decodeTags, tagTypes};
 ghost use Rattle.format.specs.MetOrder.{decode};
 ghost use Rattle.wire.specs.Meaning.{itemsMeaning, ItemsStepPlaced};
 ghost use Rattle.tags.specs.Meaning.{typeOf, typeMeaning, valueMeaning, tagMeaning, tagListReply, TagListPlaced};
@@ -211,11 +211,22 @@ fn value_size(code: u8, a: u8, b: u8) -> usize
     if code == 2 { text } else { fixed }
 }
 
-// A value, by the code of its type.
+fn dword_end(s: &[u8], at: usize) -> usize
+    requires { ⌜ at ≤ length (now s) ⌝ }
+    ensures { λ r. ⌜ EndsThere (ends (decodeDword (now (s .entry)) at)) r ⌝ }
+{
+    if s.len() - at < 4 { 0 } else { at + 4 }
+}
+
+// A value, by the code of its type. A client writes its tags in the same order again and again, most of them DWORDs: the processor guesses
+// that jump right, and begins the next tag before it has read this one.
 fn value_end(s: &[u8], at: usize, code: u8) -> usize
     requires { ⌜ at ≤ length (now s) ⌝ }
     ensures { λ r. ⌜ EndsThere (valueEnds (lookup tagTypes code) (now (s .entry)) at) r ⌝ }
 {
+    if code == 3 {
+        return dword_end(s, at);
+    }
     if code == 0 {
         return 0;
     }
