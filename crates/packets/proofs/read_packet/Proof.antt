@@ -1,5 +1,6 @@
 use mathlib.Core.Path.{refl}
 use denote.Ref.{now}
+use lib.ListN.{length}
 use borrow.Author.Tests.{lt-leb, le-leb, eq-eqb, ne-eqb}
 use borrow.Author.Needs.{needs}
 use Rattle.format.specs.Rules.{packetCeiling}
@@ -93,7 +94,7 @@ returns-4 c =
       b .before .before .h .given .1,
       ← b .read-body .ensures .0,
       c .before .before .b .given .1,
-      eq-eqb _ _ (c .if2 .taken),
+      eq-eqb _ (length (now (args .s))) (c .if2 .taken),
     )
     refl)
     (rw (c .before .before .b .given .1) at (b .read-body .ensures .1))

@@ -1,5 +1,6 @@
 use mathlib.Core.Path.{refl}
 use denote.Ref.{now}
+use lib.ListN.{length}
 use borrow.Author.Tests.{lt-leb, le-leb, eq-eqb, ne-eqb}
 use Rattle.format.specs.Messages.{loneTags}
 use Rattle.format.specs.Rules.{packetCeiling}
@@ -54,8 +55,15 @@ returns-3 : tie.Need-returns-3
 unfolding decode
 returns-3 c =
     let b = c .before .before .before .before in
-    exact-placed loneTags (now (b .before .before .before .args .s)) (b .before .before .shared-slice-known .given)
-    (rw (le-leb _ packetCeiling (b .before .if1 .left), ← b .read-tags .ensures .0, c .before .before .t .given .1, eq-eqb _ _ (c .if2 .taken)) refl)
+    let s = now (b .before .before .before .args .s) in
+    exact-placed loneTags s (b .before .before .shared-slice-known .given)
+    (rw (
+      le-leb _ packetCeiling (b .before .if1 .left),
+      ← b .read-tags .ensures .0,
+      c .before .before .t .given .1,
+      eq-eqb _ (length s) (c .if2 .taken),
+    )
+    refl)
     (rw (c .before .before .t .given .1) at (b .read-tags .ensures .1))
 
 number-requires-3 : tie.Need-number-requires-3

@@ -23,11 +23,15 @@ returns c = rw (c .fault .ensures, ← c .before .before .before .byte .ensures,
 
 returns-2 : tie.Need-returns-2
 unfolding decodeFixed
-returns-2 c = rw (← c .before .before .before .before .byte .ensures, c .before .before .x .given .1, eq-eqb _ _ (c .if1 .taken)) refl
+returns-2 c =
+    let b = c .before .before .before .before in
+    rw (← b .byte .ensures, c .before .before .x .given .1, eq-eqb _ (b .before .before .args .b) (c .if1 .taken)) refl
 
 returns-3 : tie.Need-returns-3
 unfolding decodeFixed
-returns-3 c = rw (← c .before .before .before .before .byte .ensures, c .before .before .x .given .1, ne-eqb _ _ (c .if1 .left)) refl
+returns-3 c =
+    let b = c .before .before .before .before in
+    rw (← b .byte .ensures, c .before .before .x .given .1, ne-eqb _ (b .before .before .args .b) (c .if1 .left)) refl
 
 pub fixed-spec : {M : Type 1} → statement M
 fixed-spec =
