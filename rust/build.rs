@@ -21,16 +21,33 @@ fn given_archive(archive: PathBuf) -> PathBuf {
     archive
 }
 
-/// Has `rt` prove the library and write its archive, anew whenever its sources change.
+/// Has `rt` prove the library and write its archive, anew whenever its sources change. `rt check` proves crates side by side, and
+/// `rt staticlib` one after the other: what the library is made of is proved before.
 fn made_archive() -> PathBuf {
     let root = PathBuf::from(variable("CARGO_MANIFEST_DIR")).join("..");
     for source in ["crates", "crates.txt"] {
         println!("cargo:rerun-if-changed={}", root.join(source).display());
     }
-    let made = Command::new("rt").args(["staticlib", "ed2k"]).current_dir(&root).status();
-    match made {
-        Ok(status) if status.success() => root.join("target/staticlib/libed2k.a"),
-        Ok(status) => fail(&format!("`rt staticlib ed2k` failed in {}: {status}", root.display())),
+    let mut check = vec!["check".to_string()];
+    check.extend(parts(&root.join("crates.txt")));
+    rt(&root, &check);
+    rt(&root, &["staticlib", "ed2k"].map(String::from));
+    root.join("target/staticlib/libed2k.a")
+}
+
+/// The crates that the library is made of, as the list of crates has them.
+fn parts(list: &Path) -> Vec<String> {
+    let crates =
+        fs::read_to_string(list).unwrap_or_else(|error| fail(&format!("{}: {error}", list.display())));
+    let library = crates.lines().find_map(|line| line.strip_prefix("ed2k:"));
+    let names = library.unwrap_or_else(|| fail(&format!("{} does not list ed2k", list.display())));
+    names.split_whitespace().map(String::from).collect()
+}
+
+fn rt(root: &Path, words: &[String]) {
+    match Command::new("rt").args(words).current_dir(root).status() {
+        Ok(status) if status.success() => (),
+        Ok(status) => fail(&format!("`rt {}` failed in {}: {status}", words.join(" "), root.display())),
         Err(error) => fail(&format!(
             "`rt` cannot be run ({error}): the Rattle kit makes the archive, or ED2K_ARCHIVE names one"
         )),
