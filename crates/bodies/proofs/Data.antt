@@ -1,11 +1,27 @@
 -- The data of a 'Sending part' reach to the end of the bytes.
 use Prim.Native.Nat.{ℕ, _-_}
-use mathlib.Core.Path.{_≡_}
+use mathlib.Core.Path.{_≡_, sym}
 use mathlib.Core.List.{List}
 use lib.ListN.{length, drop, length-drop}
 use lib.Seq.{take-all}
 use native.Mathlib.Omega.{arith}
-use Rattle.format.specs.Decoding.{bytesAt}
+use Rattle.format.specs.Decoding.{bytesAt, got}
+use Rattle.format.specs.Order.{decodeDword}
+use Rattle.format.specs.PacketOrder.{both, checkRange, decodeRange}
+use Rattle.format.proofs.Codec.{same-place, settled-got, went}
+use Rattle.format.proofs.There.{dword-ends}
+use Rattle.wire.specs.Meaning.{Inside}
 
 pub to-the-end : (s : List ℕ) (at : ℕ) → bytesAt s at (length s - at) ≡ drop at s
 to-the-end s at = take-all (length s - at) (drop at s) (simp length-drop (omega arith))
+
+-- They begin inside, behind a start and an end that were read.
+pub data-inside : (s : List ℕ) (at : ℕ) {range : ℕ × ℕ} {next : ℕ} → got range next ≡ decodeRange s at → Inside s next (length s - next)
+unfolding decodeRange
+data-inside s at e =
+    let w = went s (both decodeDword decodeDword s at) (sym e) in
+    let start = went s (decodeDword s at) (w .was) in
+    let end = went s (decodeDword s (start .mid)) (start .then) in
+    let there = dword-ends s (start .mid) (end .was) in
+    let same = settled-got at 8 (checkRange (length s - w .mid) (w .first)) (w .mid) (w .then) in
+    omega (arith, there .0, there .1, same-place (end .then), same .1)

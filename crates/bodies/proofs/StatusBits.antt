@@ -1,6 +1,6 @@
 -- Status bits, judged by the last of their bytes alone.
 use Prim.Native.Nat.{ℕ, _+_, _/_, _%_, _^_, _≤_, _<_}
-use mathlib.Core.Path.{_≡_, refl, sym, _∙_}
+use mathlib.Core.Path.{_≡_, refl, sym, ap, _∙_}
 use mathlib.Core.Bool.{Bool, true, false}
 use mathlib.Core.List.{List}
 use lib.ListN.{length, drop, getD}
@@ -9,9 +9,10 @@ use native.Mathlib.Omega.{arith}
 use borrow.Author.Tests.{eq-eqb, ne-eqb, lt-ltb, le-ltb}
 use Rattle.format.specs.Bits.{packedBytes, bitsIn, unusedClear}
 use Rattle.format.specs.Tables.{pick}
-use Rattle.format.specs.Decoding.{Fault, bytesAt, decodeRun, fault, got, passes, refused, settled, statusBit, violates}
+use Rattle.format.specs.Decoding.{Fault, bytesAt, decodeRun, ends, fault, got, passes, refused, settled, statusBit, violates}
 use Rattle.format.specs.PacketOrder.{decodeBits}
 use Rattle.format.proofs.There.{run-was}
+use Rattle.bodies.specs.Meaning.{BitsInside}
 
 -- bytes that are not there
 pub missing-bytes : (s : List ℕ) (at n : ℕ) {f : Fault} → refused f ≡ decodeRun (packedBytes n) s at → refused f ≡ decodeBits n s at
@@ -21,6 +22,10 @@ missing-bytes s at n read = rw (← read) refl
 module _ (s : List ℕ) (at n : ℕ) {l : List ℕ} {next : ℕ} (read : got l next ≡ decodeRun (packedBytes n) s at) where
   pub bytes-there : at + packedBytes n ≤ length s
   bytes-there = run-was s at (packedBytes n) (sym read) .0
+
+  pub bits-inside : {held : List Bool} → got held next ≡ decodeBits n s at → BitsInside n s at
+  unfolding ends
+  bits-inside e = (bytes-there, rw (← e) (ap (got tt) (run-was s at (packedBytes n) (sym read) .1 .0)))
 
   judged : {t : Bool} → unusedClear n (bytesAt s at (packedBytes n)) ≡ t
       → settled at (packedBytes n) (pick t (passes (bitsIn n (bytesAt s at (packedBytes n)))) (violates statusBit)) next ≡ decodeBits n s at

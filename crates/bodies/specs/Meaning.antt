@@ -1,14 +1,16 @@
 -- What the answers for bodies stand for.
-use Prim.Native.Nat.{ℕ}
+use Prim.Native.Nat.{ℕ, _+_}
+use mathlib.Core.Path.{_≡_}
 use mathlib.Core.Bool.{Bool}
 use mathlib.Core.List.{List}
 use mathlib.Core.Logic.{inl, inr}
 use Rattle.format.specs.Messages as messages
 use Rattle.format.specs.Bits.{packedBytes, bitsIn}
-use Rattle.format.specs.Decoding.{Outcome, refused, got, bytesAt}
+use Rattle.format.specs.Decoding.{Outcome, refused, got, bytesAt, ends}
 use Rattle.format.specs.Order.{decodeHash, decodeTag, decodeAddress, decodeRecord}
 use Rattle.wire.specs.declared.Fault.{Fault}
-use Rattle.wire.specs.Meaning.{faultMeaning, hashAt, placeBytes, itemsIn, ItemsPlaced, noFault}
+use Rattle.format.specs.PacketOrder.{decodeBits}
+use Rattle.wire.specs.Meaning.{faultMeaning, hashAt, HashInside, Inside, placeBytes, PlaceInside, itemsIn, ItemsInside, noFault}
 use Rattle.query.specs.Meaning.{queryIn, QueryPlaced}
 use Rattle.records.specs.Meaning.{addressOf, recordIn, RecordPlaced}
 use Rattle.bodies.specs.declared.Shape.{Shape}
@@ -100,30 +102,34 @@ abbrev pub bodyMeaning : List ℕ → BodyStep → Outcome ((shape : messages.Sh
 bodyMeaning s (BodyStep.Got b c) = got (bodyIn s b) (c .at)
 bodyMeaning s (BodyStep.Refused f) = refused (faultMeaning f)
 
--- Each list and query of a body lies where the body says.
+-- Status bits lie wholly inside the bytes, and are decoded there: the unused ones are 0.
+abbrev pub BitsInside : ℕ → List ℕ → ℕ → Type 0
+BitsInside n s at = Inside s at (packedBytes n) × (ends (decodeBits n s at) ≡ got tt (at + packedBytes n))
+
+-- Each text, hash, list and query of a body, its data and its status bits lie where the body says, wholly inside the bytes.
 abbrev pub BodyPlaced : List ℕ → Body → Type 0
 BodyPlaced s Body.Nothing = Unit {0}
 BodyPlaced s (Body.Query q) = QueryPlaced s q
-BodyPlaced s (Body.Hash h) = Unit {0}
+BodyPlaced s (Body.Hash h) = HashInside s h
 BodyPlaced s (Body.Dword n) = Unit {0}
 BodyPlaced s (Body.TwoDwords n m) = Unit {0}
-BodyPlaced s (Body.Text t) = Unit {0}
-BodyPlaced s (Body.TwoTexts t u) = Unit {0}
+BodyPlaced s (Body.Text t) = PlaceInside s t
+BodyPlaced s (Body.TwoTexts t u) = PlaceInside s t × PlaceInside s u
 BodyPlaced s (Body.Address a) = Unit {0}
-BodyPlaced s (Body.Addresses l) = ItemsPlaced decodeAddress s l
-BodyPlaced s (Body.HashAddresses h l) = ItemsPlaced decodeAddress s l
+BodyPlaced s (Body.Addresses l) = ItemsInside decodeAddress s l
+BodyPlaced s (Body.HashAddresses h l) = HashInside s h × ItemsInside decodeAddress s l
 BodyPlaced s (Body.AddressDword a n) = Unit {0}
-BodyPlaced s (Body.HashAddressTags h a l) = ItemsPlaced decodeTag s l
+BodyPlaced s (Body.HashAddressTags h a l) = HashInside s h × ItemsInside decodeTag s l
 BodyPlaced s (Body.Record r) = RecordPlaced s r
-BodyPlaced s (Body.Records l) = ItemsPlaced decodeRecord s l
-BodyPlaced s (Body.RecordsFlag l b) = ItemsPlaced decodeRecord s l
+BodyPlaced s (Body.Records l) = ItemsInside decodeRecord s l
+BodyPlaced s (Body.RecordsFlag l b) = ItemsInside decodeRecord s l
 BodyPlaced s (Body.RecordAddress r a) = RecordPlaced s r
 BodyPlaced s (Body.Hello r a) = RecordPlaced s r
-BodyPlaced s (Body.HashText h t) = Unit {0}
-BodyPlaced s (Body.Hashset h l) = ItemsPlaced decodeHash s l
-BodyPlaced s (Body.SendingPart p) = Unit {0}
-BodyPlaced s (Body.RequestParts p) = Unit {0}
-BodyPlaced s (Body.FileStatus p) = Unit {0}
+BodyPlaced s (Body.HashText h t) = HashInside s h × PlaceInside s t
+BodyPlaced s (Body.Hashset h l) = HashInside s h × ItemsInside decodeHash s l
+BodyPlaced s (Body.SendingPart p) = HashInside s (p .hash) × PlaceInside s (p .data)
+BodyPlaced s (Body.RequestParts p) = HashInside s (p .hash)
+BodyPlaced s (Body.FileStatus p) = HashInside s (p .hash) × BitsInside (p .parts) s (p .bits)
 BodyPlaced s (Body.StatusRequest p) = Unit {0}
 BodyPlaced s (Body.Status t) = Unit {0}
 BodyPlaced s (Body.ExtendedStatus p) = Unit {0}
@@ -149,6 +155,10 @@ rangesMeaning (RangesStep.Refused f) = refused (faultMeaning f)
 abbrev pub bitsMeaning : ℕ → List ℕ → BitsStep → Outcome (List Bool)
 bitsMeaning n s (BitsStep.Got at c) = got (heldAt n s at) (c .at)
 bitsMeaning n s (BitsStep.Refused f) = refused (faultMeaning f)
+
+abbrev pub BitsStepInside : ℕ → List ℕ → BitsStep → Type 0
+BitsStepInside n s (BitsStep.Got at c) = BitsInside n s at
+BitsStepInside n s (BitsStep.Refused f) = Unit {0}
 
 abbrev pub extendedStatusMeaning : ExtendedStatusStep → Outcome messages.ExtendedStatus
 extendedStatusMeaning (ExtendedStatusStep.Got p c) = got (record { first = p .first; second = p .second; numbers = tripleOf (p .numbers) }) (c .at)

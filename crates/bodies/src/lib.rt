@@ -12,7 +12,7 @@ ghost use Rattle.format.specs.Messages.{statusRequestBody, statusBody};
 ghost use Rattle.format.specs.PacketOrder.{decodeRange, decodeTriple, decodeRanges, decodeBits, formOf, decodeExtendedStatus, decodeFlag, decodeBody};
 ghost use Rattle.wire.specs.Meaning.{byteMeaning};
 ghost use Rattle.bodies.specs.Meaning.{shapeOf, bodyMeaning, BodyStepPlaced};
-ghost use Rattle.bodies.specs.Meaning.{formMeaning, rangeMeaning, tripleMeaning, rangesMeaning, bitsMeaning, extendedStatusMeaning};
+ghost use Rattle.bodies.specs.Meaning.{formMeaning, rangeMeaning, tripleMeaning, rangesMeaning, bitsMeaning, BitsStepInside, extendedStatusMeaning};
 ghost use Rattle.bodies.specs.Meaning.{rangeFault, tripleFault, rangesFault, bitsFault, extendedStatusFault, bodyFault};
 use query::Query;
 use query::QueryStep;
@@ -390,6 +390,7 @@ fn power(k: u16) -> u16
 // The bits of n parts. All their bytes must be there before the unused bits of the last one are judged.
 pub fn read_bits(s: &[u8], c: Cursor, n: u16) -> BitsStep
     ensures { λ r. ⌜ bitsMeaning n (now (s .entry)) r ≡ decodeBits n (now (s .entry)) (c .at) ⌝ }
+    ensures inside { λ r. ⌜ BitsStepInside n (now (s .entry)) r ⌝ }
 {
     let size = (n as usize + 7) / 8;
     let p = c.run(s, size);

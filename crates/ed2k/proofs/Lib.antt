@@ -1,3 +1,4 @@
 mod GapNumbers
 mod Writes
 pub mod Links
+pub mod ReadBack

@@ -20,12 +20,12 @@ use Rattle.wire.specs.declared.Items.{Items}
 use Rattle.wire.specs.Meaning.{itemsIn, ruleMeaning}
 use Rattle.tags.specs.declared.TagStep.{TagStep}
 use Rattle.tags.specs.declared.TagListAnswer.{TagListAnswer}
-use Rattle.tags.specs.Meaning.{tagMeaning, tagListReply, TagListPlaced}
+use Rattle.tags.specs.Meaning.{tagMeaning, TagStepInside, tagListReply, TagListPlaced}
 use Rattle.query.specs.declared.NodeStep.{NodeStep}
 use Rattle.query.specs.declared.Query.{Query}
 use Rattle.query.specs.declared.QueryAnswer.{QueryAnswer}
 use Rattle.query.specs.Nodes.{decodeNode}
-use Rattle.query.specs.Meaning.{nodeMeaning, queryIn, queryReply, QueryAnswerPlaced}
+use Rattle.query.specs.Meaning.{nodeMeaning, NodeStepInside, queryIn, queryReply, QueryAnswerPlaced}
 use Rattle.records.specs.declared.RecordStep.{RecordStep}
 use Rattle.records.specs.Meaning.{recordMeaning, RecordStepPlaced}
 use Rattle.met.specs.declared.FileEntryStep.{FileEntryStep}
@@ -127,7 +127,7 @@ tagRead (TagStep.Got t next) old = fieldsOut (tagNumbers t next) old
 tagRead (TagStep.Refused f) old = numbered (faultNumber f) old
 
 abbrev pub TagRead : List ℕ → ℕ → List ℕ → Numbered → Type 0
-TagRead s at old r = (a : TagStep) × (tagMeaning s a ≡ decodeTag s at) × (r ≡ tagRead a old)
+TagRead s at old r = (a : TagStep) × (tagMeaning s a ≡ decodeTag s at) × TagStepInside s a × (r ≡ tagRead a old)
 
 -- an address has no place in it: what was decoded says all
 abbrev pub addressRead : Outcome messages.Address → List ℕ → Numbered
@@ -162,7 +162,7 @@ nodeRead (NodeStep.Got n next) old = fieldsOut (nodeNumbers n next) old
 nodeRead (NodeStep.Refused f) old = numbered (faultNumber f) old
 
 abbrev pub NodeRead : List ℕ → ℕ → List ℕ → Numbered → Type 0
-NodeRead s at old r = (a : NodeStep) × (nodeMeaning s a ≡ decodeNode s at) × (r ≡ nodeRead a old)
+NodeRead s at old r = (a : NodeStep) × (nodeMeaning s a ≡ decodeNode s at) × NodeStepInside s a × (r ≡ nodeRead a old)
 
 -- Writing: the number, the output afterwards, and the length where bytes were written; a refusal leaves it as it was.
 pub record Leaves (w : Written) (number : ℕ) (output : List ℕ) (old new : ℕ) : Type 0 where

@@ -1,2 +1,3 @@
 pub mod PartFile
+pub mod Inside
 pub mod Skips

@@ -44,8 +44,8 @@ passed tags size (TagsVerdict.Passes n) sized e = rw (← e) refl
 passed tags size (TagsVerdict.Violates rule) sized e = differ cc
 
 file-placed : (s : List ℕ) (file : PartMet) → PartMetPlaced s file → ItemsPlaced decodeTag s (tagsPlace file)
-file-placed s (PartMet.E0 e) p = p .1
-file-placed s (PartMet.E1 m) p = p .0
+file-placed s (PartMet.E0 e) p = p .1 .1 .0
+file-placed s (PartMet.E1 m) p = p .1 .0 .0
 
 module _ (s : List ℕ) {a : PartAnswer} {file : PartMet} {size : ℕ} (accepted : a ≡ PartAnswer.Accepted file size) where
   -- the tags of an accepted part.met lie where its answer says

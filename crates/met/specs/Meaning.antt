@@ -13,7 +13,7 @@ use Rattle.format.specs.MetOrder as order
 use Rattle.format.specs.MetOrder.{decodeFileEntry, decodeServerEntry}
 use Rattle.wire.specs.declared.Fault.{Fault}
 use Rattle.wire.specs.declared.Items.{Items}
-use Rattle.wire.specs.Meaning.{faultMeaning, hashAt, placeBytes, itemsIn, ItemsPlaced, noFault}
+use Rattle.wire.specs.Meaning.{faultMeaning, hashAt, HashInside, placeBytes, PlaceInside, itemsIn, ItemsInside, noFault}
 use Rattle.gaps.specs.Records.{recordOf, noneMissing}
 use Rattle.met.specs.declared.FileEntry.{FileEntry}
 use Rattle.met.specs.declared.FileEntryStep.{FileEntryStep}
@@ -44,9 +44,9 @@ abbrev pub fileEntryIn : List ℕ → FileEntry → messages.FileEntry
 fileEntryIn s e =
     record { date = e .date; hash = hashAt s (e .hash); parts = itemsIn decodeHash s (e .parts); tags = itemsIn decodeTag s (e .tags) }
 
--- The lists of an entry, and of a file, lie where it says.
+-- The hash and the lists of an entry, and the lists and the tail of a file, lie where it says, wholly inside the bytes.
 abbrev pub FileEntryPlaced : List ℕ → FileEntry → Type 0
-FileEntryPlaced s e = ItemsPlaced decodeHash s (e .parts) × ItemsPlaced decodeTag s (e .tags)
+FileEntryPlaced s e = HashInside s (e .hash) × (ItemsInside decodeHash s (e .parts) × ItemsInside decodeTag s (e .tags))
 
 abbrev pub fileEntryMeaning : List ℕ → FileEntryStep → Outcome messages.FileEntry
 fileEntryMeaning s (FileEntryStep.Got e c) = got (fileEntryIn s e) (c .at)
@@ -60,7 +60,7 @@ abbrev pub knownMetIn : List ℕ → KnownMet → messages.KnownMet
 knownMetIn s m = record { opening = m .opening; entries = itemsIn decodeFileEntry s (m .entries) }
 
 abbrev pub KnownMetPlaced : List ℕ → KnownMet → Type 0
-KnownMetPlaced s m = ItemsPlaced decodeFileEntry s (m .entries)
+KnownMetPlaced s m = ItemsInside decodeFileEntry s (m .entries)
 
 abbrev pub knownMetMeaning : List ℕ → KnownMetStep → Outcome messages.KnownMet
 knownMetMeaning s (KnownMetStep.Got m c) = got (knownMetIn s m) (c .at)
@@ -89,14 +89,14 @@ serverEntryMeaning s (ServerEntryStep.Got e c) = got (serverEntryIn s e) (c .at)
 serverEntryMeaning s (ServerEntryStep.Refused f) = refused (faultMeaning f)
 
 abbrev pub ServerEntryStepPlaced : List ℕ → ServerEntryStep → Type 0
-ServerEntryStepPlaced s (ServerEntryStep.Got e c) = ItemsPlaced decodeTag s (e .tags)
+ServerEntryStepPlaced s (ServerEntryStep.Got e c) = ItemsInside decodeTag s (e .tags)
 ServerEntryStepPlaced s (ServerEntryStep.Refused f) = Unit {0}
 
 abbrev pub serverMetIn : List ℕ → ServerMet → messages.ServerMet
 serverMetIn s m = record { opening = m .opening; entries = itemsIn decodeServerEntry s (m .entries); tail = placeBytes s (m .tail) }
 
 abbrev pub ServerMetPlaced : List ℕ → ServerMet → Type 0
-ServerMetPlaced s m = ItemsPlaced decodeServerEntry s (m .entries)
+ServerMetPlaced s m = ItemsInside decodeServerEntry s (m .entries) × PlaceInside s (m .tail)
 
 abbrev pub serverMetMeaning : List ℕ → ServerMetStep → Outcome messages.ServerMet
 serverMetMeaning s (ServerMetStep.Got m) = got (serverMetIn s m) (length s)
@@ -132,9 +132,9 @@ blocksIn s (HashBlocks.Both l k) = bothBlocks (itemsIn decodeHash s l) (itemsIn 
 
 abbrev pub BlocksPlaced : List ℕ → HashBlocks → Type 0
 BlocksPlaced s HashBlocks.Nothing = Unit {0}
-BlocksPlaced s (HashBlocks.Parts l) = ItemsPlaced decodeHash s l
-BlocksPlaced s (HashBlocks.Blocks k) = ItemsPlaced (decodeRun 8) s k
-BlocksPlaced s (HashBlocks.Both l k) = ItemsPlaced decodeHash s l × ItemsPlaced (decodeRun 8) s k
+BlocksPlaced s (HashBlocks.Parts l) = ItemsInside decodeHash s l
+BlocksPlaced s (HashBlocks.Blocks k) = ItemsInside (decodeRun 8) s k
+BlocksPlaced s (HashBlocks.Both l k) = ItemsInside decodeHash s l × ItemsInside (decodeRun 8) s k
 
 abbrev pub blocksMeaning : List ℕ → BlocksStep → Outcome messages.HashBlocks
 blocksMeaning s (BlocksStep.Got b c) = got (blocksIn s b) (c .at)
@@ -161,7 +161,7 @@ partTagsMeaning s (PartTagsStep.Got l size c) = got (size, itemsIn decodeTag s l
 partTagsMeaning s (PartTagsStep.Refused f) = refused (faultMeaning f)
 
 abbrev pub PartTagsStepPlaced : List ℕ → PartTagsStep → Type 0
-PartTagsStepPlaced s (PartTagsStep.Got l size c) = ItemsPlaced decodeTag s l
+PartTagsStepPlaced s (PartTagsStep.Got l size c) = ItemsInside decodeTag s l
 PartTagsStepPlaced s (PartTagsStep.Refused f) = Unit {0}
 
 abbrev pub PartTagsStepSized : List ℕ → PartTagsStep → Type 0
@@ -177,7 +177,7 @@ partMetIn s (PartMet.E1 m) = e1 (partE1In s m)
 
 abbrev pub PartMetPlaced : List ℕ → PartMet → Type 0
 PartMetPlaced s (PartMet.E0 e) = FileEntryPlaced s e
-PartMetPlaced s (PartMet.E1 m) = ItemsPlaced decodeTag s (m .tags) × BlocksPlaced s (m .blocks)
+PartMetPlaced s (PartMet.E1 m) = HashInside s (m .hash) × (ItemsInside decodeTag s (m .tags) × BlocksPlaced s (m .blocks))
 
 -- The tags of a part.met, and where they lie.
 abbrev pub tagsOf : messages.PartMet → List messages.Tag

@@ -6,10 +6,10 @@
 // entry with the reader of one entry, as many as the list counts.
 //
 // specs/Meaning.antt says what each answer stands for.
-ghost use Prim.Native.Nat.{_-_};
+ghost use Prim.Native.Nat.{_-_, _≤_};
 ghost use mathlib.Core.Path.{_≡_};
 ghost use mathlib.Core.Logic.{_↔_};
-ghost use lib.ListN.{drop};
+ghost use lib.ListN.{drop, length};
 ghost use Rattle.format.specs.Messages as messages;
 ghost use Rattle.format.specs.Messages.{knownMet, serverMet, partMet};
 ghost use Rattle.format.specs.Layout.{encode};
@@ -20,7 +20,7 @@ ghost use Rattle.format.specs.PacketOrder.{decodeOpening};
 ghost use Rattle.format.specs.MetOrder.{decode, decodeFileEntry, decodeKnownMet, decodeServerEntry, decodeServerMet};
 ghost use Rattle.format.specs.MetOrder.{marks, decodeSecondBlock, decodeHashBlocks, decodePartTags};
 ghost use Rattle.format.specs.MetOrder.{isE0, isE1, decodeEdition, decodePartBody, decodePartMet};
-ghost use Rattle.wire.specs.Meaning.{byteMeaning, itemsIn, ItemsPlaced, itemsMeaning, ItemsStepPlaced, placeBytes};
+ghost use Rattle.wire.specs.Meaning.{byteMeaning, itemsIn, ItemsInside, itemsMeaning, ItemsStepPlaced, ItemsStepInside, placeBytes, PlaceInside};
 ghost use Rattle.tags.specs.Skips.{EndsThere};
 ghost use Rattle.met.specs.Meaning.{fileEntryMeaning, FileEntryStepPlaced, fileEntryFault};
 ghost use Rattle.met.specs.Meaning.{knownMetMeaning, KnownMetStepPlaced, knownMetFault, knownReply, KnownAnswerPlaced};
@@ -236,7 +236,7 @@ pub fn file_entries_from(s: &[u8], first: Cursor, n: u32) -> ItemsStep
 fn read_file_entries(s: &[u8], c: Cursor) -> ItemsStep
     ensures meaning { λ r. ⌜ itemsMeaning decodeFileEntry (now (s .entry)) r
         ≡ decodeCounted decodeDword decodeFileEntry (now (s .entry)) (c .at) ⌝ }
-    ensures placed { λ r. ⌜ ItemsStepPlaced decodeFileEntry (now (s .entry)) r ⌝ }
+    ensures placed { λ r. ⌜ ItemsStepInside decodeFileEntry (now (s .entry)) r ⌝ }
 {
     let d = c.dword(s);
     let DwordStep::Got(n, first) = d else {
@@ -382,7 +382,7 @@ pub fn server_entries_from(s: &[u8], first: Cursor, n: u32) -> ItemsStep
 fn read_server_entries(s: &[u8], c: Cursor) -> ItemsStep
     ensures meaning { λ r. ⌜ itemsMeaning decodeServerEntry (now (s .entry)) r
         ≡ decodeCounted decodeDword decodeServerEntry (now (s .entry)) (c .at) ⌝ }
-    ensures placed { λ r. ⌜ ItemsStepPlaced decodeServerEntry (now (s .entry)) r ⌝ }
+    ensures placed { λ r. ⌜ ItemsStepInside decodeServerEntry (now (s .entry)) r ⌝ }
 {
     let d = c.dword(s);
     let DwordStep::Got(n, first) = d else {
@@ -393,7 +393,9 @@ fn read_server_entries(s: &[u8], c: Cursor) -> ItemsStep
 
 // All the bytes from the cursor on.
 fn tail_from(s: &[u8], c: Cursor) -> Place
+    requires { ⌜ c .at ≤ length (now s) ⌝ }
     ensures { λ r. ⌜ placeBytes (now (s .entry)) r ≡ drop (c .at) (now (s .entry)) ⌝ }
+    ensures inside { λ r. ⌜ PlaceInside (now (s .entry)) r ⌝ }
 {
     let at = c.at;
     let len = length_between(at, s.len());
@@ -578,7 +580,7 @@ impl BlocksStep {
 
 // What stands behind the part hashes: the closing mark, or a second block and the closing mark.
 fn read_second_block(s: &[u8], c: Cursor, size: u32, parts: Items) -> BlocksStep
-    requires { ⌜ ItemsPlaced decodeHash (now s) parts ⌝ }
+    requires { ⌜ ItemsInside decodeHash (now s) parts ⌝ }
     ensures meaning { λ r. ⌜ blocksMeaning (now (s .entry)) r
         ≡ andThen (now (s .entry)) (decodeCode marks (now (s .entry)) (c .at))
         (decodeSecondBlock size (itemsIn decodeHash (now (s .entry)) parts)) ⌝ }

@@ -3,3 +3,4 @@ pub mod Answers
 pub mod Known
 pub mod Servers
 pub mod Entries
+pub mod ReadBack

@@ -3,3 +3,4 @@ pub mod Shapes
 pub mod Judging
 pub mod Encodings
 pub mod Writes
+pub mod ReadBack

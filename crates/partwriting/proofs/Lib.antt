@@ -4,3 +4,4 @@ pub mod AreaBytes
 pub mod Blocks
 pub mod E1
 pub mod E1Places
+pub mod ReadBack

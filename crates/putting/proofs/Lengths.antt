@@ -72,14 +72,14 @@ tags-same s (code.PartMet.E0 e) = refl
 tags-same s (code.PartMet.E1 m) = refl
 
 pub tags-placed : (s : List ℕ) (part : code.PartMet) → PartRead s part → ItemsPlaced decodeTag s (tagsPlace part)
-tags-placed s (code.PartMet.E0 e) h = h .placed .1
-tags-placed s (code.PartMet.E1 m) h = h .placed .0
+tags-placed s (code.PartMet.E0 e) h = h .placed .1 .1 .0
+tags-placed s (code.PartMet.E1 m) h = h .placed .1 .0 .0
 
 head-length : (s : List ℕ) (part : code.PartMet) → PartRead s part → length (headOf (partMetIn s part)) ≡ tagsAt part
 unfolding headOf ValidPartMet
 head-length s (code.PartMet.E0 e) h =
     let v = h .valid .content .entry in
-    let n = items-length decodeHash s (e .parts) (h .placed .0) in
+    let n = items-length decodeHash s (e .parts) (h .placed .1 .0 .0) in
     simp (length-append, length-littleEndian) (omega (arith, v .hash .0, hashes-length (itemsIn decodeHash s (e .parts)) (v .parts .1), n))
 head-length s (code.PartMet.E1 m) h = simp (length-append, length-littleEndian) (omega (arith, h .valid .content .hash .0))
 

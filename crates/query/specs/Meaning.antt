@@ -5,7 +5,7 @@ use mathlib.Core.List.{List, []}
 use Rattle.format.specs.Messages as messages
 use Rattle.format.specs.Decoding.{Outcome, refused, got, Reply, refusedWith, message}
 use Rattle.format.specs.Order.{decodeQuery}
-use Rattle.wire.specs.Meaning.{faultMeaning, placeBytes, noFault}
+use Rattle.wire.specs.Meaning.{faultMeaning, placeBytes, PlaceInside, noFault}
 use Rattle.wire.specs.declared.Fault.{Fault}
 use Rattle.query.specs.Nodes as nodes
 use Rattle.query.specs.Nodes.{depths}
@@ -46,6 +46,17 @@ nodeIn s (Node.Limit v b n) = nodes.limit v (boundOf b) (placeBytes s n)
 abbrev pub nodeMeaning : List ℕ → NodeStep → Outcome nodes.Node
 nodeMeaning s (NodeStep.Got n c) = got (nodeIn s n) (c .at)
 nodeMeaning s (NodeStep.Refused f) = refused (faultMeaning f)
+
+-- The text and the name of a node lie wholly inside the bytes.
+abbrev pub NodeInside : List ℕ → Node → Type 0
+NodeInside s (Node.Join o) = Unit {0}
+NodeInside s (Node.Keyword t) = PlaceInside s t
+NodeInside s (Node.Field t n) = PlaceInside s t × PlaceInside s n
+NodeInside s (Node.Limit v b n) = PlaceInside s n
+
+abbrev pub NodeStepInside : List ℕ → NodeStep → Type 0
+NodeStepInside s (NodeStep.Got n c) = NodeInside s n
+NodeStepInside s (NodeStep.Refused f) = Unit {0}
 
 abbrev pub depthMeaning : DepthStep → Outcome ℕ
 depthMeaning (DepthStep.Got d c) = got d (c .at)

@@ -14,7 +14,7 @@ ghost use Rattle.format.specs.Decoding.{message, reply};
 ghost use Rattle.format.specs.Order.{decodeCode, operators, bounds, isJoin, isKeyword, isField, isLimit, decodeQueryIn, decodeQuery};
 ghost use Rattle.format.specs.MetOrder.{decode};
 ghost use Rattle.query.specs.Nodes.{decodeNodeOf, decodeNode, depths, decodeDeeper};
-ghost use Rattle.query.specs.Meaning.{operatorMeaning, boundMeaning, nodeMeaning, depthMeaning, queryMeaning, queryReply};
+ghost use Rattle.query.specs.Meaning.{operatorMeaning, boundMeaning, nodeMeaning, NodeStepInside, depthMeaning, queryMeaning, queryReply};
 ghost use Rattle.query.specs.Meaning.{operatorFault, boundFault, nodeFault, depthFault, queryFault};
 ghost use Rattle.query.specs.Meaning.{QueryStepPlaced, QueryAnswerPlaced};
 use wire::ByteStep;
@@ -181,6 +181,7 @@ pub fn read_bound(s: &[u8], c: Cursor) -> BoundStep
 
 fn read_join(s: &[u8], c: Cursor) -> NodeStep
     ensures { λ r. ⌜ nodeMeaning (now (s .entry)) r ≡ decodeNodeOf isJoin (now (s .entry)) (c .at) ⌝ }
+    ensures inside { λ r. ⌜ NodeStepInside (now (s .entry)) r ⌝ }
 {
     let o = read_operator(s, c);
     let OperatorStep::Got(operator, next) = o else {
@@ -191,6 +192,7 @@ fn read_join(s: &[u8], c: Cursor) -> NodeStep
 
 fn read_keyword(s: &[u8], c: Cursor) -> NodeStep
     ensures { λ r. ⌜ nodeMeaning (now (s .entry)) r ≡ decodeNodeOf isKeyword (now (s .entry)) (c .at) ⌝ }
+    ensures inside { λ r. ⌜ NodeStepInside (now (s .entry)) r ⌝ }
 {
     let t = c.string(s);
     let PlaceStep::Got(text, next) = t else {
@@ -201,6 +203,7 @@ fn read_keyword(s: &[u8], c: Cursor) -> NodeStep
 
 fn read_field(s: &[u8], c: Cursor) -> NodeStep
     ensures { λ r. ⌜ nodeMeaning (now (s .entry)) r ≡ decodeNodeOf isField (now (s .entry)) (c .at) ⌝ }
+    ensures inside { λ r. ⌜ NodeStepInside (now (s .entry)) r ⌝ }
 {
     let t = c.string(s);
     let PlaceStep::Got(text, after_text) = t else {
@@ -215,6 +218,7 @@ fn read_field(s: &[u8], c: Cursor) -> NodeStep
 
 fn read_limit(s: &[u8], c: Cursor) -> NodeStep
     ensures { λ r. ⌜ nodeMeaning (now (s .entry)) r ≡ decodeNodeOf isLimit (now (s .entry)) (c .at) ⌝ }
+    ensures inside { λ r. ⌜ NodeStepInside (now (s .entry)) r ⌝ }
 {
     let d = c.dword(s);
     let DwordStep::Got(value, after_value) = d else {
@@ -234,6 +238,7 @@ fn read_limit(s: &[u8], c: Cursor) -> NodeStep
 // The node at the cursor. Behind a join stand its two sides, behind a leaf nothing of the query.
 pub fn read_node(s: &[u8], c: Cursor) -> NodeStep
     ensures { λ r. ⌜ nodeMeaning (now (s .entry)) r ≡ decodeNode (now (s .entry)) (c .at) ⌝ }
+    ensures inside { λ r. ⌜ NodeStepInside (now (s .entry)) r ⌝ }
 {
     let b = c.byte(s);
     let ByteStep::Got(code, next) = b else {

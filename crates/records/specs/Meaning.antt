@@ -5,7 +5,7 @@ use Rattle.format.specs.Messages as messages
 use Rattle.format.specs.Decoding.{Outcome, refused, got}
 use Rattle.format.specs.Order.{decodeTag}
 use Rattle.wire.specs.declared.Fault.{Fault}
-use Rattle.wire.specs.Meaning.{faultMeaning, hashAt, itemsIn, ItemsPlaced, noFault}
+use Rattle.wire.specs.Meaning.{faultMeaning, hashAt, HashInside, itemsIn, ItemsInside, noFault}
 use Rattle.records.specs.declared.Address.{Address}
 use Rattle.records.specs.declared.AddressStep.{AddressStep}
 use Rattle.records.specs.declared.Record.{Record}
@@ -25,9 +25,9 @@ abbrev pub recordMeaning : List ℕ → RecordStep → Outcome messages.Record
 recordMeaning s (RecordStep.Got r c) = got (recordIn s r) (c .at)
 recordMeaning s (RecordStep.Refused f) = refused (faultMeaning f)
 
--- The tag list of a record lies where the record says.
+-- The hash and the tag list of a record lie where the record says, wholly inside the bytes.
 abbrev pub RecordPlaced : List ℕ → Record → Type 0
-RecordPlaced s r = ItemsPlaced decodeTag s (r .tags)
+RecordPlaced s r = HashInside s (r .hash) × ItemsInside decodeTag s (r .tags)
 
 abbrev pub RecordStepPlaced : List ℕ → RecordStep → Type 0
 RecordStepPlaced s (RecordStep.Got r c) = RecordPlaced s r

@@ -5,7 +5,7 @@
 ghost use mathlib.Core.Path.{_≡_};
 ghost use Rattle.format.specs.Decoding.{decodeMany};
 ghost use Rattle.format.specs.Order.{decodeByte, decodeWord, decodeDword, decodeHash, decodeAddress, decodeRecord, decodeCounted};
-ghost use Rattle.wire.specs.Meaning.{itemsMeaning, ItemsStepPlaced};
+ghost use Rattle.wire.specs.Meaning.{itemsMeaning, ItemsStepPlaced, ItemsStepInside};
 ghost use Rattle.records.specs.Meaning.{addressMeaning, recordMeaning, RecordStepPlaced, addressFault, recordFault};
 use tags::read_tags;
 use wire::ByteStep;
@@ -218,7 +218,7 @@ pub fn hashes_from(s: &[u8], first: Cursor, n: u32) -> ItemsStep
 // BYTE count, then the addresses.
 pub fn read_addresses(s: &[u8], c: Cursor) -> ItemsStep
     ensures meaning { λ r. ⌜ itemsMeaning decodeAddress (now (s .entry)) r ≡ decodeCounted decodeByte decodeAddress (now (s .entry)) (c .at) ⌝ }
-    ensures placed { λ r. ⌜ ItemsStepPlaced decodeAddress (now (s .entry)) r ⌝ }
+    ensures placed { λ r. ⌜ ItemsStepInside decodeAddress (now (s .entry)) r ⌝ }
 {
     let b = c.byte(s);
     let ByteStep::Got(n, first) = b else {
@@ -230,7 +230,7 @@ pub fn read_addresses(s: &[u8], c: Cursor) -> ItemsStep
 // DWORD count, then the records.
 pub fn read_records(s: &[u8], c: Cursor) -> ItemsStep
     ensures meaning { λ r. ⌜ itemsMeaning decodeRecord (now (s .entry)) r ≡ decodeCounted decodeDword decodeRecord (now (s .entry)) (c .at) ⌝ }
-    ensures placed { λ r. ⌜ ItemsStepPlaced decodeRecord (now (s .entry)) r ⌝ }
+    ensures placed { λ r. ⌜ ItemsStepInside decodeRecord (now (s .entry)) r ⌝ }
 {
     let d = c.dword(s);
     let DwordStep::Got(n, first) = d else {
@@ -242,7 +242,7 @@ pub fn read_records(s: &[u8], c: Cursor) -> ItemsStep
 // WORD count, then the hashes.
 pub fn read_hashes(s: &[u8], c: Cursor) -> ItemsStep
     ensures meaning { λ r. ⌜ itemsMeaning decodeHash (now (s .entry)) r ≡ decodeCounted decodeWord decodeHash (now (s .entry)) (c .at) ⌝ }
-    ensures placed { λ r. ⌜ ItemsStepPlaced decodeHash (now (s .entry)) r ⌝ }
+    ensures placed { λ r. ⌜ ItemsStepInside decodeHash (now (s .entry)) r ⌝ }
 {
     let w = c.word(s);
     let WordStep::Got(n, first) = w else {

@@ -7,7 +7,7 @@ use Rattle.format.specs.Decoding.{Outcome, refused, got, bytesAt, Reply, refuse
 use Rattle.format.specs.Order.{decodeTag}
 use Rattle.wire.specs.declared.Fault.{Fault}
 use Rattle.wire.specs.declared.Items.{Items}
-use Rattle.wire.specs.Meaning.{faultMeaning, hashAt, placeBytes, itemsIn, ItemsPlaced, noFault}
+use Rattle.wire.specs.Meaning.{faultMeaning, hashAt, HashInside, Inside, placeBytes, PlaceInside, itemsIn, ItemsInside, noFault}
 use Rattle.tags.specs.declared.TagType.{TagType}
 use Rattle.tags.specs.declared.TagValue.{TagValue}
 use Rattle.tags.specs.declared.Tag.{Tag}
@@ -44,6 +44,24 @@ abbrev pub tagMeaning : List ℕ → TagStep → Outcome messages.Tag
 tagMeaning s (TagStep.Got t c) = got (tagOf s t) (c .at)
 tagMeaning s (TagStep.Refused f) = refused (faultMeaning f)
 
+-- The name and the value lie wholly inside the bytes.
+abbrev pub ValueInside : List ℕ → TagValue → Type 0
+ValueInside s (TagValue.Hash at) = HashInside s at
+ValueInside s (TagValue.Text p) = PlaceInside s p
+ValueInside s (TagValue.Dword n) = Unit {0}
+ValueInside s (TagValue.Float n) = Unit {0}
+
+abbrev pub ValueStepInside : List ℕ → ValueStep → Type 0
+ValueStepInside s (ValueStep.Got v c) = ValueInside s v
+ValueStepInside s (ValueStep.Refused f) = Unit {0}
+
+abbrev pub TagInside : List ℕ → Tag → Type 0
+TagInside s t = Inside s (t .«name_at») (t .«name_len») × ValueInside s (t .value)
+
+abbrev pub TagStepInside : List ℕ → TagStep → Type 0
+TagStepInside s (TagStep.Got t c) = TagInside s t
+TagStepInside s (TagStep.Refused f) = Unit {0}
+
 abbrev pub tagsIn : List ℕ → Items → List messages.Tag
 tagsIn s l = itemsIn decodeTag s l
 
@@ -53,7 +71,7 @@ tagListReply s (TagListAnswer.Accepted l) = message (tagsIn s l)
 tagListReply s (TagListAnswer.Refused n) = refusedWith n
 
 abbrev pub TagListPlaced : List ℕ → TagListAnswer → Type 0
-TagListPlaced s (TagListAnswer.Accepted l) = ItemsPlaced decodeTag s l
+TagListPlaced s (TagListAnswer.Accepted l) = ItemsInside decodeTag s l
 TagListPlaced s (TagListAnswer.Refused n) = Unit {0}
 
 -- What the methods `fault` hand up.

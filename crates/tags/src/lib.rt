@@ -19,8 +19,8 @@ ghost use Rattle.format.specs.Tables.{lookup, pick};
 ghost use Rattle.format.specs.Decoding.{decodeMany, ends, reply, message};
 ghost use Rattle.format.specs.Order.{decodeDword, decodeType, decodeValue, decodeTag, decodeTags, tagTypes};
 ghost use Rattle.format.specs.MetOrder.{decode};
-ghost use Rattle.wire.specs.Meaning.{itemsMeaning, ItemsStepPlaced};
-ghost use Rattle.tags.specs.Meaning.{typeOf, typeMeaning, valueMeaning, tagMeaning, tagListReply, TagListPlaced};
+ghost use Rattle.wire.specs.Meaning.{itemsMeaning, ItemsStepPlaced, ItemsStepInside};
+ghost use Rattle.tags.specs.Meaning.{typeOf, typeMeaning, valueMeaning, ValueStepInside, tagMeaning, TagStepInside, tagListReply, TagListPlaced};
 ghost use Rattle.tags.specs.Skips.{EndsThere, placeBehind, valueSize, valueEnds};
 ghost use Rattle.tags.specs.Meaning.{typeFault, valueFault, tagFault};
 use wire::ByteStep;
@@ -131,6 +131,7 @@ pub fn read_type(s: &[u8], c: Cursor) -> TypeStep
 // A value of a type that was read before the name.
 pub fn read_value(s: &[u8], c: Cursor, tag_type: TagType) -> ValueStep
     ensures { λ r. ⌜ valueMeaning (now (s .entry)) r ≡ decodeValue (typeOf «tag_type») (now (s .entry)) (c .at) ⌝ }
+    ensures inside { λ r. ⌜ ValueStepInside (now (s .entry)) r ⌝ }
 {
     match tag_type {
         TagType::Hash => {
@@ -166,6 +167,7 @@ pub fn read_value(s: &[u8], c: Cursor, tag_type: TagType) -> ValueStep
 
 pub fn read_tag(s: &[u8], c: Cursor) -> TagStep
     ensures { λ r. ⌜ tagMeaning (now (s .entry)) r ≡ decodeTag (now (s .entry)) (c .at) ⌝ }
+    ensures inside { λ r. ⌜ TagStepInside (now (s .entry)) r ⌝ }
 {
     let t = read_type(s, c);
     let TypeStep::Got(tag_type, after_type) = t else {
@@ -353,7 +355,7 @@ pub fn tag_list_end(s: &[u8], at: usize) -> usize
 // A tag list: DWORD count, then the tags.
 pub fn read_tags(s: &[u8], c: Cursor) -> ItemsStep
     ensures { λ r. ⌜ itemsMeaning decodeTag (now (s .entry)) r ≡ decodeTags (now (s .entry)) (c .at) ⌝ }
-    ensures placed { λ r. ⌜ ItemsStepPlaced decodeTag (now (s .entry)) r ⌝ }
+    ensures placed { λ r. ⌜ ItemsStepInside decodeTag (now (s .entry)) r ⌝ }
 {
     let d = c.dword(s);
     let DwordStep::Got(count, first) = d else {

@@ -9,7 +9,7 @@ use Rattle.format.specs.Tables.{pick}
 use Rattle.format.specs.Messages.{Tag}
 use Rattle.format.specs.Decoding.{rest, number, Outcome, refused, got}
 use Rattle.format.specs.Order.{decodeDword, decodeTag}
-use Rattle.tags.specs.Meaning.{tagOf}
+use Rattle.tags.specs.Meaning.{tagOf, TagInside}
 use Rattle.walker.specs.declared.WalkStep.{WalkStep}
 
 pub data Walk : Type 0 where
@@ -41,6 +41,12 @@ abbrev pub walkMeaning : List ℕ → WalkStep → Walk
 walkMeaning s (WalkStep.Tag t next left) = tag (tagOf s t) next left
 walkMeaning s WalkStep.End = end
 walkMeaning s (WalkStep.Refused n) = refusal n
+
+-- They lie wholly inside the bytes.
+abbrev pub WalkStepInside : List ℕ → WalkStep → Type 0
+WalkStepInside s (WalkStep.Tag t next left) = TagInside s t
+WalkStepInside s WalkStep.End = Unit {0}
+WalkStepInside s (WalkStep.Refused n) = Unit {0}
 
 -- A whole walk from a place on: these tags, each from the place that the step before gave, and then the last step.
 pub data Walks (s : List ℕ) (last : Walk) : (at left : ℕ) → List Tag → Type 0 where

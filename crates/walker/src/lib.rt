@@ -16,7 +16,7 @@
 // All the work is done by `walk_at`, over plain bytes and numbers, which serves a caller that keeps the place by itself.
 // specs/Walk.antt says what the next tag is.
 ghost use mathlib.Core.Path.{_≡_};
-ghost use Rattle.walker.specs.Walk.{walkFrom, walkAt, walkMeaning};
+ghost use Rattle.walker.specs.Walk.{walkFrom, walkAt, walkMeaning, WalkStepInside};
 use tags::Tag;
 use tags::TagStep;
 use tags::read_tag;
@@ -41,7 +41,7 @@ pub enum WalkStep {
 
 // The tag at a place behind the count.
 fn walk_from(s: &[u8], at: usize, left: u32) -> WalkStep
-    ensures { λ r. ⌜ walkMeaning (now (s .entry)) r ≡ walkFrom (now (s .entry)) at left ⌝ }
+    ensures { λ r. ⌜ (walkMeaning (now (s .entry)) r ≡ walkFrom (now (s .entry)) at left) × WalkStepInside (now (s .entry)) r ⌝ }
 {
     if left == 0 {
         if at < s.len() {
@@ -61,7 +61,7 @@ fn walk_from(s: &[u8], at: usize, left: u32) -> WalkStep
 
 // The tag at any place of a tag list.
 pub fn walk_at(s: &[u8], at: usize, left: u32) -> WalkStep
-    ensures { λ r. ⌜ walkMeaning (now (s .entry)) r ≡ walkAt (now (s .entry)) at left ⌝ }
+    ensures { λ r. ⌜ (walkMeaning (now (s .entry)) r ≡ walkAt (now (s .entry)) at left) × WalkStepInside (now (s .entry)) r ⌝ }
 {
     if at == 0 {
         let d = Cursor { at: 0 }.dword(s);
@@ -88,7 +88,8 @@ pub fn new<'a>(tags: &'a [u8]) -> TagWalker<'a>
 
 // The tag at the walker's place.
 pub fn next<'a>(w: TagWalker<'a>) -> WalkStep
-    ensures { λ r. ⌜ walkMeaning (now (w .entry .tags)) r ≡ walkAt (now (w .entry .tags)) (w .entry .at) (w .entry .left) ⌝ }
+    ensures { λ r. ⌜ (walkMeaning (now (w .entry .tags)) r ≡ walkAt (now (w .entry .tags)) (w .entry .at) (w .entry .left))
+        × WalkStepInside (now (w .entry .tags)) r ⌝ }
 {
     walk_at(w.tags, w.at, w.left)
 }

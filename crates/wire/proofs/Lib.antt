@@ -1,3 +1,4 @@
 pub mod Parts
+pub mod Inside
 pub mod Replies
 pub mod Loops

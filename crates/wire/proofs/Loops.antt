@@ -40,8 +40,8 @@ module _ {A : Type 0} (d : Decoder A) (s : List ℕ) (first n : ℕ) where
     refuses h inv read = (loop-stop d s _ n i at h (inv .1) read, tt)
 
     pub finishes : n ≤ i → ReadUpTo d s first n i at
-        → (got (itemsOf (decodeMany n d s first)) at ≡ decodeMany n d s first) × (ends (decodeMany n d s first) ≡ got tt at)
-    finishes h inv = (loop-done d s _ n i at h (inv .1), loop-ends d s _ n i at h (inv .1))
+        → (got (itemsOf (decodeMany n d s first)) at ≡ decodeMany n d s first) × ((ends (decodeMany n d s first) ≡ got tt at) × (at ≡ at))
+    finishes h inv = (loop-done d s _ n i at h (inv .1), (loop-ends d s _ n i at h (inv .1), refl))
 
     -- A step that goes over an item and keeps none of its values.
     pub goes-over : {next : ℕ} → i < n → ReadUpTo d s first n i at → got tt next ≡ ends (d s at) → ReadUpTo d s first n (i + 1) next
@@ -62,8 +62,8 @@ module _ {A : Type 0} (d : Decoder A) (k : ℕ) (item : (s : List ℕ) (at : ℕ
       many-step d s n at (first .1) ∙ rest ∙ ap (got tt) (omega (arith, size))
 
   pub even-list : (n at : ℕ) → at + k * n ≤ length s →
-      (got (itemsOf (decodeMany n d s at)) (at + k * n) ≡ decodeMany n d s at) × (ends (decodeMany n d s at) ≡ got tt (at + k * n))
-  even-list n at h = let e = even-ends n at h in (ends-items (decodeMany n d s at) (at + k * n) e, e)
+      (got (itemsOf (decodeMany n d s at)) (at + k * n) ≡ decodeMany n d s at) × ((ends (decodeMany n d s at) ≡ got tt (at + k * n)) × (at + k * n ≡ at + k * n))
+  even-list n at h = let e = even-ends n at h in (ends-items (decodeMany n d s at) (at + k * n) e, (e, refl))
 
 -- A run, and a hash, is such an item.
 pub run-item : (k : ℕ) (s : List ℕ) (at : ℕ) → at + k ≤ length s → (l : List ℕ) × (got l (at + k) ≡ decodeRun k s at)

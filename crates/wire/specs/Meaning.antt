@@ -1,7 +1,8 @@
 -- What each answer of the code stands for, as an outcome of the format's decoding.
-use Prim.Native.Nat.{ℕ}
+use Prim.Native.Nat.{ℕ, _+_, _≤_}
 use mathlib.Core.Path.{_≡_}
 use mathlib.Core.List.{List}
+use lib.ListN.{length}
 use Rattle.format.specs.Decoding as decoding
 use Rattle.format.specs.Decoding.{Outcome, refused, got, bytesAt, Decoder, decodeMany, itemsOf, ends}
 use Rattle.wire.specs.declared.Rule.{Rule}
@@ -62,6 +63,21 @@ abbrev pub placeMeaning : List ℕ → PlaceStep → Outcome (List ℕ)
 placeMeaning s (PlaceStep.Got p c) = got (placeBytes s p) (c .at)
 placeMeaning s (PlaceStep.Refused f) = refused (faultMeaning f)
 
+-- Since bytes past the end are left out of what a place stands for, a place with a made-up length would pass. So contracts also say that it
+-- lies wholly inside the bytes: no byte that it counts is missing, and an empty one is no further on than their end.
+abbrev pub Inside : List ℕ → (at len : ℕ) → Type 0
+Inside s at len = at + len ≤ length s
+
+abbrev pub HashInside : List ℕ → ℕ → Type 0
+HashInside s at = Inside s at 16
+
+abbrev pub PlaceInside : List ℕ → Place → Type 0
+PlaceInside s p = Inside s (p .at) (p .len)
+
+abbrev pub PlaceStepInside : List ℕ → PlaceStep → Type 0
+PlaceStepInside s (PlaceStep.Got p c) = PlaceInside s p
+PlaceStepInside s (PlaceStep.Refused f) = Unit {0}
+
 -- The place of a list stands for the items that a decoder finds there. Since a place with no such items would then pass for the
 -- empty list, contracts also say that the items lie there, up to the list's end.
 abbrev pub itemsIn : {A : Type 0} → Decoder A → List ℕ → Items → List A
@@ -75,8 +91,16 @@ itemsMeaning d s (ItemsStep.Got l c) = got (itemsIn d s l) (c .at)
 itemsMeaning d s (ItemsStep.Refused f) = refused (faultMeaning f)
 
 abbrev pub ItemsStepPlaced : {A : Type 0} → Decoder A → List ℕ → ItemsStep → Type 0
-ItemsStepPlaced d s (ItemsStep.Got l c) = ItemsPlaced d s l
+ItemsStepPlaced d s (ItemsStep.Got l c) = ItemsPlaced d s l × (l .end ≡ c .at)
 ItemsStepPlaced d s (ItemsStep.Refused f) = Unit {0}
+
+-- The list lies wholly inside the bytes; so does the place of an empty one.
+abbrev pub ItemsInside : {A : Type 0} → Decoder A → List ℕ → Items → Type 0
+ItemsInside d s l = ItemsPlaced d s l × (l .end ≤ length s)
+
+abbrev pub ItemsStepInside : {A : Type 0} → Decoder A → List ℕ → ItemsStep → Type 0
+ItemsStepInside d s (ItemsStep.Got l c) = ItemsInside d s l
+ItemsStepInside d s (ItemsStep.Refused f) = Unit {0}
 
 abbrev pub doneMeaning : DoneStep → Outcome (Unit {0})
 doneMeaning (DoneStep.Got c) = got tt (c .at)

@@ -17,7 +17,7 @@ ghost use Prim.Native.Nat.{_+_, _*_};
 ghost use Rattle.format.specs.Decoding as decoding;
 ghost use Rattle.format.specs.Decoding.{bytesAt, decodeRun};
 ghost use Rattle.format.specs.Order.{decodeByte, decodeWord, decodeDword, decodeHash, decodeString, decodeName, decodeFixed};
-ghost use Rattle.wire.specs.Meaning.{ruleMeaning, byteMeaning, wordMeaning, dwordMeaning, hashMeaning, placeMeaning, doneMeaning};
+ghost use Rattle.wire.specs.Meaning.{ruleMeaning, byteMeaning, wordMeaning, dwordMeaning, hashMeaning, placeMeaning, PlaceStepInside, doneMeaning};
 ghost use Rattle.wire.specs.Meaning.{noFault, byteFault, wordFault, dwordFault, hashFault, placeFault, itemsFault, doneFault};
 
 // The rules that bytes can break. Where the papers give one number to several rules, they are told apart here.
@@ -321,6 +321,7 @@ impl Cursor {
     // A run of n bytes.
     pub fn run(self, s: &[u8], n: usize) -> PlaceStep
         ensures { λ r. ⌜ placeMeaning (now (s .entry)) r ≡ decodeRun n (now (s .entry)) (self .at) ⌝ }
+        ensures inside { λ r. ⌜ PlaceStepInside (now (s .entry)) r ⌝ }
     {
         let at = self.at;
         if s.len() < n {
@@ -344,6 +345,7 @@ impl Cursor {
     // A WORD and that many bytes.
     pub fn string(self, s: &[u8]) -> PlaceStep
         ensures { λ r. ⌜ placeMeaning (now (s .entry)) r ≡ decodeString (now (s .entry)) (self .at) ⌝ }
+        ensures inside { λ r. ⌜ PlaceStepInside (now (s .entry)) r ⌝ }
     {
         let w = self.word(s);
         let WordStep::Got(n, next) = w else {
@@ -355,6 +357,7 @@ impl Cursor {
     // A name is a String of 1 to 255 bytes. Its length is checked before its bytes are looked at.
     pub fn name(self, s: &[u8]) -> PlaceStep
         ensures { λ r. ⌜ placeMeaning (now (s .entry)) r ≡ decodeName (now (s .entry)) (self .at) ⌝ }
+        ensures inside { λ r. ⌜ PlaceStepInside (now (s .entry)) r ⌝ }
     {
         let w = self.word(s);
         let WordStep::Got(n, next) = w else {

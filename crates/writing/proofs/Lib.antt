@@ -1,7 +1,9 @@
 pub mod There
+pub mod Back
 pub mod Laws
 pub mod Writes
 pub mod Pieces
 pub mod Leaves
 pub mod Joins
 pub mod TagPieces
+pub mod ReadBack

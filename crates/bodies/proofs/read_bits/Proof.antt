@@ -1,6 +1,6 @@
 use Prim.Native.Nat.{_+_, _/_}
 use native.Mathlib.Omega.{arith}
-use Rattle.bodies.proofs.StatusBits.{missing-bytes, bytes-there, all-used, unused-clear, unused-set}
+use Rattle.bodies.proofs.StatusBits.{bits-inside, missing-bytes, bytes-there, all-used, unused-clear, unused-set}
 use borrow.Author.Needs.{needs}
 use Rattle.bodies.proofs.read_bits.Statement.{statement}
 use Rattle.bodies.proofs.read_bits.Tie as tie
@@ -23,22 +23,24 @@ fault-requires c κs = search needs
 returns : tie.Need-returns
 returns c =
     let told = c .before .enum-told .given .1 in
-    rw (c .fault .ensures, told) (missing-bytes _ _ _ (rw told at (c .before .before .before .run .ensures)))
+    rw (c .fault .ensures, told) (missing-bytes _ _ _ (rw told at (c .before .before .before .run .ensures .0)), tt)
 
 returns-2 : tie.Need-returns-2
 returns-2 c =
     let p = c .before .before in
-    all-used _ _ _ (rw (p .p .given .1) at (p .before .before .run .ensures)) (c .if1 .taken)
+    let read = rw (p .p .given .1) at (p .before .before .run .ensures .0) in
+    let held = all-used _ _ _ read (c .if1 .taken) in
+    (held, bits-inside _ _ _ read held)
 
 add-last : tie.Need-add-last
 add-last c =
     let p = c .before .before .before in
-    omega (arith, bytes-there _ _ _ (rw (p .p .given .1) at (p .before .before .run .ensures)))
+    omega (arith, bytes-there _ _ _ (rw (p .p .given .1) at (p .before .before .run .ensures .0)))
 
 shared-slice-read-byte : tie.Need-shared-slice-read-byte
 shared-slice-read-byte c =
     let p = c .before .before .before .before in
-    omega (arith, bytes-there _ _ _ (rw (p .p .given .1) at (p .before .before .run .ensures)))
+    omega (arith, bytes-there _ _ _ (rw (p .p .given .1) at (p .before .before .run .ensures .0)))
 
 cast-if2 : tie.Need-cast-if2
 cast-if2 c =
@@ -51,14 +53,15 @@ power-requires c κs = search needs
 returns-3 : tie.Need-returns-3
 returns-3 c =
     let p = c .before .before .before .before .before .before in
-    let read = rw (p .p .given .1) at (p .before .before .run .ensures) in
-    unused-clear _ _ _ read (c .before .before .before .before .if1 .left) (rw (c .before .power .ensures) at (c .if2 .taken))
+    let read = rw (p .p .given .1) at (p .before .before .run .ensures .0) in
+    let held = unused-clear _ _ _ read (c .before .before .before .before .if1 .left) (rw (c .before .power .ensures) at (c .if2 .taken)) in
+    (held, bits-inside _ _ _ read held)
 
 returns-4 : tie.Need-returns-4
 returns-4 c =
     let p = c .before .before .before .before .before .before in
-    let read = rw (p .p .given .1) at (p .before .before .run .ensures) in
-    unused-set _ _ _ read (c .before .before .before .before .if1 .left) (rw (c .before .power .ensures) at (c .if2 .left))
+    let read = rw (p .p .given .1) at (p .before .before .run .ensures .0) in
+    (unused-set _ _ _ read (c .before .before .before .before .if1 .left) (rw (c .before .power .ensures) at (c .if2 .left)), tt)
 
 pub read-bits-spec : {M : Type 1} → statement M
 read-bits-spec =

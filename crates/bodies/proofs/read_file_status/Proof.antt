@@ -1,5 +1,6 @@
 use mathlib.Core.Path.{refl}
 use Rattle.format.specs.PacketOrder.{decodeBody, decodeFileStatus}
+use Rattle.wire.proofs.Inside.{hash-inside}
 use borrow.Author.Needs.{needs}
 use Rattle.bodies.proofs.read_file_status.Statement.{statement}
 use Rattle.bodies.proofs.read_file_status.Tie as tie
@@ -68,7 +69,7 @@ returns-3 c =
       h .h .given .1,
       ← w .before .before .word .ensures,
       w .w .given .1,
-      ← c .before .before .before .read-bits .ensures,
+      ← c .before .before .before .read-bits .ensures .0,
       c .before .enum-told3 .given .1,
     )
     (refl, tt)
@@ -84,10 +85,10 @@ returns-4 c =
       h .h .given .1,
       ← w .before .before .word .ensures,
       w .w .given .1,
-      ← b .before .before .read-bits .ensures,
+      ← b .before .before .read-bits .ensures .0,
       b .b .given .1,
     )
-    (refl, tt)
+    (refl, (hash-inside _ _ _ (rw (h .h .given .1) at (h .before .before .hash .ensures)), rw (b .b .given .1) at (b .before .before .read-bits .ensures .1)))
 
 pub read-file-status-spec : {M : Type 1} → statement M
 read-file-status-spec =

@@ -1,5 +1,6 @@
 use mathlib.Core.Path.{refl}
 use Rattle.format.specs.PacketOrder.{decodeBody}
+use Rattle.wire.proofs.Inside.{hash-inside}
 use borrow.Author.Needs.{needs}
 use Rattle.bodies.proofs.read_hash_address_tags.Statement.{statement}
 use Rattle.bodies.proofs.read_hash_address_tags.Tie as tie
@@ -87,7 +88,7 @@ returns-4 c =
       ← t .before .before .read-tags .ensures .0,
       t .t .given .1,
     )
-    (refl, rw (t .t .given .1) at (t .before .before .read-tags .ensures .1))
+    (refl, (hash-inside _ _ _ (rw (h .h .given .1) at (h .before .before .hash .ensures)), rw (t .t .given .1) at (t .before .before .read-tags .ensures .1)))
 
 pub read-hash-address-tags-spec : {M : Type 1} → statement M
 read-hash-address-tags-spec =

@@ -1,5 +1,6 @@
 use mathlib.Core.Path.{refl}
 use Rattle.format.specs.PacketOrder.{decodeBody}
+use Rattle.wire.proofs.Inside.{hash-inside}
 use borrow.Author.Needs.{needs}
 use Rattle.bodies.proofs.read_hash_addresses.Statement.{statement}
 use Rattle.bodies.proofs.read_hash_addresses.Tie as tie
@@ -56,7 +57,7 @@ returns-3 c =
       ← l .before .before .read-addresses .ensures .0,
       l .l .given .1,
     )
-    (refl, rw (l .l .given .1) at (l .before .before .read-addresses .ensures .1))
+    (refl, (hash-inside _ _ _ (rw (h .h .given .1) at (h .before .before .hash .ensures)), rw (l .l .given .1) at (l .before .before .read-addresses .ensures .1)))
 
 pub read-hash-addresses-spec : {M : Type 1} → statement M
 read-hash-addresses-spec =

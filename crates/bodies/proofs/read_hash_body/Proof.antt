@@ -1,5 +1,6 @@
 use mathlib.Core.Path.{refl}
 use Rattle.format.specs.PacketOrder.{decodeBody}
+use Rattle.wire.proofs.Inside.{hash-inside}
 use borrow.Author.Needs.{needs}
 use Rattle.bodies.proofs.read_hash_body.Statement.{statement}
 use Rattle.bodies.proofs.read_hash_body.Tie as tie
@@ -22,7 +23,8 @@ returns c = rw (c .fault .ensures, ← c .before .before .before .hash .ensures,
 
 returns-2 : tie.Need-returns-2
 unfolding decodeBody
-returns-2 c = rw (← c .before .before .before .hash .ensures, c .before .h .given .1) (refl, tt)
+returns-2 c = rw (← c .before .before .before .hash .ensures, c .before .h .given .1)
+    (refl, hash-inside _ _ _ (rw (c .before .h .given .1) at (c .before .before .before .hash .ensures)))
 
 pub read-hash-body-spec : {M : Type 1} → statement M
 read-hash-body-spec =

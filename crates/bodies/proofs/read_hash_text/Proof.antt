@@ -1,5 +1,6 @@
 use mathlib.Core.Path.{refl}
 use Rattle.format.specs.PacketOrder.{decodeBody}
+use Rattle.wire.proofs.Inside.{hash-inside}
 use borrow.Author.Needs.{needs}
 use Rattle.bodies.proofs.read_hash_text.Statement.{statement}
 use Rattle.bodies.proofs.read_hash_text.Tie as tie
@@ -40,7 +41,7 @@ returns-2 c =
       c .fault2 .ensures,
       ← h .before .before .hash .ensures,
       h .h .given .1,
-      ← c .before .before .before .string .ensures,
+      ← c .before .before .before .string .ensures .0,
       c .before .enum-told2 .given .1,
     )
     (refl, tt)
@@ -50,7 +51,8 @@ unfolding decodeBody
 returns-3 c =
     let t = c .before in
     let h = t .before .before .before .before in
-    rw (← h .before .before .hash .ensures, h .h .given .1, ← t .before .before .string .ensures, t .t .given .1) (refl, tt)
+    rw (← h .before .before .hash .ensures, h .h .given .1, ← t .before .before .string .ensures .0, t .t .given .1)
+    (refl, (hash-inside _ _ _ (rw (h .h .given .1) at (h .before .before .hash .ensures)), rw (t .t .given .1) at (t .before .before .string .ensures .1)))
 
 pub read-hash-text-spec : {M : Type 1} → statement M
 read-hash-text-spec =

@@ -1,5 +1,6 @@
 use mathlib.Core.Path.{refl}
 use Rattle.format.specs.PacketOrder.{decodeBody}
+use Rattle.wire.proofs.Inside.{hash-inside}
 use borrow.Author.Needs.{needs}
 use Rattle.bodies.proofs.read_hashset.Statement.{statement}
 use Rattle.bodies.proofs.read_hashset.Tie as tie
@@ -56,7 +57,7 @@ returns-3 c =
       ← l .before .before .read-hashes .ensures .0,
       l .l .given .1,
     )
-    (refl, rw (l .l .given .1) at (l .before .before .read-hashes .ensures .1))
+    (refl, (hash-inside _ _ _ (rw (h .h .given .1) at (h .before .before .hash .ensures)), rw (l .l .given .1) at (l .before .before .read-hashes .ensures .1)))
 
 pub read-hashset-spec : {M : Type 1} → statement M
 read-hashset-spec =

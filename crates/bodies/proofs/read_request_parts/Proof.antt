@@ -1,5 +1,6 @@
 use mathlib.Core.Path.{refl}
 use Rattle.format.specs.PacketOrder.{decodeBody, decodeRequestParts}
+use Rattle.wire.proofs.Inside.{hash-inside}
 use borrow.Author.Needs.{needs}
 use Rattle.bodies.proofs.read_request_parts.Statement.{statement}
 use Rattle.bodies.proofs.read_request_parts.Tie as tie
@@ -50,7 +51,8 @@ unfolding decodeBody decodeRequestParts
 returns-3 c =
     let r = c .before in
     let h = r .before .before .before .before in
-    rw (← h .before .before .hash .ensures, h .h .given .1, ← r .before .before .read-ranges .ensures, r .r .given .1) (refl, tt)
+    rw (← h .before .before .hash .ensures, h .h .given .1, ← r .before .before .read-ranges .ensures, r .r .given .1)
+    (refl, hash-inside _ _ _ (rw (h .h .given .1) at (h .before .before .hash .ensures)))
 
 pub read-request-parts-spec : {M : Type 1} → statement M
 read-request-parts-spec =

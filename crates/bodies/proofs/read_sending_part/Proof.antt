@@ -1,7 +1,8 @@
 use mathlib.Core.Path.{refl}
 use Rattle.format.specs.PacketOrder.{decodeBody, decodeSendingPart}
 use Rattle.format.specs.Decoding.{decodeTail}
-use Rattle.bodies.proofs.Data.{to-the-end}
+use Rattle.bodies.proofs.Data.{data-inside, to-the-end}
+use Rattle.wire.proofs.Inside.{hash-inside}
 use borrow.Author.Needs.{needs}
 use Rattle.bodies.proofs.read_sending_part.Statement.{statement}
 use Rattle.bodies.proofs.read_sending_part.Tie as tie
@@ -63,7 +64,7 @@ returns-3 c =
       c .remaining .ensures,
       to-the-end,
     )
-    (refl, tt)
+    (refl, (hash-inside _ _ _ (rw (h .h .given .1) at (h .before .before .hash .ensures)), data-inside _ _ (rw (r .r .given .1) at (r .before .before .read-range .ensures))))
 
 pub read-sending-part-spec : {M : Type 1} → statement M
 read-sending-part-spec =

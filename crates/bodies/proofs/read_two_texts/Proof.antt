@@ -18,7 +18,7 @@ fault-requires c κs = search needs
 
 returns : tie.Need-returns
 unfolding decodeBody
-returns c = rw (c .fault .ensures, ← c .before .before .before .string .ensures, c .before .enum-told .given .1) (refl, tt)
+returns c = rw (c .fault .ensures, ← c .before .before .before .string .ensures .0, c .before .enum-told .given .1) (refl, tt)
 
 string-requires-2 : tie.Need-string-requires-2
 string-requires-2 c κs = search needs
@@ -38,9 +38,9 @@ returns-2 c =
     let a = c .before .before .before .before .before in
     rw (
       c .fault2 .ensures,
-      ← a .before .before .string .ensures,
+      ← a .before .before .string .ensures .0,
       a .a .given .1,
-      ← c .before .before .before .string2 .ensures,
+      ← c .before .before .before .string2 .ensures .0,
       c .before .enum-told2 .given .1,
     )
     (refl, tt)
@@ -50,7 +50,8 @@ unfolding decodeBody
 returns-3 c =
     let b = c .before in
     let a = b .before .before .before .before in
-    rw (← a .before .before .string .ensures, a .a .given .1, ← b .before .before .string2 .ensures, b .b .given .1) (refl, tt)
+    rw (← a .before .before .string .ensures .0, a .a .given .1, ← b .before .before .string2 .ensures .0, b .b .given .1)
+    (refl, (rw (a .a .given .1) at (a .before .before .string .ensures .1), rw (b .b .given .1) at (b .before .before .string2 .ensures .1)))
 
 pub read-two-texts-spec : {M : Type 1} → statement M
 read-two-texts-spec =

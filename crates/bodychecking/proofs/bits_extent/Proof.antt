@@ -25,13 +25,13 @@ number-requires c κs = search needs
 returns : tie.Need-returns
 returns c =
     let told = c .before .before .enum-told2 .given .1 in
-    rw (c .number .ensures, c .before .fault .ensures, told) (absent-extends _ (rw told at (c .before .before .before .before .read-bits .ensures)))
+    rw (c .number .ensures, c .before .fault .ensures, told) (absent-extends _ (rw told at (c .before .before .before .before .read-bits .ensures .0)))
 
 add-size : tie.Need-add-size
 add-size c = search needs
 
 returns-2 : tie.Need-returns-2
-returns-2 c = plain-extends _ (is-there (got-ends (rw (c .enum-told .given .1) at (c .before .before .read-bits .ensures)))) (omega arith) refl (omega arith)
+returns-2 c = plain-extends _ (is-there (got-ends (rw (c .enum-told .given .1) at (c .before .before .read-bits .ensures .0)))) (omega arith) refl (omega arith)
 
 pub bits-extent-spec : {M : Type 1} → statement M
 bits-extent-spec =

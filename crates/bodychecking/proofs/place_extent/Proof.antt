@@ -24,10 +24,10 @@ number-requires c κs = search needs
 returns : tie.Need-returns
 returns c =
     let told = c .before .before .enum-told2 .given .1 in
-    rw (c .number .ensures, c .before .fault .ensures, told) (absent-extends _ (rw told at (c .before .before .before .before .run .ensures)))
+    rw (c .number .ensures, c .before .fault .ensures, told) (absent-extends _ (rw told at (c .before .before .before .before .run .ensures .0)))
 
 returns-2 : tie.Need-returns-2
-returns-2 c = place-extends _ _ (is-there (got-ends (rw (c .enum-told .given .1) at (c .before .before .run .ensures)))) (omega (arith, c .before .before .before .before .good .0 .1))
+returns-2 c = place-extends _ _ (is-there (got-ends (rw (c .enum-told .given .1) at (c .before .before .run .ensures .0)))) (omega (arith, c .before .before .before .before .good .0 .1))
 
 pub place-extent-spec : {M : Type 1} → statement M
 place-extent-spec =

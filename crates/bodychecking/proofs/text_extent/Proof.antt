@@ -23,16 +23,16 @@ number-requires c κs = search needs
 returns : tie.Need-returns
 returns c =
     let told = c .before .before .enum-told2 .given .1 in
-    rw (c .number .ensures, c .before .fault .ensures, told) (absent-extends _ (rw told at (c .before .before .before .before .run .ensures)))
+    rw (c .number .ensures, c .before .fault .ensures, told) (absent-extends _ (rw told at (c .before .before .before .before .run .ensures .0)))
 
 returns-2 : tie.Need-returns-2
-returns-2 c = text-long _ _ (is-there (got-ends (rw (c .before .enum-told .given .1) at (c .before .before .before .run .ensures)))) (c .if1 .taken)
+returns-2 c = text-long _ _ (is-there (got-ends (rw (c .before .enum-told .given .1) at (c .before .before .before .run .ensures .0)))) (c .if1 .taken)
 
 add-t9 : tie.Need-add-t9
 add-t9 c = search needs
 
 returns-3 : tie.Need-returns-3
-returns-3 c = text-extends _ _ (is-there (got-ends (rw (c .before .enum-told .given .1) at (c .before .before .before .run .ensures)))) (c .if1 .left)
+returns-3 c = text-extends _ _ (is-there (got-ends (rw (c .before .enum-told .given .1) at (c .before .before .before .run .ensures .0)))) (c .if1 .left)
 
 pub text-extent-spec : {M : Type 1} → statement M
 text-extent-spec =

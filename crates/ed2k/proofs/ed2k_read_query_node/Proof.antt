@@ -23,7 +23,7 @@ number-requires c κs = search needs
 returns : tie.Need-returns
 returns c =
     let a = c .before .before .before .before .read-node in
-    (a .result, a .ensures, rw (c .number .ensures, c .before .fault .ensures, c .before .before .enum-told .given .1) refl)
+    (a .result, a .ensures .0, a .ensures .1, rw (c .number .ensures, c .before .fault .ensures, c .before .before .enum-told .given .1) refl)
 
 node-fields-requires : tie.Need-node-fields-requires
 node-fields-requires c κs = search needs
@@ -42,7 +42,7 @@ returns-2 c =
     let a = c .before .before .before .before .before .before .before .before .before .read-node in
     let old = now (c .before .before .before .before .before .before .before .before .before .before .before .before .args .fields) in
     let out = c .before .before .hand-out .ensures ∙ ap (λ l. handedOut l old) (c .before .before .before .before .before .node-fields .ensures) in
-    (a .result, a .ensures, rw (c .before .before .before .before .before .before .before .n .given .1) out)
+    (a .result, a .ensures .0, a .ensures .1, rw (c .before .before .before .before .before .before .before .n .given .1) out)
 
 pub ed2k-read-query-node-spec : {M : Type 1} → statement M
 ed2k-read-query-node-spec =

@@ -29,7 +29,7 @@ fault-requires c κs = search needs
 returns : tie.Need-returns Inv-loop μ-loop
 returns c =
     let told = c .before .enum-told .given .1 in
-    let read = rw told at (c .before .before .before .run .ensures) in
+    let read = rw told at (c .before .before .before .run .ensures .0) in
     let l = c .before .before .before .before in
     rw (c .fault .ensures, told) (refuses (decodeRun 8) _ _ _ _ _ (l .loop-test .taken) (l .before .loop .inv) read)
 
@@ -41,7 +41,7 @@ loop-less c = search needs
 
 loop-again : tie.Need-loop-again Inv-loop μ-loop
 loop-again c =
-    let read = rw (c .before .h .given .1) at (c .before .before .before .run .ensures) in
+    let read = rw (c .before .h .given .1) at (c .before .before .before .run .ensures .0) in
     let l = c .before .before .before .before in
     goes-on (decodeRun 8) _ _ _ _ _ (l .loop-test .taken) (l .before .loop .inv) read
 

@@ -35,7 +35,7 @@ loop-again c =
     goes-over decodeFileEntry _ _ _ _ _ (l .loop-test .taken) (l .before .loop .inv) read
 
 returns-2 : tie.Need-returns-2 Inv-loop μ-loop
-returns-2 c = inr (finishes decodeFileEntry _ _ _ _ _ (c .loop-test .left) (c .before .loop .inv) .1)
+returns-2 c = inr (finishes decodeFileEntry _ _ _ _ _ (c .loop-test .left) (c .before .loop .inv) .1 .0)
 
 pub file-entries-end-spec : {M : Type 1} → statement M
 file-entries-end-spec =

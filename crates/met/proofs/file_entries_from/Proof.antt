@@ -1,3 +1,4 @@
+use mathlib.Core.Path.{refl}
 use mathlib.Core.Logic.{⊎-elim}
 use denote.Ref.{now}
 use Rattle.format.specs.Decoding.{decodeMany}
@@ -20,7 +21,7 @@ returns-2 : tie.Need-returns-2
 returns-2 c =
     let a = c .before .before .before .args in
     let end = ⊎-elim (λ z. absurd (c .if1 .left z)) (λ e. e) (c .before .file-entries-end .ensures) in
-    (ends-items (decodeMany (a .n) decodeFileEntry (now (a .s)) (a .first .at)) _ end, end)
+    (ends-items (decodeMany (a .n) decodeFileEntry (now (a .s)) (a .first .at)) _ end, (end, refl))
 
 pub file-entries-from-spec : {M : Type 1} → statement M
 file-entries-from-spec = tie.close (tie.spec file-entries-end-requires entry-by-entry-requires returns returns-2)

@@ -1,5 +1,9 @@
 use mathlib.Core.Path.{refl}
 use Rattle.format.specs.MetOrder.{decodeHashBlocks}
+use denote.Ref.{now}
+use Rattle.format.proofs.Items.{codec-hash}
+use Rattle.wire.proofs.Inside.{items-inside}
+use Rattle.met.proofs.Inside.{mark-inside}
 use borrow.Author.Needs.{needs}
 use Rattle.met.proofs.read_blocks.Statement.{statement}
 use Rattle.met.proofs.read_blocks.Tie as tie
@@ -66,7 +70,13 @@ returns-3 c =
     )
 
 read-second-block-requires : tie.Need-read-second-block-requires
-read-second-block-requires c κs = rw (c .before .p .given .1) at (c .before .before .before .hashes-from .ensures .1)
+read-second-block-requires c κs =
+    let p = c .before .before .before in
+    let m = p .before .before .before .before .before in
+    let marked = mark-inside _ _ (rw (m .m .given .1) at (m .before .before .read-mark .ensures)) in
+    let list = p .hashes-from in
+    rw (c .before .p .given .1) at
+    (items-inside codec-hash (now (m .before .before .before .before .args .s)) (m .before .before .before .shared-slice-known .given) (list .result) (p .before .part-count .result) _ marked (list .ensures .0) (list .ensures .1))
 
 returns-4 : tie.Need-returns-4
 unfolding decodeHashBlocks

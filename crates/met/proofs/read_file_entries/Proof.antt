@@ -1,5 +1,9 @@
-use mathlib.Core.Path.{refl}
+use mathlib.Core.Path.{refl, sym}
+use denote.Ref.{now}
 use Rattle.format.specs.Order.{decodeCounted}
+use Rattle.format.proofs.There.{dword-ends}
+use Rattle.format.proofs.MetFiles.{codec-entry}
+use Rattle.wire.proofs.Inside.{counted-inside}
 use borrow.Author.Needs.{needs}
 use Rattle.met.proofs.read_file_entries.Statement.{statement}
 use Rattle.met.proofs.read_file_entries.Tie as tie
@@ -27,7 +31,10 @@ returns-2 : tie.Need-returns-2
 unfolding decodeCounted
 returns-2 c =
     let d = c .before .before in
-    (rw (← d .before .before .dword .ensures, d .d .given .1) (c .file-entries-from .ensures .0), c .file-entries-from .ensures .1)
+    let b = d .before .before in
+    let count = dword-ends _ _ (sym (rw (d .d .given .1) at (b .dword .ensures))) in
+    rw (← b .dword .ensures, d .d .given .1)
+    (counted-inside codec-entry (now (b .before .before .args .s)) (b .before .shared-slice-known .given) (c .file-entries-from .result) (d .d .given .0 .0) _ _ _ count (c .file-entries-from .ensures))
 
 pub read-file-entries-spec : {M : Type 1} → statement M
 read-file-entries-spec =

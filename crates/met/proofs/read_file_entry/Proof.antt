@@ -1,5 +1,6 @@
 use mathlib.Core.Path.{refl}
 use Rattle.format.specs.MetOrder.{decodeFileEntry}
+use Rattle.wire.proofs.Inside.{hash-inside}
 use borrow.Author.Needs.{needs}
 use Rattle.met.proofs.read_file_entry.Statement.{statement}
 use Rattle.met.proofs.read_file_entry.Tie as tie
@@ -128,8 +129,11 @@ returns-5 c =
       )
           refl,
       (
-        rw (parts .p .given .1) at (parts .before .before .read-hashes .ensures .1),
-        rw (c .before .t .given .1) at (c .before .before .before .read-tags .ensures .1),
+        hash-inside _ _ _ (rw (hash .h .given .1) at (hash .before .before .hash .ensures)),
+        (
+          rw (parts .p .given .1) at (parts .before .before .read-hashes .ensures .1),
+          rw (c .before .t .given .1) at (c .before .before .before .read-tags .ensures .1),
+        ),
       ),
     )
 

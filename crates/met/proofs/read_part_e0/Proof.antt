@@ -1,5 +1,6 @@
 use mathlib.Core.Path.{refl}
 use Rattle.format.specs.MetOrder.{decodePartE0}
+use Rattle.wire.proofs.Inside.{hash-inside}
 use borrow.Author.Needs.{needs}
 use Rattle.met.proofs.read_part_e0.Statement.{statement}
 use Rattle.met.proofs.read_part_e0.Tie as tie
@@ -129,8 +130,11 @@ returns-5 c =
           refl,
       (
         (
-          rw (parts .p .given .1) at (parts .before .before .read-hashes .ensures .1),
-          rw (c .before .t .given .1) at (c .before .before .before .read-part-tags .ensures .1 .0),
+          hash-inside _ _ _ (rw (hash .h .given .1) at (hash .before .before .hash .ensures)),
+          (
+            rw (parts .p .given .1) at (parts .before .before .read-hashes .ensures .1),
+            rw (c .before .t .given .1) at (c .before .before .before .read-part-tags .ensures .1 .0),
+          ),
         ),
         rw (c .before .t .given .1) at (c .before .before .before .read-part-tags .ensures .1 .1),
       ),

@@ -1,5 +1,6 @@
 use mathlib.Core.Path.{refl}
 use Rattle.format.specs.MetOrder.{decodePartE1}
+use Rattle.wire.proofs.Inside.{hash-inside}
 use borrow.Author.Needs.{needs}
 use Rattle.met.proofs.read_part_e1.Statement.{statement}
 use Rattle.met.proofs.read_part_e1.Tie as tie
@@ -168,8 +169,11 @@ returns-6 c =
           refl,
       (
         (
-          rw (tags .t .given .1) at (tags .before .before .read-part-tags .ensures .1 .0),
-          rw (c .before .b .given .1) at (c .before .before .before .read-blocks .ensures .1),
+          hash-inside _ _ _ (rw (hash .h .given .1) at (hash .before .before .hash .ensures)),
+          (
+            rw (tags .t .given .1) at (tags .before .before .read-part-tags .ensures .1 .0),
+            rw (c .before .b .given .1) at (c .before .before .before .read-blocks .ensures .1),
+          ),
         ),
         rw (tags .t .given .1) at (tags .before .before .read-part-tags .ensures .1 .1),
       ),

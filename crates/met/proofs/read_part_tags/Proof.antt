@@ -21,7 +21,7 @@ unfolding decodePartTags
 returns c = (rw (c .fault .ensures, ← c .before .before .before .read-tags .ensures .0, c .before .enum-told .given .1) refl, (tt, tt))
 
 check-part-tags-requires : tie.Need-check-part-tags-requires
-check-part-tags-requires c κs = rw (c .before .t .given .1) at (c .before .before .before .read-tags .ensures .1)
+check-part-tags-requires c κs = rw (c .before .t .given .1) at (c .before .before .before .read-tags .ensures .1) .0
 
 enum-known-verdict : tie.Need-enum-known-verdict
 enum-known-verdict c = search needs

@@ -1,4 +1,8 @@
 use mathlib.Core.Path.{refl}
+use denote.Ref.{now}
+use Rattle.format.proofs.Codec.{anywhere, codec-run}
+use Rattle.wire.proofs.Inside.{items-inside}
+use Rattle.met.proofs.Inside.{mark-inside}
 use borrow.Author.Needs.{needs}
 use Rattle.met.proofs.read_second_block.Statement.{statement}
 use Rattle.met.proofs.read_second_block.Tie as tie
@@ -97,7 +101,11 @@ returns-5 : tie.Need-returns-5
 returns-5 c =
     let blocks = c .before .before .before .before .before in
     let more = blocks .before .before .before .before in
-    let m = more .before .before .before in (
+    let m = more .before .before .before in
+    let marked = mark-inside _ _ (rw (m .m .given .1) at (m .before .before .read-mark .ensures)) in
+    let list = blocks .before .before .block-hashes-from in
+    let a = m .before .before .before in
+    let inside = items-inside (codec-run {p = anywhere} 8) (now (a .before .args .s)) (a .shared-slice-known .given) (list .result) (blocks .before .before .before .block-count .result) _ marked (list .ensures .0) (list .ensures .1) in (
       rw (
         ← m .before .before .read-mark .ensures,
         m .m .given .1,
@@ -109,7 +117,7 @@ returns-5 c =
         c .before .z .given .1,
       )
           refl,
-      (m .before .before .before .before .pre, rw (blocks .b .given .1) at (blocks .before .before .block-hashes-from .ensures .1)),
+      (m .before .before .before .before .pre, rw (blocks .b .given .1) at inside),
     )
 
 pub read-second-block-spec : {M : Type 1} → statement M

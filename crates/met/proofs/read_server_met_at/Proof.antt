@@ -1,6 +1,8 @@
 use mathlib.Core.Path.{refl}
 use Rattle.format.specs.Decoding.{decodeTail}
 use Rattle.format.specs.MetOrder.{decodeServerMet}
+use denote.Ref.{now}
+use Rattle.met.proofs.Inside.{entries-inside}
 use borrow.Author.Needs.{needs}
 use Rattle.met.proofs.read_server_met_at.Statement.{statement}
 use Rattle.met.proofs.read_server_met_at.Tie as tie
@@ -49,7 +51,11 @@ returns-2 c =
     )
 
 tail-from-requires : tie.Need-tail-from-requires
-tail-from-requires c κs = search needs
+tail-from-requires c κs =
+    let l = c .before in
+    let b = l .before .before .before .before in
+    let a = b .before .before .before in
+    entries-inside (now (a .before .args .s)) (a .shared-slice-known .given) _ (rw (l .l .given .1) at (l .before .before .read-server-entries .ensures .0))
 
 returns-3 : tie.Need-returns-3
 unfolding decodeServerMet decodeTail
@@ -57,14 +63,14 @@ returns-3 c =
     let entries = c .before .before in
     let opening = entries .before .before .before .before in (
       rw (
-        c .tail-from .ensures,
+        c .tail-from .ensures .0,
         ← opening .before .before .read-opening .ensures,
         opening .b .given .1,
         ← entries .before .before .read-server-entries .ensures .0,
         entries .l .given .1,
       )
           refl,
-      rw (entries .l .given .1) at (entries .before .before .read-server-entries .ensures .1),
+      (rw (entries .l .given .1) at (entries .before .before .read-server-entries .ensures .1), c .tail-from .ensures .1),
     )
 
 pub read-server-met-at-spec : {M : Type 1} → statement M

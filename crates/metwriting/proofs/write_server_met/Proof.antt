@@ -62,7 +62,7 @@ returns-2 c =
     let a = b12 .before .before .args in
     let told = c .before .before .before .enum-told3 .given .1 in
     let read = rw (b8 .e .given .1) at (b8 .before .before .server-entries-length .ensures) in
-    let tail = rw told at (b4 .before .run .ensures) in
+    let tail = rw told at (b4 .before .run .ensures .0) in
     rw (c .refused2 .ensures, c .before .number2 .ensures, c .before .before .fault2 .ensures, told)
     (server-promises (now (a .src)) (b12 .before .shared-slice-known .given) (a .m) (missing _ (then-there read (run-missing tail))))
 
@@ -80,7 +80,7 @@ returns-3 c =
     let a = b12 .before .before .args in
     let known = b12 .before .shared-slice-known .given in
     let read = rw (b8 .e .given .1) at (b8 .before .before .server-entries-length .ensures) in
-    let tail = rw (c .before .before .before .enum-told2 .given .1) at (b4 .before .run .ensures) in
+    let tail = rw (c .before .before .before .enum-told2 .given .1) at (b4 .before .run .ensures .0) in
     let small = b12 .before .before .good in
     let ready = server-ready (now (a .src)) known (a .m) _ read tail (c .before .before .tailed-number .ensures) (omega (arith, small)) (omega (arith, small)) in
     rw (c .refused3 .ensures) (server-promises (now (a .src)) known (a .m) (faulty _ ready (c .before .if1 .taken)))
@@ -103,7 +103,7 @@ returns-4 c =
     let a = b16 .args in
     let known = b12 .before .before .before .shared-slice-known .given in
     let read = rw (b8 .before .before .e .given .1) at (b12 .server-entries-length .ensures) in
-    let tail = rw (b4 .before .enum-told2 .given .1) at (b4 .before .before .before .run .ensures) in
+    let tail = rw (b4 .before .enum-told2 .given .1) at (b4 .before .before .before .run .ensures .0) in
     let small = b16 .good in
     let ready = server-ready (now (a .src)) known (a .m) _ read tail (b4 .tailed-number .ensures) (omega (arith, small)) (omega (arith, small)) in
     rw (c .refused4 .ensures) (server-promises (now (a .src)) known (a .m) (roomless _ ready (c .before .before .before .if1 .left) (c .before .if2 .taken)))
@@ -122,7 +122,7 @@ put-server-met-requires c κs =
     let b16 = b12 .before .before .before .before in
     let a = b16 .before .before .args in
     let read = rw (b12 .e .given .1) at (b12 .before .before .server-entries-length .ensures) in
-    let tail = rw (b4 .before .before .before .enum-told2 .given .1) at (b8 .before .run .ensures) in
+    let tail = rw (b4 .before .before .before .enum-told2 .given .1) at (b8 .before .run .ensures .0) in
     let sizes = part-sizes (now (a .src)) (b16 .before .shared-slice-known .given) (a .m) _ read tail in
     rw (c .before .before .bytes-at .ensures, c .before .bytes-at2 .ensures, sizes .0, sizes .1) (c .before .before .before .if2 .left)
 
@@ -139,7 +139,7 @@ returns-5 c =
     let a = b20 .before .args in
     let known = b20 .shared-slice-known .given in
     let read = rw (b12 .before .before .before .e .given .1) at (b16 .before .server-entries-length .ensures) in
-    let tail = rw (b8 .before .before .enum-told2 .given .1) at (b12 .run .ensures) in
+    let tail = rw (b8 .before .before .enum-told2 .given .1) at (b12 .run .ensures .0) in
     let small = b20 .before .good in
     let ready = server-ready (now (a .src)) known (a .m) _ read tail (b8 .before .tailed-number .ensures) (omega (arith, small)) (omega (arith, small)) in
     let put = c .before .before .put-server-met .ensures in

@@ -35,7 +35,7 @@ enum-told c = search needs
 returns : tie.Need-returns Inv-loop μ-loop
 returns c =
     let l = c .before .before .before .before in
-    let read = rw (c .enum-told .given .1) at (c .before .before .read-tag .ensures) in
+    let read = rw (c .enum-told .given .1) at (c .before .before .read-tag .ensures .0) in
     absurd (rest-there decodeTag _ _ _ (l .before .before .pre) _ _ (c .before .before .before .loop-test .taken) (l .loop .inv .0) read)
 
 size-in-requires : tie.Need-size-in-requires Inv-loop μ-loop
@@ -54,7 +54,7 @@ loop-again : tie.Need-loop-again Inv-loop μ-loop
 loop-again c =
     let t = c .before .before .before in
     let l = t .before .before .before .before in
-    let read = rw (t .t .given .1) at (t .before .before .read-tag .ensures) in
+    let read = rw (t .t .given .1) at (t .before .before .read-tag .ensures .0) in
     let turn = next-turn decodeTag _ _ _ (l .before .before .pre) _ _ (t .before .before .before .loop-test .taken) (l .loop .inv .0) read in
     let later = sizes-next (l .loop .found) (c .before .size-in .result) _ _ (c .before .size-in .ensures) in
     (turn .reached, l .loop .inv .1 ∙ rw (turn .next, c .join .ensures) later)

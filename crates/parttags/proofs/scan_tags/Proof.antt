@@ -42,7 +42,7 @@ enum-told c = search needs
 returns : tie.Need-returns Inv-loop μ-loop
 returns c =
     let l = c .before .before .before .before in
-    let read = rw (c .enum-told .given .1) at (c .before .before .read-tag .ensures) in
+    let read = rw (c .enum-told .given .1) at (c .before .before .read-tag .ensures .0) in
     absurd (rest-there decodeTag _ _ _ (l .before .before .pre) _ _ (c .before .before .before .loop-test .taken) (l .loop .inv .0) read)
 
 role-of-requires : tie.Need-role-of-requires Inv-loop μ-loop
@@ -67,7 +67,7 @@ returns-2 c =
     let t = r .before .before in
     let l = t .before .before .before .before in
     let start = l .before .before in
-    let read = rw (t .t .given .1) at (t .before .before .read-tag .ensures) in
+    let read = rw (t .t .given .1) at (t .before .before .read-tag .ensures .0) in
     let turn = next-turn decodeTag _ _ _ (start .pre) _ _ (t .before .before .before .loop-test .taken) (l .loop .inv .0) read in
     let stop = scan-stop (now (start .args .s)) (start .args .size) (l .loop .pairs) (l .loop .pending)
     (r .role-of .result) _ (r .role-of .ensures) _ (a .step .result) (a .step .ensures .0) _ (c .before .verdict .given .1) in
@@ -86,7 +86,7 @@ loop-again c =
     let t = r .before .before in
     let l = t .before .before .before .before in
     let start = l .before .before in
-    let read = rw (t .t .given .1) at (t .before .before .read-tag .ensures) in
+    let read = rw (t .t .given .1) at (t .before .before .read-tag .ensures .0) in
     let turn = next-turn decodeTag _ _ _ (start .pre) _ _ (t .before .before .before .loop-test .taken) (l .loop .inv .0) read in
     let later = scan-next (now (start .args .s)) (start .args .size) (l .loop .pairs) (l .loop .pending)
     (r .role-of .result) _ (r .role-of .ensures) _ (a .step .result) (a .step .ensures .0) (c .enum-told2 .given .1) in
@@ -101,7 +101,7 @@ loop-again-2 c =
     let t = r .before .before in
     let l = t .before .before .before .before in
     let start = l .before .before in
-    let read = rw (t .t .given .1) at (t .before .before .read-tag .ensures) in
+    let read = rw (t .t .given .1) at (t .before .before .read-tag .ensures .0) in
     let turn = next-turn decodeTag _ _ _ (start .pre) _ _ (t .before .before .before .loop-test .taken) (l .loop .inv .0) read in
     let later = scan-skip (now (start .args .s)) (start .args .size) (l .loop .pairs) (l .loop .pending)
     (r .role-of .result) _ (r .role-of .ensures) _ (sym (c .before .is-skipped .ensures) ∙ not-false _ (c .if1 .left)) in

@@ -32,7 +32,7 @@ returns : tie.Need-returns Inv-loop μ-loop
 returns c =
     let l = c .before .before .before .before in
     let h = c .before .before .before .loop-test .taken in
-    let read = rw (c .enum-told .given .1) at (c .before .before .read-tag .ensures) in
+    let read = rw (c .enum-told .given .1) at (c .before .before .read-tag .ensures .0) in
     absurd (rest-there decodeTag _ _ _ (l .before .before .pre) _ _ h (l .loop .inv .reached) read)
 
 kept-bytes-requires : tie.Need-kept-bytes-requires Inv-loop μ-loop
@@ -42,7 +42,7 @@ kept-bytes-requires c κs =
     let a = l .before .before in
     let s = now (a .args .s) in
     let bytes = slice-bytes s (l .before .shared-slice-known .given) in
-    let read = rw (c .before .t .given .1) at (r .read-tag .ensures) in
+    let read = rw (c .before .t .given .1) at (r .read-tag .ensures .0) in
     omega (arith, tag-place s bytes (l .loop .next .at) read .0)
 
 add-bytes : tie.Need-add-bytes Inv-loop μ-loop
@@ -52,7 +52,7 @@ add-bytes c =
     let a = l .before .before in
     let s = now (a .args .s) in
     let bytes = slice-bytes s (l .before .shared-slice-known .given) in
-    let read = rw (c .before .before .t .given .1) at (r .read-tag .ensures) in
+    let read = rw (c .before .before .t .given .1) at (r .read-tag .ensures .0) in
     omega (arith, kept-within s bytes (l .loop .next .at) read (l .loop .bytes) _ (l .loop .inv .short) (c .kept-bytes .ensures))
 
 kept-count-requires : tie.Need-kept-count-requires Inv-loop μ-loop
@@ -65,7 +65,7 @@ add-count c =
     let a = l .before .before in
     let s = now (a .args .s) in
     let bytes = slice-bytes s (l .before .shared-slice-known .given) in
-    let read = rw (c .before .before .before .t .given .1) at (r .read-tag .ensures) in
+    let read = rw (c .before .before .before .t .given .1) at (r .read-tag .ensures .0) in
     let h = r .before .loop-test .taken in
     let kept = c .before .kept-bytes .ensures in
     let next = measured-next s _ _ bytes (a .pre) _ _ _ _ h (l .loop .inv) read _ kept _ (c .kept-count .ensures) in
@@ -84,7 +84,7 @@ loop-again c =
     let a = l .before .before in
     let s = now (a .args .s) in
     let bytes = slice-bytes s (l .before .shared-slice-known .given) in
-    let read = rw (c .before .before .before .t .given .1) at (r .read-tag .ensures) in
+    let read = rw (c .before .before .before .t .given .1) at (r .read-tag .ensures .0) in
     let h = r .before .loop-test .taken in
     let kept = c .before .kept-bytes .ensures in
     measured-next s _ _ bytes (a .pre) _ _ _ _ h (l .loop .inv) read _ kept _ (c .kept-count .ensures)

@@ -35,7 +35,7 @@ returns : tie.Need-returns Inv-loop μ-loop
 returns c =
     let l = c .before .before .before .before in
     let h = c .before .before .before .loop-test .taken in
-    let read = rw (c .enum-told .given .1) at (c .before .before .read-tag .ensures) in
+    let read = rw (c .enum-told .given .1) at (c .before .before .read-tag .ensures .0) in
     absurd (rest-there decodeTag _ _ _ (l .before .before .before .pre .0) _ _ h (l .loop .inv .reached) read)
 
 kept-bytes-requires : tie.Need-kept-bytes-requires Inv-loop μ-loop
@@ -45,7 +45,7 @@ kept-bytes-requires c κs =
     let a = l .before .before .before in
     let s = now (a .args .s) in
     let bytes = slice-bytes s (l .before .shared-slice-known .given) in
-    let read = rw (c .before .t .given .1) at (r .read-tag .ensures) in
+    let read = rw (c .before .t .given .1) at (r .read-tag .ensures .0) in
     omega (arith, tag-place s bytes (l .loop .next .at) read .0)
 
 sub-copy : tie.Need-sub-copy Inv-loop μ-loop
@@ -70,7 +70,7 @@ copy-requires c κs =
     let a = l .before .before .before in
     let s = now (a .args .s) in
     let bytes = slice-bytes s (l .before .shared-slice-known .given) in
-    let read = rw (c .before .before .before .t .given .1) at (r .read-tag .ensures) in
+    let read = rw (c .before .before .before .t .given .1) at (r .read-tag .ensures .0) in
     let old = now (a .args .out) in
     let kept = c .before .kept-bytes .ensures in
     let room = copied-room s _ _ bytes (a .pre .0) old _ (a .pre .1) _ _ _ (r .before .loop-test .taken) (l .loop .inv) read _ kept in
@@ -83,7 +83,7 @@ add-wrote c =
     let a = l .before .before .before in
     let s = now (a .args .s) in
     let bytes = slice-bytes s (l .before .shared-slice-known .given) in
-    let read = rw (c .before .before .before .before .before .before .t .given .1) at (r .read-tag .ensures) in
+    let read = rw (c .before .before .before .before .before .before .t .given .1) at (r .read-tag .ensures .0) in
     let old = now (a .args .out) in
     let kept = c .before .before .before .before .kept-bytes .ensures in
     let room = copied-room s _ _ bytes (a .pre .0) old _ (a .pre .1) _ _ _ (r .before .loop-test .taken) (l .loop .inv) read _ kept in
@@ -102,7 +102,7 @@ loop-again c =
     let a = l .before .before .before in
     let s = now (a .args .s) in
     let bytes = slice-bytes s (l .before .shared-slice-known .given) in
-    let read = rw (c .before .before .before .before .before .before .t .given .1) at (r .read-tag .ensures) in
+    let read = rw (c .before .before .before .before .before .before .t .given .1) at (r .read-tag .ensures .0) in
     let old = now (a .args .out) in
     let kept = c .before .before .before .before .kept-bytes .ensures in
     let h = r .before .loop-test .taken in

@@ -117,7 +117,7 @@ module _ (t : ℕ) where
   unfolding depths
   query-returns-2 c =
       let b = c .before in
-      rw (c .fault .ensures, query-left _ (b .before .before .before .if1 .left), ← b .before .before .read-node .ensures, b .enum-told .given .1) refl
+      rw (c .fault .ensures, query-left _ (b .before .before .before .if1 .left), ← b .before .before .read-node .ensures .0, b .enum-told .given .1) refl
 
   query-enum-told-2 : query-lts.Need-enum-told-2 query-calls query-at query.Post
   query-enum-told-2 c = search needs
@@ -141,7 +141,7 @@ module _ (t : ℕ) where
   query-returns-3 c =
       let j = c .before .before .before .before in
       let b = j .before .before .before in
-      rw (c .fault2 .ensures, query-left _ (b .before .before .before .if1 .left), ← b .before .before .read-node .ensures, b .n .given .1)
+      rw (c .fault2 .ensures, query-left _ (b .before .before .before .if1 .left), ← b .before .before .read-node .ensures .0, b .n .given .1)
       (rw (j .enum-told2 .given .1, depth-join, ← c .before .before .before .read-operator-sides .ensures, c .before .enum-told3 .given .1) refl)
 
   query-add-depth : query-lts.Need-add-depth query-calls query-at query.Post
@@ -161,26 +161,26 @@ module _ (t : ℕ) where
   query-returns-4 c =
       let j = c .before .before .before .before in
       let b = j .before .before .before in
-      rw (query-left _ (b .before .before .before .if1 .left), ← b .before .before .read-node .ensures, b .n .given .1)
+      rw (query-left _ (b .before .before .before .if1 .left), ← b .before .before .read-node .ensures .0, b .n .given .1)
       (rw (j .enum-told2 .given .1, depth-join, ← c .before .before .before .read-operator-sides .ensures, c .before .d .given .1) refl)
 
   query-returns-5 : query-lts.Need-returns-5 query-calls query-at query.Post
   unfolding depths depth
   query-returns-5 c =
       let b = c .before .before .before in
-      rw (query-left _ (b .before .before .before .if1 .left), ← b .before .before .read-node .ensures, b .n .given .1, c .enum-told4 .given .1) refl
+      rw (query-left _ (b .before .before .before .if1 .left), ← b .before .before .read-node .ensures .0, b .n .given .1, c .enum-told4 .given .1) refl
 
   query-returns-6 : query-lts.Need-returns-6 query-calls query-at query.Post
   unfolding depths depth
   query-returns-6 c =
       let b = c .before .before .before in
-      rw (query-left _ (b .before .before .before .if1 .left), ← b .before .before .read-node .ensures, b .n .given .1, c .enum-told5 .given .1) refl
+      rw (query-left _ (b .before .before .before .if1 .left), ← b .before .before .read-node .ensures .0, b .n .given .1, c .enum-told5 .given .1) refl
 
   query-returns-7 : query-lts.Need-returns-7 query-calls query-at query.Post
   unfolding depths depth
   query-returns-7 c =
       let b = c .before .before .before in
-      rw (query-left _ (b .before .before .before .if1 .left), ← b .before .before .read-node .ensures, b .n .given .1, c .enum-told6 .given .1) refl
+      rw (query-left _ (b .before .before .before .if1 .left), ← b .before .before .read-node .ensures .0, b .n .given .1, c .enum-told6 .given .1) refl
 
 pub +read-operator-sides+read-query-in-spec : {M : Type 1} → statement M
 +read-operator-sides+read-query-in-spec = close μ-sides μ-query

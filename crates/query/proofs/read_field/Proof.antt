@@ -16,7 +16,7 @@ fault-requires : tie.Need-fault-requires
 fault-requires c κs = search needs
 
 returns : tie.Need-returns
-returns c = rw (c .fault .ensures, ← c .before .before .before .string .ensures, c .before .enum-told .given .1) refl
+returns c = rw (c .fault .ensures, ← c .before .before .before .string .ensures .0, c .before .enum-told .given .1) (refl, tt)
 
 name-requires : tie.Need-name-requires
 name-requires c κs = search needs
@@ -33,13 +33,14 @@ fault-requires-2 c κs = search needs
 returns-2 : tie.Need-returns-2
 returns-2 c =
     let b = c .before .before .before .before .before in
-    rw (c .fault2 .ensures, ← b .before .before .string .ensures, b .t .given .1)
-    (rw (← c .before .before .before .name .ensures, c .before .enum-told2 .given .1) refl)
+    rw (c .fault2 .ensures, ← b .before .before .string .ensures .0, b .t .given .1)
+    (rw (← c .before .before .before .name .ensures .0, c .before .enum-told2 .given .1) (refl, tt))
 
 returns-3 : tie.Need-returns-3
 returns-3 c =
     let b = c .before .before .before .before .before in
-    rw (← b .before .before .string .ensures, b .t .given .1, ← c .before .before .before .name .ensures, c .before .n .given .1) refl
+    rw (← b .before .before .string .ensures .0, b .t .given .1, ← c .before .before .before .name .ensures .0, c .before .n .given .1)
+    (refl, (rw (b .t .given .1) at (b .before .before .string .ensures .1), rw (c .before .n .given .1) at (c .before .before .before .name .ensures .1)))
 
 pub read-field-spec : {M : Type 1} → statement M
 read-field-spec =

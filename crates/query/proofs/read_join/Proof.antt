@@ -16,10 +16,10 @@ fault-requires : tie.Need-fault-requires
 fault-requires c κs = search needs
 
 returns : tie.Need-returns
-returns c = rw (c .fault .ensures, ← c .before .before .before .read-operator .ensures, c .before .enum-told .given .1) refl
+returns c = rw (c .fault .ensures, ← c .before .before .before .read-operator .ensures, c .before .enum-told .given .1) (refl, tt)
 
 returns-2 : tie.Need-returns-2
-returns-2 c = rw (← c .before .before .before .read-operator .ensures, c .before .o .given .1) refl
+returns-2 c = rw (← c .before .before .before .read-operator .ensures, c .before .o .given .1) (refl, tt)
 
 pub read-join-spec : {M : Type 1} → statement M
 read-join-spec =

@@ -16,10 +16,11 @@ fault-requires : tie.Need-fault-requires
 fault-requires c κs = search needs
 
 returns : tie.Need-returns
-returns c = rw (c .fault .ensures, ← c .before .before .before .string .ensures, c .before .enum-told .given .1) refl
+returns c = rw (c .fault .ensures, ← c .before .before .before .string .ensures .0, c .before .enum-told .given .1) (refl, tt)
 
 returns-2 : tie.Need-returns-2
-returns-2 c = rw (← c .before .before .before .string .ensures, c .before .t .given .1) refl
+returns-2 c = rw (← c .before .before .before .string .ensures .0, c .before .t .given .1)
+    (refl, rw (c .before .t .given .1) at (c .before .before .before .string .ensures .1))
 
 pub read-keyword-spec : {M : Type 1} → statement M
 read-keyword-spec =

@@ -16,7 +16,7 @@ fault-requires : tie.Need-fault-requires
 fault-requires c κs = search needs
 
 returns : tie.Need-returns
-returns c = rw (c .fault .ensures, ← c .before .before .before .dword .ensures, c .before .enum-told .given .1) refl
+returns c = rw (c .fault .ensures, ← c .before .before .before .dword .ensures, c .before .enum-told .given .1) (refl, tt)
 
 read-bound-requires : tie.Need-read-bound-requires
 read-bound-requires c κs = search needs
@@ -34,7 +34,7 @@ returns-2 : tie.Need-returns-2
 returns-2 c =
     let b = c .before .before .before .before .before in
     rw (c .fault2 .ensures, ← b .before .before .dword .ensures, b .d .given .1)
-    (rw (← c .before .before .before .read-bound .ensures, c .before .enum-told2 .given .1) refl)
+    (rw (← c .before .before .before .read-bound .ensures, c .before .enum-told2 .given .1) (refl, tt))
 
 name-requires : tie.Need-name-requires
 name-requires c κs = search needs
@@ -53,14 +53,15 @@ returns-3 c =
     let b = c .before .before .before .before .before in
     let a = b .before .before .before .before in
     rw (c .fault3 .ensures, ← a .before .before .dword .ensures, a .d .given .1)
-    (rw (← b .before .before .read-bound .ensures, b .b .given .1, ← c .before .before .before .name .ensures, c .before .enum-told3 .given .1) refl)
+    (rw (← b .before .before .read-bound .ensures, b .b .given .1, ← c .before .before .before .name .ensures .0, c .before .enum-told3 .given .1) (refl, tt))
 
 returns-4 : tie.Need-returns-4
 returns-4 c =
     let b = c .before .before .before .before .before in
     let a = b .before .before .before .before in
     rw (← a .before .before .dword .ensures, a .d .given .1)
-    (rw (← b .before .before .read-bound .ensures, b .b .given .1, ← c .before .before .before .name .ensures, c .before .n .given .1) refl)
+    (rw (← b .before .before .read-bound .ensures, b .b .given .1, ← c .before .before .before .name .ensures .0, c .before .n .given .1)
+    (refl, rw (c .before .n .given .1) at (c .before .before .before .name .ensures .1)))
 
 pub read-limit-spec : {M : Type 1} → statement M
 read-limit-spec =

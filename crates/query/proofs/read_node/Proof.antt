@@ -20,7 +20,7 @@ fault-requires c κs = search needs
 
 returns : tie.Need-returns
 unfolding decodeNode decodeCode
-returns c = rw (c .fault .ensures, ← c .before .before .before .byte .ensures, c .before .enum-told .given .1) refl
+returns c = rw (c .fault .ensures, ← c .before .before .before .byte .ensures, c .before .enum-told .given .1) (refl, tt)
 
 read-join-requires : tie.Need-read-join-requires
 read-join-requires c κs = search needs
@@ -64,7 +64,7 @@ returns-6 c =
     let b = c .before .before in
     let r = c .match2 .rest in
     rw (← b .before .before .byte .ensures, b .b .given .1)
-    (rw (ne-eqb _ _ (r .0 .0 .0 .1), ne-eqb _ _ (r .0 .0 .1), ne-eqb _ _ (r .0 .1), ne-eqb _ _ (r .1)) refl)
+    (rw (ne-eqb _ _ (r .0 .0 .0 .1), ne-eqb _ _ (r .0 .0 .1), ne-eqb _ _ (r .0 .1), ne-eqb _ _ (r .1)) (refl, tt))
 
 pub read-node-spec : {M : Type 1} → statement M
 read-node-spec =

@@ -1,5 +1,9 @@
-use mathlib.Core.Path.{refl}
+use mathlib.Core.Path.{refl, sym}
+use denote.Ref.{now}
 use Rattle.format.specs.Order.{decodeCounted}
+use Rattle.format.proofs.There.{byte-ends}
+use Rattle.format.proofs.Items.{codec-address}
+use Rattle.wire.proofs.Inside.{counted-inside}
 use borrow.Author.Needs.{needs}
 use Rattle.records.proofs.read_addresses.Statement.{statement}
 use Rattle.records.proofs.read_addresses.Tie as tie
@@ -30,7 +34,10 @@ returns-2 : tie.Need-returns-2
 unfolding decodeCounted
 returns-2 c =
     let b = c .before .before in
-    rw (← b .before .before .byte .ensures, b .b .given .1) (c .addresses-from .ensures)
+    let x = b .before .before in
+    let count = byte-ends _ _ (sym (rw (b .b .given .1) at (x .byte .ensures))) in
+    rw (← x .byte .ensures, b .b .given .1)
+    (counted-inside codec-address (now (x .before .before .args .s)) (x .before .shared-slice-known .given) (c .addresses-from .result) (b .b .given .0 .0) _ _ _ count (c .addresses-from .ensures))
 
 pub read-addresses-spec : {M : Type 1} → statement M
 read-addresses-spec =

@@ -1,5 +1,9 @@
-use mathlib.Core.Path.{refl}
+use mathlib.Core.Path.{refl, sym}
+use denote.Ref.{now}
 use Rattle.format.specs.Order.{decodeCounted}
+use Rattle.format.proofs.There.{word-ends}
+use Rattle.format.proofs.Items.{codec-hash}
+use Rattle.wire.proofs.Inside.{counted-inside}
 use borrow.Author.Needs.{needs}
 use Rattle.records.proofs.read_hashes.Statement.{statement}
 use Rattle.records.proofs.read_hashes.Tie as tie
@@ -30,7 +34,10 @@ returns-2 : tie.Need-returns-2
 unfolding decodeCounted
 returns-2 c =
     let w = c .before .before in
-    rw (← w .before .before .word .ensures, w .w .given .1) (c .hashes-from .ensures)
+    let b = w .before .before in
+    let count = word-ends _ _ (sym (rw (w .w .given .1) at (b .word .ensures))) in
+    rw (← b .word .ensures, w .w .given .1)
+    (counted-inside codec-hash (now (b .before .before .args .s)) (b .before .shared-slice-known .given) (c .hashes-from .result) (w .w .given .0 .0) _ _ _ count (c .hashes-from .ensures))
 
 pub read-hashes-spec : {M : Type 1} → statement M
 read-hashes-spec =

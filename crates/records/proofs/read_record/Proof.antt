@@ -1,5 +1,6 @@
 use mathlib.Core.Path.{refl}
 use Rattle.format.specs.Order.{decodeRecord}
+use Rattle.wire.proofs.Inside.{hash-inside}
 use borrow.Author.Needs.{needs}
 use Rattle.records.proofs.read_record.Statement.{statement}
 use Rattle.records.proofs.read_record.Tie as tie
@@ -121,7 +122,7 @@ returns-5 c =
       ← t .before .before .read-tags .ensures .0,
       t .t .given .1,
     )
-    (refl, rw (t .t .given .1) at (t .before .before .read-tags .ensures .1))
+    (refl, (hash-inside _ _ _ (rw (h .h .given .1) at (h .before .before .hash .ensures)), rw (t .t .given .1) at (t .before .before .read-tags .ensures .1)))
 
 pub read-record-spec : {M : Type 1} → statement M
 read-record-spec =

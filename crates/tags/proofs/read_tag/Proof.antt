@@ -18,7 +18,7 @@ fault-requires c κs = search needs
 
 returns : tie.Need-returns
 unfolding decodeTag
-returns c = rw (c .fault .ensures, ← c .before .before .before .read-type .ensures, c .before .enum-told .given .1) refl
+returns c = rw (c .fault .ensures, ← c .before .before .before .read-type .ensures, c .before .enum-told .given .1) (refl, tt)
 
 name-requires : tie.Need-name-requires
 name-requires c κs = search needs
@@ -40,10 +40,10 @@ returns-2 c =
       c .fault2 .ensures,
       ← t .before .before .read-type .ensures,
       t .t .given .1,
-      ← c .before .before .before .name .ensures,
+      ← c .before .before .before .name .ensures .0,
       c .before .enum-told2 .given .1,
     )
-    refl
+    (refl, tt)
 
 read-value-requires : tie.Need-read-value-requires
 read-value-requires c κs = search needs
@@ -66,12 +66,12 @@ returns-3 c =
       c .fault3 .ensures,
       ← t .before .before .read-type .ensures,
       t .t .given .1,
-      ← n .before .before .name .ensures,
+      ← n .before .before .name .ensures .0,
       n .n .given .1,
-      ← c .before .before .before .read-value .ensures,
+      ← c .before .before .before .read-value .ensures .0,
       c .before .enum-told3 .given .1,
     )
-    refl
+    (refl, tt)
 
 returns-4 : tie.Need-returns-4
 unfolding decodeTag
@@ -81,12 +81,12 @@ returns-4 c =
     rw (
       ← t .before .before .read-type .ensures,
       t .t .given .1,
-      ← n .before .before .name .ensures,
+      ← n .before .before .name .ensures .0,
       n .n .given .1,
-      ← c .before .before .before .read-value .ensures,
+      ← c .before .before .before .read-value .ensures .0,
       c .before .v .given .1,
     )
-    refl
+    (refl, (rw (n .n .given .1) at (n .before .before .name .ensures .1), rw (c .before .v .given .1) at (c .before .before .before .read-value .ensures .1)))
 
 pub read-tag-spec : {M : Type 1} → statement M
 read-tag-spec =

@@ -30,7 +30,7 @@ returns : tie.Need-returns Inv-loop μ-loop
 returns c =
     let l = c .before .before .before .before in
     let told = c .before .enum-told .given .1 in
-    let read = rw told at (c .before .before .before .read-tag .ensures) in
+    let read = rw told at (c .before .before .before .read-tag .ensures .0) in
     rw (c .fault .ensures, told) (refuses decodeTag _ _ _ _ _ (l .loop-test .taken) (l .before .loop .inv) read)
 
 add-i : tie.Need-add-i Inv-loop μ-loop
@@ -42,7 +42,7 @@ loop-less c = search needs
 loop-again : tie.Need-loop-again Inv-loop μ-loop
 loop-again c =
     let l = c .before .before .before .before in
-    let read = rw (c .before .t .given .1) at (c .before .before .before .read-tag .ensures) in
+    let read = rw (c .before .t .given .1) at (c .before .before .before .read-tag .ensures .0) in
     goes-on decodeTag _ _ _ _ _ (l .loop-test .taken) (l .before .loop .inv) read
 
 returns-2 : tie.Need-returns-2 Inv-loop μ-loop

@@ -35,7 +35,7 @@ loop-again c =
     goes-over decodeTag _ _ _ _ _ (l .loop-test .taken) (l .before .loop .inv) read
 
 returns-2 : tie.Need-returns-2 Inv-loop μ-loop
-returns-2 c = inr (finishes decodeTag _ _ _ _ _ (c .loop-test .left) (c .before .loop .inv) .1)
+returns-2 c = inr (finishes decodeTag _ _ _ _ _ (c .loop-test .left) (c .before .loop .inv) .1 .0)
 
 pub tags-end-spec : {M : Type 1} → statement M
 tags-end-spec =

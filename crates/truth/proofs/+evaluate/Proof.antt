@@ -68,7 +68,7 @@ module _ (t : ℕ) where
   unfolding truths
   returns-2 c =
       let b = c .before in
-      rw (c .fault .ensures, query-left _ (b .before .before .before .if1 .left), ← b .before .before .read-node .ensures, b .enum-told .given .1) refl
+      rw (c .fault .ensures, query-left _ (b .before .before .before .if1 .left), ← b .before .before .read-node .ensures .0, b .enum-told .given .1) refl
 
   enum-known-node : lts.Need-enum-known-node calls at-t evaluate.Post
   enum-known-node c = search needs
@@ -92,7 +92,7 @@ module _ (t : ℕ) where
   returns-3 c =
       let j = c .before .before .before .before .before in
       let b = j .before .before .before in
-      rw (c .fault2 .ensures, query-left _ (b .before .before .before .if1 .left), ← b .before .before .read-node .ensures, b .n .given .1, j .node .given .1)
+      rw (c .fault2 .ensures, query-left _ (b .before .before .before .if1 .left), ← b .before .before .read-node .ensures .0, b .n .given .1, j .node .given .1)
       (rw (truth-join, ← c .before .before .before .evaluate .ensures, c .before .enum-told2 .given .1) refl)
 
   sub-evaluate-2 : lts.Need-sub-evaluate-2 calls at-t evaluate.Post
@@ -115,7 +115,7 @@ module _ (t : ℕ) where
       let m = c .before .before .before .before .before in
       let j = m .before .before .before .before in
       let b = j .before .before .before in
-      rw (c .fault3 .ensures, query-left _ (b .before .before .before .if1 .left), ← b .before .before .read-node .ensures, b .n .given .1, j .node .given .1)
+      rw (c .fault3 .ensures, query-left _ (b .before .before .before .if1 .left), ← b .before .before .read-node .ensures .0, b .n .given .1, j .node .given .1)
       (rw (truth-join, ← m .before .before .evaluate .ensures, m .a .given .1, ← c .before .before .before .evaluate2 .ensures, c .before .enum-told3 .given .1) refl)
 
   combine-requires : lts.Need-combine-requires calls at-t evaluate.Post
@@ -145,28 +145,28 @@ module _ (t : ℕ) where
       let m = e .before .before .before .before in
       let j = m .before .before .before .before in
       let b = j .before .before .before in
-      rw (c .combine .ensures, query-left _ (b .before .before .before .if1 .left), ← b .before .before .read-node .ensures, b .n .given .1, j .node .given .1)
+      rw (c .combine .ensures, query-left _ (b .before .before .before .if1 .left), ← b .before .before .read-node .ensures .0, b .n .given .1, j .node .given .1)
       (rw (truth-join, ← m .before .before .evaluate .ensures, m .a .given .1, ← e .before .before .evaluate2 .ensures, e .b .given .1) refl)
 
   returns-6 : lts.Need-returns-6 calls at-t evaluate.Post
   unfolding truths holds tagMeets
   returns-6 c =
       let b = c .before .before .before .before in
-      rw (c .leaf-holds .ensures, query-left _ (b .before .before .before .if1 .left), ← b .before .before .read-node .ensures)
+      rw (c .leaf-holds .ensures, query-left _ (b .before .before .before .if1 .left), ← b .before .before .read-node .ensures .0)
       (rw (b .n .given .1, c .before .enum-told4 .given .1) refl)
 
   returns-7 : lts.Need-returns-7 calls at-t evaluate.Post
   unfolding truths holds tagMeets
   returns-7 c =
       let b = c .before .before .before .before in
-      rw (c .leaf-holds2 .ensures, query-left _ (b .before .before .before .if1 .left), ← b .before .before .read-node .ensures)
+      rw (c .leaf-holds2 .ensures, query-left _ (b .before .before .before .if1 .left), ← b .before .before .read-node .ensures .0)
       (rw (b .n .given .1, c .before .enum-told5 .given .1) refl)
 
   returns-8 : lts.Need-returns-8 calls at-t evaluate.Post
   unfolding truths holds tagMeets
   returns-8 c =
       let b = c .before .before .before .before in
-      rw (c .leaf-holds3 .ensures, query-left _ (b .before .before .before .if1 .left), ← b .before .before .read-node .ensures)
+      rw (c .leaf-holds3 .ensures, query-left _ (b .before .before .before .if1 .left), ← b .before .before .read-node .ensures .0)
       (rw (b .n .given .1, c .before .enum-told6 .given .1) refl)
 
 pub +evaluate-spec : {M : Type 1} → statement M

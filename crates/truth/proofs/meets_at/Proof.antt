@@ -13,13 +13,13 @@ enum-told : tie.Need-enum-told
 enum-told c = search needs
 
 returns : tie.Need-returns
-returns c = rw (← c .before .before .read-tag .ensures, c .enum-told .given .1) refl
+returns c = rw (← c .before .before .read-tag .ensures .0, c .enum-told .given .1) refl
 
 tag-meets-requires : tie.Need-tag-meets-requires
 tag-meets-requires c κs = search needs
 
 returns-2 : tie.Need-returns-2
-returns-2 c = rw (← c .before .before .before .before .read-tag .ensures, c .before .before .t .given .1) (c .tag-meets .ensures)
+returns-2 c = rw (← c .before .before .before .before .read-tag .ensures .0, c .before .before .t .given .1) (c .tag-meets .ensures)
 
 pub meets-at-spec : {M : Type 1} → statement M
 meets-at-spec =

@@ -26,7 +26,7 @@ enum-known-t-2 : tie.Need-enum-known-t-2
 enum-known-t-2 c = search needs
 
 evaluate-requires : tie.Need-evaluate-requires
-evaluate-requires c κs = rw (c .before .t2 .given .1) at (c .before .before .before .read-tag-list .ensures .1 .0)
+evaluate-requires c κs = rw (c .before .t2 .given .1) at (c .before .before .before .read-tag-list .ensures .1 .0) .0
 
 enum-known-e : tie.Need-enum-known-e
 enum-known-e c = search needs

@@ -43,7 +43,7 @@ use denote.Triple.Table.{entered, cited}
 use denote.Triple.Walked.{says, Stays, stay-none, walkOf, goes-none, Walks, ends-at, walked, walk-meets}
 use denote.Exit.{yes}
 use denote.Triple.Clauses.{ensured, lasts}
-use Rattle.walker.specs.Walk.{walkAt, walkMeaning}
+use Rattle.walker.specs.Walk.{WalkStepInside, walkAt, walkMeaning}
 use Rattle.walker.specs.declared.TagWalker.{TagWalker}
 use Rattle.walker.specs.declared.WalkStep.{WalkStep}
 use Rattle.walker.proofs.TagWalker as T
@@ -80,7 +80,7 @@ module _ {M : Type 1} (𝓤 : URA M) (H : Heap 𝓤) (A : Atoms 𝓤) (W : Given
   v = sliceVal (d .tags .ptr) (length (d .tags .now))
 
   abbrev Fact : WalkStep → Type 0
-  Fact r = walkMeaning (now (d .tags)) r ≡ walkAt (now (d .tags)) (d .at) (d .left)
+  Fact r = (walkMeaning (now (d .tags)) r ≡ walkAt (now (d .tags)) (d .at) (d .left)) × WalkStepInside (now (d .tags)) r
 
   abbrev Post : Val → SProp 𝓤
   Post = walkOf 𝓤 H A next.ended stayed (next.clauses 𝓤 H A mem run) .post (((κ, tt), (q, tt), tt, (d, tt), (mach ∷ [], tt)), tt)

@@ -25,7 +25,7 @@ unfolding walkAt
 returns c =
     let b = c .before .before in
     rw (c .number .ensures, c .before .fault .ensures, eq-eqb _ _ (b .before .before .before .if1 .taken))
-    (rw (← b .before .before .dword .ensures, b .enum-told .given .1) refl)
+    (rw (← b .before .before .dword .ensures, b .enum-told .given .1) (refl, tt))
 
 walk-from-requires : tie.Need-walk-from-requires
 walk-from-requires c κs = search needs

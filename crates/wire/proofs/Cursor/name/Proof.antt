@@ -20,17 +20,17 @@ fault-requires c κs = search needs
 
 returns : tie.Need-returns
 unfolding decodeName
-returns c = rw (c .fault .ensures, ← c .before .before .before .word .ensures, c .before .enum-told .given .1) refl
+returns c = rw (c .fault .ensures, ← c .before .before .before .word .ensures, c .before .enum-told .given .1) (refl, tt)
 
 returns-2 : tie.Need-returns-2
 unfolding decodeName
-returns-2 c = rw (← c .before .before .before .before .word .ensures, c .before .before .w .given .1, eq-eqb _ 0 (c .if1 .taken)) refl
+returns-2 c = rw (← c .before .before .before .before .word .ensures, c .before .before .w .given .1, eq-eqb _ 0 (c .if1 .taken)) (refl, tt)
 
 returns-3 : tie.Need-returns-3
 unfolding decodeName
 returns-3 c =
     let b = c .before .before .before in
-    rw (← b .before .before .word .ensures, b .w .given .1, ne-eqb _ 0 (c .before .if1 .left), lt-leb _ nameLimit (c .if2 .taken)) refl
+    rw (← b .before .before .word .ensures, b .w .given .1, ne-eqb _ 0 (c .before .if1 .left), lt-leb _ nameLimit (c .if2 .taken)) (refl, tt)
 
 cast-run : tie.Need-cast-run
 cast-run c = search needs

@@ -18,7 +18,7 @@ fault-requires c κs = search needs
 
 returns : tie.Need-returns
 unfolding decodeString
-returns c = rw (c .fault .ensures, ← c .before .before .before .word .ensures, c .before .enum-told .given .1) refl
+returns c = rw (c .fault .ensures, ← c .before .before .before .word .ensures, c .before .enum-told .given .1) (refl, tt)
 
 cast-run : tie.Need-cast-run
 cast-run c = search needs

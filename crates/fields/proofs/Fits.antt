@@ -1,0 +1,88 @@
+-- The numbers of a packet that was read are numbers that its fields can hold: a lawful message has such values, and a list that lies where
+-- it is said to lie has as many items as it counts.
+use Prim.Native.Nat.{ℕ, zero, suc, _≤_, _<_}
+use native.Mathlib.Omega.{arith}
+use mathlib.Core.Path.{_≡_, refl, sym, ap, _∙_}
+use mathlib.Core.Bool.{Bool}
+use mathlib.Core.List.{List}
+use lib.ListN.{length}
+use Rattle.format.specs.Messages as messages
+use Rattle.format.specs.Rules.{ValidAddress, ValidPacket, ValidRecord, ValidTriple, ValidValues}
+use Rattle.format.specs.Bits.{bitsIn, tabulate}
+use Rattle.format.specs.Decoding.{Decoder, decodeMany, got}
+use Rattle.format.specs.Order.{decodeAddress, decodeHash, decodeRecord, decodeTag}
+use Rattle.format.proofs.Codec.{same-value, went}
+use Rattle.format.proofs.Many.{ends-items}
+use Rattle.wire.specs.declared.Items.{Items}
+use Rattle.wire.specs.Meaning.{ItemsInside, itemsIn}
+use Rattle.records.specs.declared.Address.{Address}
+use Rattle.records.specs.declared.Record.{Record}
+use Rattle.records.specs.Meaning.{RecordPlaced, addressOf, recordIn}
+use Rattle.bodies.specs.declared.Body.{Body}
+use Rattle.bodies.specs.declared.Triple.{Triple}
+use Rattle.bodies.specs.Meaning.{BodyPlaced, bodyIn, heldAt, tripleOf}
+use Rattle.packets.specs.declared.Packet.{Packet}
+use Rattle.packets.specs.Meaning.{packetIn}
+use Rattle.fields.specs.Given.{AddressFits, BodyFits, PacketFits, RecordFits, TripleFits}
+
+many-length : {A : Type 0} (d : Decoder A) (s : List ℕ) (n at end : ℕ) (l : List A) → decodeMany n d s at ≡ got l end → length l ≡ n
+many-length d s zero at end l e = ap length (sym (same-value e))
+many-length d s (suc n) at end l e =
+    let w = went s (d s at) e in
+    let v = went s (decodeMany n d s (w .mid)) (w .then) in
+    ap length (sym (same-value (v .then))) ∙ ap suc (many-length d s n (w .mid) (v .mid) (v .first) (v .was))
+
+tabulate-length : {A : Type 0} (f : ℕ → A) (n : ℕ) → length (tabulate f n) ≡ n
+unfolding tabulate
+tabulate-length f zero = refl
+tabulate-length f (suc n) = ap suc (tabulate-length (λ i. f (suc i)) n)
+
+held-length : (n : ℕ) (l : List ℕ) → length (bitsIn n l) ≡ n
+unfolding bitsIn
+held-length n l = tabulate-length _ n
+
+module _ (s : List ℕ) where
+  pub items-length : {A : Type 0} (d : Decoder A) (l : Items) → ItemsInside d s l → length (itemsIn d s l) ≡ l .count
+  items-length d l h = many-length d s (l .count) (l .at) (l .end) (itemsIn d s l) (sym (ends-items (decodeMany (l .count) d s (l .at)) (l .end) (h .0)))
+
+  few : {n m : ℕ} (k : ℕ) → n ≡ m → n < k → k ≤ 4294967296 → m < 4294967296
+  few k e h b = omega arith
+
+  address-fits : (a : Address) → ValidAddress (addressOf a) → AddressFits a
+  address-fits a v = (v .ip, v .port)
+
+  record-fits : (r : Record) → RecordPlaced s r → ValidRecord (recordIn s r) → RecordFits r
+  record-fits r h v = (v .client, v .port, few 4294967296 (items-length decodeTag (r .tags) (h .1)) (v .tags .0) (omega arith))
+
+  triple-fits : (t : Triple) → ValidTriple (tripleOf t) → TripleFits t
+  triple-fits t v = (v .0, v .1 .0, v .1 .1)
+
+  body-fits : (b : Body) → BodyPlaced s b → ValidValues (bodyIn s b .0) (bodyIn s b .1) → BodyFits b
+  body-fits Body.Nothing h v = tt
+  body-fits (Body.Query q) h v = tt
+  body-fits (Body.Hash a) h v = tt
+  body-fits (Body.Dword n) h v = v
+  body-fits (Body.TwoDwords n m) h v = v
+  body-fits (Body.Text t) h v = tt
+  body-fits (Body.TwoTexts t u) h v = tt
+  body-fits (Body.Address a) h v = address-fits a v
+  body-fits (Body.Addresses l) h v = few 256 (items-length decodeAddress l h) (v .0) (omega arith)
+  body-fits (Body.HashAddresses a l) h v = few 256 (items-length decodeAddress l (h .1)) (v .1 .0) (omega arith)
+  body-fits (Body.AddressDword a n) h v = (address-fits a (v .0), v .1)
+  body-fits (Body.HashAddressTags a b l) h v = (address-fits b (v .1 .0), few 4294967296 (items-length decodeTag l (h .1)) (v .1 .1 .0) (omega arith))
+  body-fits (Body.Record r) h v = record-fits r h v
+  body-fits (Body.Records l) h v = few 4294967296 (items-length decodeRecord l h) (v .0) (omega arith)
+  body-fits (Body.RecordsFlag l b) h v = (few 4294967296 (items-length decodeRecord l h) (v .0 .0) (omega arith), omega (arith, v .1))
+  body-fits (Body.RecordAddress r a) h v = (record-fits r h (v .0), address-fits a (v .1))
+  body-fits (Body.Hello r a) h v = (record-fits r h (v .0), address-fits a (v .1))
+  body-fits (Body.HashText a t) h v = tt
+  body-fits (Body.Hashset a l) h v = few 65536 (items-length decodeHash l (h .1)) (v .1 .0) (omega arith)
+  body-fits (Body.SendingPart p) h v = (v .start, v .end)
+  body-fits (Body.RequestParts p) h v = (triple-fits (p .starts) (v .starts), triple-fits (p .ends) (v .ends))
+  body-fits (Body.FileStatus p) h v = rw (held-length (p .parts)) at (v .parts)
+  body-fits (Body.StatusRequest p) h v = v .number
+  body-fits (Body.Status t) h v = triple-fits t v
+  body-fits (Body.ExtendedStatus p) h v = (v .first, v .second, triple-fits (p .numbers) (v .numbers))
+
+  pub packet-fits : (link : messages.Link) (p : Packet) → BodyPlaced s (p .body) → ValidPacket link (packetIn s p) → PacketFits p
+  packet-fits link p h v = (v .opening, v .opcode, body-fits (p .body) h (v .values))
