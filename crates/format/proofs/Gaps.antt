@@ -188,6 +188,12 @@ subtract-ordered size low [] s e h o = tt
 subtract-ordered size low (g ∷ l) s e h o =
     remaining-ordered size low g s e (subtract l s e) h (o .0) (o .1) (o .2) (subtract-ordered size (suc (g .end)) l s e h (o .3))
 
+-- Outside one range and outside the others.
+pub outside-both : (m a b : Bool) → ((m && not a) && not b) ≡ (m && not (a || b))
+outside-both false a b = refl
+outside-both true false b = refl
+outside-both true true b = refl
+
 -- a lawful list stays lawful as long as it is short enough
 pub subtract-lawful : (limit size : ℕ) (l : List Gap) (s e : ℕ) → s < e → length (subtract l s e) ≤ 64
     → Lawful limit size l → Lawful limit size (subtract l s e)

@@ -17,3 +17,4 @@ pub mod Cases
 pub mod Truth
 pub mod Writing
 pub mod RoundTrip
+pub mod Demands

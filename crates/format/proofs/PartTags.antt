@@ -59,7 +59,7 @@ pub either-test : (t : Bool) {A : Type 0} → (t ≡ true → A) → (t ≡ fals
 either-test true f g = f refl
 either-test false f g = g refl
 
-same-not : (k l : List ℕ) → (k ≡ l → ⊥) → same k l ≡ false
+pub same-not : (k l : List ℕ) → (k ≡ l → ⊥) → same k l ≡ false
 same-not k l h = either-test (same k l) (λ e. absurd (h (same-true k l e))) (λ e. e)
 
 pub same-lengths : (k l : List ℕ) → (length k ≡ length l → ⊥) → same k l ≡ false

@@ -37,12 +37,12 @@ module _ (k : Kind) (m : Message k) (output : List ℕ) where
   written-bytes (refuses n j f) z = absurd (f z)
   written-bytes (tries j) z = wrote (leb (length bytes) (length output)) z
 
-  accepted-valid : Bytes bytes → {w : Written} → Writes k m output w → w .number ≡ 0 → Valid k m × (length bytes ≤ length output)
+  pub accepted-valid : Bytes bytes → {w : Written} → Writes k m output w → w .number ≡ 0 → Valid k m × (length bytes ≤ length output)
   accepted-valid hb (refuses n j f) z = absurd (f z)
   accepted-valid hb (tries j) z =
       (judged-valid k m hb .0 j, leb-true _ _ (room-true (leb (length bytes) (length output)) z))
 
-  valid-accepted : {w : Written} → Writes k m output w → Valid k m × (length bytes ≤ length output) → w .number ≡ 0
+  pub valid-accepted : {w : Written} → Writes k m output w → Valid k m × (length bytes ≤ length output) → w .number ≡ 0
   valid-accepted (refuses n j f) h = absurd (f (judged-once k m j (valid-judged k m (h .0))))
   valid-accepted (tries j) h = ap (λ t. room t .number) (le-leb _ _ (h .1))
 

@@ -16,3 +16,4 @@ pub mod Writing
 pub mod RoundTrip
 pub mod Saving
 pub mod Putting
+pub mod Demands

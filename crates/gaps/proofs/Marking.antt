@@ -4,13 +4,13 @@ use native.Mathlib.Omega.{arith}
 use native.Mathlib.Decide.{decLe}
 use mathlib.Core.Logic.{_↔_}
 use mathlib.Core.Path.{_≡_, refl, sym, ap, _∙_}
-use mathlib.Core.Bool.{Bool, true, false, not, _&&_, _||_, cond, and-true}
+use mathlib.Core.Bool.{Bool, true, false, not, _&&_, cond, and-true}
 use mathlib.Core.List.{List, [], _∷_, _++_}
 use lib.ListN.{length}
 use lib.Dec.{ltb, eqb}
 use borrow.Author.Tests.{lt-ltb, le-leb, lt-leb, ltb-true, leb-true, eqb-true, eqb-false}
 use Rattle.format.specs.Gaps.{Gap, within, missing, Ordered, count, total, subtract, marking}
-use Rattle.format.proofs.Gaps.{never, both-true, subtract-ordered, subtract-lawful, missing-subtract, total-count, count-same}
+use Rattle.format.proofs.Gaps.{never, both-true, outside-both, subtract-ordered, subtract-lawful, missing-subtract, total-count, count-same}
 use Rattle.gaps.specs.declared.GapRecord.{GapRecord}
 use Rattle.gaps.specs.declared.Marked.{Marked}
 use Rattle.gaps.specs.declared.Pushed.{Pushed}
@@ -185,11 +185,6 @@ module _ (limit : ℕ) (g : GapRecord) (s e : ℕ) where
 
 -- What a sequence of markings leaves
 
-twice-outside : (m a b : Bool) → ((m && not a) && not b) ≡ (m && not (a || b))
-twice-outside false a b = refl
-twice-outside true false b = refl
-twice-outside true true b = refl
-
 -- one marking more at the front: what holds of the record after it holds of the record before it
 module _ (limit : ℕ) (g : GapRecord) (r : Gap) (ranges : List Gap) (x : ℕ) where
   abbrev first : Marked
@@ -207,7 +202,7 @@ module _ (limit : ℕ) (g : GapRecord) (r : Gap) (ranges : List Gap) (x : ℕ) w
           → missing (gapsOf (markAll limit (first .after) ranges)) x ≡ (missing (gapsOf g) x && not (covered (cond t (r ∷ others) others) x))
       go true q =
           i ∙ rw (missing-after limit g (r .start) (r .end) (eqb-true (first .number) 0 q) x)
-          (twice-outside (missing (gapsOf g) x) (within (r .start) (r .end) x) (covered others x))
+          (outside-both (missing (gapsOf g) x) (within (r .start) (r .end) x) (covered others x))
       go false q = i ∙ rw (refused-as-given limit g (r .start) (r .end) (eqb-false (first .number) 0 q)) refl
 
 -- a byte is missing at the end exactly if it was missing at the start and lies in no accepted range

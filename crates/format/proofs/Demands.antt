@@ -1,0 +1,218 @@
+-- The demands hold (specs/Demands): each by the laws of the files that are cited, and saving and putting by cases on what is read.
+use mathlib.Core.Path.{_≡_, refl, sym, ap, subst, _∙_}
+use mathlib.Core.Bool.{Bool, true, false, _&&_, not, cond, and-true}
+use mathlib.Core.Logic.{_↔_}
+use mathlib.Core.List.{List, [], _∷_}
+use Prim.Native.Nat.{ℕ, _≤_, _<_}
+use native.Mathlib.Omega.{arith}
+use lib.ListN.{length}
+use lib.Dec.{leb, ltb}
+use borrow.Author.Tests.{le-leb, leb-true, lt-leb, ltb-true}
+use Rattle.format.specs.Tables.{pick, same}
+use Rattle.format.specs.Messages.{PartMet, partMet}
+use Rattle.format.specs.Layout.{encode, encodePartMet}
+use Rattle.format.specs.Rules.{ceiling, metCeiling}
+use Rattle.format.specs.Decoding.{Answer, Rule, accepted, number, refusal}
+use Rattle.format.specs.MetOrder.{decode}
+use Rattle.format.specs.Gaps.{Gap, Lawful, Marking, count, gapLimit, inside, lawful, leaves, marking, missing, rejected, subtract, within}
+use Rattle.format.specs.Writing.{Written, overwritten, refuses, tries, unwritten, writtenInto}
+use Rattle.format.specs.Saving.{save, savedAfter}
+use Rattle.format.specs.Putting.{fitting, putAfter, putGaps, withGaps}
+use Rattle.format.specs.Demands.{Accepted, CeilingFirst, Demands, MissingAtEnd, RefusedPut, RefusedWrite}
+use Rattle.format.specs.Demands.{TrueCount, Untouched, WriteExact, WrittenBack, acceptedIn, acceptedRanges, gapsAfter, gapsAtEnd, oneMarking}
+use Rattle.format.proofs.Acceptance.{accepts, unambiguous}
+use Rattle.format.proofs.Differ.{differ}
+use Rattle.format.proofs.Gaps.{both-true, lawful-exactly, missing-subtract, never, outside-both, subtract-lawful}
+use Rattle.format.proofs.PartRefusals.{nine}
+use Rattle.format.proofs.PartTags.{same-not, same-refl, same-true}
+use Rattle.format.proofs.RoundTrip.{accepted-valid, valid-accepted}
+use Rattle.format.proofs.Truth.{holds-exactly}
+use Rattle.format.proofs.Writing.{judged-once, number-some, read-judged, reads-writes, writes-once, writes-reads}
+
+-- Demand 1
+
+ceiling-first : CeilingFirst
+unfolding decode
+ceiling-first k s h = rw (lt-leb (length s) (ceiling k) h) refl
+
+-- The numbers of a reader are 1 to 9.
+number-below : (r : Rule) → number r < 10
+number-below Rule.short = omega arith
+number-below Rule.opening = omega arith
+number-below Rule.frameLength = omega arith
+number-below Rule.kind = omega arith
+number-below Rule.choice = omega arith
+number-below Rule.statusBit = omega arith
+number-below Rule.bytesCeiling = omega arith
+number-below Rule.depthCeiling = omega arith
+number-below Rule.nameCeiling = omega arith
+number-below Rule.gapCeiling = omega arith
+number-below Rule.rest = omega arith
+number-below Rule.order = omega arith
+number-below Rule.dataLength = omega arith
+number-below Rule.sizeTag = omega arith
+
+untouched-room : (bytes output : List ℕ) → Untouched output (writtenInto bytes output)
+untouched-room bytes output = go (leb (length bytes) (length output))
+  where
+    go : (t : Bool) → Untouched output (pick t (record { number = 0; length = length bytes; output = overwritten bytes output }) (unwritten 10 output))
+    go true h = absurd (h refl)
+    go false h = (refl, refl)
+
+refused-write : RefusedWrite
+refused-write k m output w (refuses n j f) h = (refl, refl)
+refused-write k m output w (tries j) h = untouched-room (encode k m) output h
+
+-- What a save comes to, by what the reader says of the new bytes and whether the files are equal.
+module _ (stored opened new output : List ℕ) where
+  abbrev Outcome : Answer PartMet → Bool → Written
+  Outcome (refusal f) t = unwritten (number (f .rule)) output
+  Outcome (accepted m) t = pick t (writtenInto new output) (unwritten 11 output)
+
+  save-is : save stored opened new output ≡ Outcome (decode partMet new) (same stored opened)
+  unfolding save
+  save-is = go (decode partMet new)
+    where
+      go : (a : Answer PartMet) → savedAfter a stored opened new output ≡ Outcome a (same stored opened)
+      go (refusal f) = refl
+      go (accepted m) = refl
+
+  room-number : (t : Bool) → pick t (record { number = 0; length = length new; output = overwritten new output }) (unwritten 10 output) .number < 11
+  room-number true = omega arith
+  room-number false = omega arith
+
+  conflicts : (a : Answer PartMet) (t : Bool) → (Outcome a t .number ≡ 11) → ((m : PartMet) × (a ≡ accepted m)) × (t ≡ false)
+  conflicts (refusal f) t e = absurd (omega (arith, number-below (f .rule)))
+  conflicts (accepted m) true e = absurd (omega (arith, room-number (leb (length new) (length output))))
+  conflicts (accepted m) false e = ((m, refl), refl)
+
+  conflict : (save stored opened new output .number ≡ 11) ↔ (Accepted partMet new × (stored ≡ opened → ⊥))
+  conflict = (there, back)
+    where
+      there : save stored opened new output .number ≡ 11 → Accepted partMet new × (stored ≡ opened → ⊥)
+      there e =
+          let c = conflicts (decode partMet new) (same stored opened) (sym (ap (λ w. w .number) save-is) ∙ e) in
+          (c .0, λ q. let t : same stored opened ≡ true = rw q (same-refl opened) in never (same stored opened) t (c .1))
+
+      back : Accepted partMet new × (stored ≡ opened → ⊥) → save stored opened new output .number ≡ 11
+      back h = rw (save-is, h .0 .1, same-not stored opened (h .1)) refl
+
+  saves : (a : Answer PartMet) (t : Bool) → Outcome a t .number ≡ 0 → ((m : PartMet) × (a ≡ accepted m)) × ((t ≡ true) × (length new ≤ length output))
+  saves (refusal f) t e = absurd (number-some (f .rule) e)
+  saves (accepted m) true e = ((m, refl), (refl, leb-true _ _ (go (leb (length new) (length output)) e)))
+    where
+      go : (t : Bool) → pick t (record { number = 0; length = length new; output = overwritten new output }) (unwritten 10 output) .number ≡ 0 → t ≡ true
+      go true e = refl
+      go false e = absurd (omega arith)
+  saves (accepted m) false e = absurd (omega arith)
+
+  saved : (save stored opened new output ≡ record { number = 0; length = length new; output = overwritten new output })
+      ↔ (Accepted partMet new × ((stored ≡ opened) × (length new ≤ length output)))
+  saved = (there, back)
+    where
+      there : save stored opened new output ≡ record { number = 0; length = length new; output = overwritten new output } →
+          Accepted partMet new × ((stored ≡ opened) × (length new ≤ length output))
+      there e =
+          let c = saves (decode partMet new) (same stored opened) (ap (λ w. w .number) (sym save-is ∙ e)) in
+          (c .0, (same-true stored opened (c .1 .0), c .1 .1))
+
+      back : Accepted partMet new × ((stored ≡ opened) × (length new ≤ length output)) →
+          save stored opened new output ≡ record { number = 0; length = length new; output = overwritten new output }
+      back h = save-is ∙ rw (h .0 .1, h .1 .0, same-refl opened, le-leb _ _ (h .1 .1)) refl
+
+  refused-outcome : (a : Answer PartMet) (t : Bool) → Untouched output (Outcome a t)
+  refused-outcome (refusal f) t h = (refl, refl)
+  refused-outcome (accepted m) true h = untouched-room new output h
+  refused-outcome (accepted m) false h = (refl, refl)
+
+  refused-save : Untouched output (save stored opened new output)
+  refused-save = rw save-is (refused-outcome (decode partMet new) (same stored opened))
+
+refused-put : RefusedPut
+unfolding putGaps
+refused-put file limit size gaps output = go (decode partMet file)
+  where
+    within : (bytes : List ℕ) (t : Bool) → Untouched output (pick t (writtenInto bytes output) (unwritten 6 output))
+    within bytes true h = untouched-room bytes output h
+    within bytes false h = (refl, refl)
+
+    fits : (m : PartMet) (t : Bool) → let bytes = encodePartMet (withGaps gaps m) in
+        Untouched output (pick t (pick (leb (length bytes) metCeiling) (writtenInto bytes output) (unwritten 6 output)) (unwritten 8 output))
+    fits m true h = let bytes = encodePartMet (withGaps gaps m) in within bytes (leb (length bytes) metCeiling) h
+    fits m false h = (refl, refl)
+
+    go : (a : Answer PartMet) → Untouched output (putAfter a limit size gaps output)
+    go (refusal f) h = (refl, refl)
+    go (accepted m) h = fits m (fitting limit size gaps m) h
+
+-- Demand 2
+
+write-exact : WriteExact
+write-exact k m output w hb h = (accepted-valid k m output hb h, valid-accepted k m output h)
+
+written-back : WrittenBack
+written-back k m s output w hb e (refuses n j f) = absurd (f (judged-once k m j (read-judged k m s hb e)))
+written-back k m s output w hb e (tries j) = ap (λ l. writtenInto l output) (reads-writes k m s hb e)
+
+-- What an accepted marking says: it was allowed, the gaps are what is left, and the number is their count.
+module _ (limit size : ℕ) (gaps : List Gap) (r : Gap) where
+  abbrev left : List Gap
+  left = subtract gaps (r .start) (r .end)
+
+  abbrev Marked : List Gap → ℕ → Type 0
+  Marked l n = ((lawful limit size gaps && inside size (r .start) (r .end)) ≡ true) × ((length left ≤ gapLimit) × ((left ≡ l) × (count (missing left) size ≡ n)))
+
+  leaves-marked : {l : List Gap} {n : ℕ} → oneMarking limit size gaps r ≡ leaves l n → Marked l n
+  unfolding marking
+  leaves-marked {l} {n} e = go (lawful limit size gaps && inside size (r .start) (r .end)) (leb (length left) gapLimit) refl refl e
+    where
+      go : (t u : Bool) → (lawful limit size gaps && inside size (r .start) (r .end)) ≡ t → leb (length left) gapLimit ≡ u →
+          cond t (cond u (leaves left (count (missing left) size)) (rejected 6)) (rejected 8) ≡ leaves l n → Marked l n
+      go true true p q e = (p, (leb-true _ _ q, (cc, cc)))
+      go true false p q e = differ cc
+      go false u p q e = differ cc
+
+true-count : TrueCount
+true-count limit size gaps r l n e =
+    let m = leaves-marked limit size gaps r e in
+    let allowed = both-true (lawful limit size gaps) (inside size (r .start) (r .end)) (m .0) in
+    let order = ltb-true (r .start) (r .end) (both-true (ltb (r .start) (r .end)) (leb (r .end) size) (allowed .1) .0) in
+    let lawful = subtract-lawful limit size gaps (r .start) (r .end) order (m .1 .0) (lawful-exactly limit size gaps .0 (allowed .0)) in
+    (subst (Lawful limit size) (m .1 .1 .0) lawful, sym (m .1 .1 .1) ∙ ap (λ l. count (missing l) size) (m .1 .1 .0))
+
+-- One marking more at the front.
+one-before : (gaps : List Gap) (r : Gap) (limit size x : ℕ) (m : Marking) → oneMarking limit size gaps r ≡ m → (others : List Gap) (after : Bool) →
+    after ≡ (missing (gapsAfter gaps m) x && not (missing others x)) → after ≡ (missing gaps x && not (missing (acceptedIn r m others) x))
+unfolding missing
+one-before gaps r limit size x (rejected n) e others after h = h
+one-before gaps r limit size x (leaves l n) e others after h =
+    let m = leaves-marked limit size gaps r e in
+    let arrived : missing l x ≡ (missing gaps x && not (within (r .start) (r .end) x)) = ap (λ l. missing l x) (sym (m .1 .1 .0)) ∙ missing-subtract gaps (r .start) (r .end) x in
+    h ∙ ap (λ t. t && not (missing others x)) arrived ∙ outside-both (missing gaps x) (within (r .start) (r .end) x) (missing others x)
+
+missing-at-end : MissingAtEnd
+unfolding gapsAtEnd acceptedRanges missing
+missing-at-end limit size gaps [] x = sym (and-true (missing gaps x))
+missing-at-end limit size gaps (r ∷ ranges) x =
+    let m = oneMarking limit size gaps r in
+    one-before gaps r limit size x m refl (acceptedRanges limit size (gapsAfter gaps m) ranges) _ (missing-at-end limit size (gapsAfter gaps m) ranges x)
+
+pub demands : Demands
+demands = record {
+  ceilingFirst = ceiling-first;
+  oneSize = nine;
+  refusedWrite = refused-write;
+  refusedSave = refused-save;
+  refusedPut = refused-put;
+  conflict = conflict;
+  saved = saved;
+  writeOnce = λ k m output v w. writes-once k m output;
+  writeExact = write-exact;
+  writtenBack = written-back;
+  readBack = λ k m output w. writes-reads k m output;
+  missingAtEnd = missing-at-end;
+  trueCount = true-count;
+  trueSearch = holds-exactly;
+  acceptsExactly = accepts;
+  unambiguous = unambiguous;
+}
