@@ -1,11 +1,12 @@
-use Prim.Native.Nat.{_≤_, _-_}
-use mathlib.Core.Path.{_≡_, refl, sym}
+-- Block by block, then byte by byte: from place i on the runs are still to be compared.
+use Prim.Native.Nat.{_+_, _≤_, _-_}
+use mathlib.Core.Path.{_≡_, refl, sym, _∙_}
 use native.Mathlib.Omega.{arith}
 use lib.ListN.{drop}
 use denote.Ref.{now}
 use Rattle.format.specs.Tables.{same}
 use Rattle.format.proofs.PartTags.{same-lengths}
-use Rattle.put.proofs.Laws.{same-next, same-stop, same-done}
+use Rattle.put.proofs.Laws.{same-agree, same-block}
 use Rattle.put.proofs.same.Statement.{statement}
 use Rattle.put.proofs.same.Tie as tie
 
@@ -21,17 +22,17 @@ returns c = sym (same-lengths _ _ (c .if1 .taken))
 loop-holds : tie.Need-loop-holds Inv-loop μ-loop
 loop-holds c = (omega arith, refl)
 
-shared-slice-read-if2 : tie.Need-shared-slice-read-if2 Inv-loop μ-loop
-shared-slice-read-if2 c = omega arith
+sub-loop : tie.Need-sub-loop Inv-loop μ-loop
+sub-loop c = omega arith
 
-shared-slice-read-if2-2 : tie.Need-shared-slice-read-if2-2 Inv-loop μ-loop
-shared-slice-read-if2-2 c = omega arith
+differing-requires : tie.Need-differing-requires Inv-loop μ-loop
+differing-requires c κs = (omega arith, omega arith)
 
 returns-2 : tie.Need-returns-2 Inv-loop μ-loop
 returns-2 c =
-    let l = c .before .before .before .before .loop in
-    let a = c .before .before .before .before .before .before .args in
-    sym (same-stop (now (a .a)) (now (a .b)) (l .i) (l .inv .1) (omega arith) (omega arith) (c .if2 .taken))
+    let a = c .before .before .before .before .before .before .before .args in
+    let i = c .before .before .before .loop .i in
+    sym (same-agree (now (a .a)) (now (a .b)) i 128 (λ agree. c .if2 .taken (c .before .differing .ensures .1 agree)))
 
 add-i : tie.Need-add-i Inv-loop μ-loop
 add-i c = omega arith
@@ -41,15 +42,16 @@ loop-less c = omega arith
 
 loop-again : tie.Need-loop-again Inv-loop μ-loop
 loop-again c =
-    let l = c .before .before .before .before .loop in
-    let a = c .before .before .before .before .before .before .args in
-    (omega arith, same-next (now (a .a)) (now (a .b)) (l .i) (l .inv .1) (omega arith) (omega arith) (c .if2 .left))
+    let a = c .before .before .before .before .before .before .before .args in
+    let l = c .before .before .before .loop in
+    let agree = c .before .differing .ensures .0 (c .if2 .left) in
+    (omega arith, same-block (now (a .a)) (now (a .b)) (l .i) 128 (omega arith) (omega arith) (l .inv .1) agree)
+
+same-from-requires : tie.Need-same-from-requires Inv-loop μ-loop
+same-from-requires c κs = (omega arith, omega arith)
 
 returns-3 : tie.Need-returns-3 Inv-loop μ-loop
-returns-3 c =
-    let l = c .before .loop in
-    let a = c .before .before .before .args in
-    sym (same-done (now (a .a)) (now (a .b)) (l .i) (l .inv .1) (omega arith) (omega arith))
+returns-3 c = c .same-from .ensures ∙ sym (c .before .before .loop .inv .1)
 
 pub same-spec : {M : Type 1} → statement M
 same-spec =
@@ -59,10 +61,11 @@ same-spec =
     μ-loop
     returns
     loop-holds
-    shared-slice-read-if2
-    shared-slice-read-if2-2
+    sub-loop
+    differing-requires
     returns-2
     add-i
     loop-less
     loop-again
+    same-from-requires
     returns-3)
