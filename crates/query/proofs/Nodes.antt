@@ -22,7 +22,14 @@ query-node d s at =
     andThen-same s (decodeCode queryCases s at) _ _ (λ c at. case-node (decodeQueryIn d) c s at)
     ∙ sym (regroup s (decodeCode queryCases s at) decodeNodeOf (decodeSides (decodeQueryIn d)))
 
--- The same for code that counts the depth that is left.
-pub query-left : (left : ℕ) → (left ≡ 0 → ⊥) → (s : List ℕ) (at : ℕ) →
-    decodeQueryIn left s at ≡ andThen s (decodeNode s at) (decodeSides (decodeQueryIn (left - 1)))
-query-left left some s at = let k : left ≡ suc (left - 1) = omega arith in ap (λ d. decodeQueryIn d s at) k ∙ query-node (left - 1) s at
+-- The same for code that counts the depth that is left: by the case that the first byte tells, and by the first node.
+module _ (left : ℕ) (deep : left ≡ 0 → ⊥) (s : List ℕ) (at : ℕ) where
+  down : left ≡ suc (left - 1)
+  down = omega arith
+
+  pub query-case : decodeQueryIn left s at ≡ andThen s (decodeCode queryCases s at) (decodeCase (decodeQueryIn (left - 1)))
+  unfolding decodeQueryIn
+  query-case = ap (λ d. decodeQueryIn d s at) down
+
+  pub query-left : decodeQueryIn left s at ≡ andThen s (decodeNode s at) (decodeSides (decodeQueryIn (left - 1)))
+  query-left = ap (λ d. decodeQueryIn d s at) down ∙ query-node (left - 1) s at

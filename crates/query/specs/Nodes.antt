@@ -1,11 +1,11 @@
 -- A query, taken apart: its first node, and the two sides that follow if the node is a join.
 use mathlib.Core.List.{List}
-use Prim.Native.Nat.{ℕ, max}
+use Prim.Native.Nat.{ℕ}
 use Rattle.format.specs.Messages as messages
 use Rattle.format.specs.Messages.{Operator, Bound, Query}
 use Rattle.format.specs.Rules.{depth}
 use Rattle.format.specs.Decoding.{Outcome, refused, got, Decoder, _>>=_, pure}
-use Rattle.format.specs.Order.{decodeCode, decodeString, decodeName, decodeDword, operators, bounds, decodeQueryIn}
+use Rattle.format.specs.Order.{decodeCode, decodeString, decodeName, decodeDword, operators, bounds}
 use Rattle.format.specs.Order.{QueryCase, isJoin, isKeyword, isField, isLimit, queryCases}
 
 pub data Node : Type 0 where
@@ -47,17 +47,13 @@ decodeSides side (keyword t) = pure (messages.keyword t)
 decodeSides side (field t n) = pure (messages.field t n)
 decodeSides side (limit v b n) = pure (messages.limit v b n)
 
+-- The node as a leaf: its depth is 1.
+unfoldable pub decodeLeaf : Decoder ℕ
+decodeLeaf = do
+  n ← decodeNode
+  pure 1
+
 -- The depth of a query that was decoded, in place of the query.
 unfoldable pub depths : Outcome Query → Outcome ℕ
 depths (refused f) = refused f
 depths (got q next) = got (depth q) next
-
-abbrev pub decodeDepthIn : ℕ → Decoder ℕ
-decodeDepthIn d = λ s at. depths (decodeQueryIn d s at)
-
--- The depth of the deeper of two queries, one behind the other.
-unfoldable pub decodeDeeper : ℕ → Decoder ℕ
-decodeDeeper d = do
-  m ← decodeDepthIn d
-  n ← decodeDepthIn d
-  pure (max m n)

@@ -6,14 +6,14 @@
 // specs/Nodes.antt takes a query apart in the format's terms, specs/Meaning.antt says what each answer stands for.
 ghost use mathlib.Core.Path.{_≡_};
 ghost use mathlib.Core.Logic.{_↔_};
-ghost use Prim.Native.Nat.{max};
+ghost use Prim.Native.Nat.{max, _-_, _<_};
 ghost use Rattle.format.specs.Messages as messages;
 ghost use Rattle.format.specs.Layout.{encodeQuery};
 ghost use Rattle.format.specs.Rules.{Valid};
 ghost use Rattle.format.specs.Decoding.{message, reply};
-ghost use Rattle.format.specs.Order.{decodeCode, operators, bounds, isJoin, isKeyword, isField, isLimit, decodeQueryIn, decodeQuery};
+ghost use Rattle.format.specs.Order.{decodeCode, operators, bounds, isJoin, isKeyword, isField, isLimit, decodeCase, decodeQueryIn, decodeQuery};
 ghost use Rattle.format.specs.MetOrder.{decode};
-ghost use Rattle.query.specs.Nodes.{decodeNodeOf, decodeNode, depths, decodeDeeper};
+ghost use Rattle.query.specs.Nodes.{decodeNodeOf, decodeNode, decodeLeaf, depths};
 ghost use Rattle.query.specs.Meaning.{operatorMeaning, boundMeaning, nodeMeaning, NodeStepInside, depthMeaning, queryMeaning, queryReply};
 ghost use Rattle.query.specs.Meaning.{operatorFault, boundFault, nodeFault, depthFault, queryFault};
 ghost use Rattle.query.specs.Meaning.{QueryStepPlaced, QueryAnswerPlaced};
@@ -24,6 +24,11 @@ use wire::Fault;
 use wire::Place;
 use wire::PlaceStep;
 use wire::Rule;
+
+// A lone query has at most as many bytes as a packet.
+const PACKET_CEILING: usize = 65536;
+
+const DEPTH_LIMIT: usize = 24;
 
 pub enum Operator {
     And,
@@ -140,7 +145,7 @@ impl QueryStep {
     }
 }
 
-pub fn read_operator(s: &[u8], c: Cursor) -> OperatorStep
+pub fn read_operator_code(s: &[u8], c: Cursor) -> OperatorStep
     ensures { λ r. ⌜ operatorMeaning r ≡ decodeCode operators (now (s .entry)) (c .at) ⌝ }
 {
     let b = c.byte(s);
@@ -183,7 +188,7 @@ fn read_join(s: &[u8], c: Cursor) -> NodeStep
     ensures { λ r. ⌜ nodeMeaning (now (s .entry)) r ≡ decodeNodeOf isJoin (now (s .entry)) (c .at) ⌝ }
     ensures inside { λ r. ⌜ NodeStepInside (now (s .entry)) r ⌝ }
 {
-    let o = read_operator(s, c);
+    let o = read_operator_code(s, c);
     let OperatorStep::Got(operator, next) = o else {
         return NodeStep::Refused(o.fault());
     };
@@ -263,9 +268,20 @@ fn larger(m: usize, n: usize) -> usize
     if m < n { n } else { m }
 }
 
+// The leaf at the cursor: its depth, and the cursor behind it.
+fn read_leaf(s: &[u8], c: Cursor) -> DepthStep
+    ensures { λ r. ⌜ depthMeaning r ≡ decodeLeaf (now (s .entry)) (c .at) ⌝ }
+{
+    let n = read_node(s, c);
+    let NodeStep::Got(_, next) = n else {
+        return DepthStep::Refused(n.fault());
+    };
+    DepthStep::Got(1, next)
+}
+
 // A query of at most `left` depth: its own depth, and the cursor behind it. One that would begin below `left` is refused before its
-// first byte is looked at. A query calls for its operator's sides with one less left, an operator for two queries, one behind the
-// other, so every byte is read once and the calls are at most as deep as `left`, whatever the bytes are.
+// first byte is looked at. A query asks for the reading of its operator, an operator for that of two queries with one less left, one
+// behind the other, so every byte is read once and the calls are at most as deep as `left`, whatever the bytes are.
 pub fn read_query_in(s: &[u8], c: Cursor, left: usize) -> DepthStep
     ensures { λ r. ⌜ depthMeaning r ≡ depths (decodeQueryIn left (now (s .entry)) (c .at)) ⌝ }
 {
@@ -276,47 +292,44 @@ pub fn read_query_in(s: &[u8], c: Cursor, left: usize) -> DepthStep
             size: 0,
         });
     }
-    let n = read_node(s, c);
-    let NodeStep::Got(node, next) = n else {
-        return DepthStep::Refused(n.fault());
+    let b = c.byte(s);
+    let ByteStep::Got(code, next) = b else {
+        return DepthStep::Refused(b.fault());
     };
-    match node {
-        Node::Join(_) => {
-            let d = read_operator_sides(s, next, left - 1);
-            let DepthStep::Got(deeper, end) = d else {
-                return DepthStep::Refused(d.fault());
-            };
-            let depth = deeper + 1;
-            DepthStep::Got(depth, end)
-        }
-        Node::Keyword(_) => DepthStep::Got(1, next),
-        Node::Field(_, _) => DepthStep::Got(1, next),
-        Node::Limit(_, _, _) => DepthStep::Got(1, next),
+    if code == 0 {
+        return read_operator(s, next, left);
     }
+    read_leaf(s, c)
 }
 
-// The two queries behind an operator, each of at most `left` depth: the depth of the deeper one, and the cursor behind both.
-fn read_operator_sides(s: &[u8], c: Cursor, left: usize) -> DepthStep
-    ensures { λ r. ⌜ depthMeaning r ≡ decodeDeeper left (now (s .entry)) (c .at) ⌝ }
+// The operator and the two sides of a join of at most `left` depth: the depth of the join, and the cursor behind it.
+fn read_operator(s: &[u8], c: Cursor, left: usize) -> DepthStep
+    requires { ⌜ 0 < left ⌝ }
+    ensures { λ r. ⌜ depthMeaning r ≡ depths (decodeCase (decodeQueryIn (left - 1)) isJoin (now (s .entry)) (c .at)) ⌝ }
 {
-    let a = read_query_in(s, c, left);
-    let DepthStep::Got(m, middle) = a else {
+    let o = read_operator_code(s, c);
+    let OperatorStep::Got(_, first) = o else {
+        return DepthStep::Refused(o.fault());
+    };
+    let side = left - 1;
+    let a = read_query_in(s, first, side);
+    let DepthStep::Got(m, second) = a else {
         return DepthStep::Refused(a.fault());
     };
-    let b = read_query_in(s, middle, left);
+    let b = read_query_in(s, second, side);
     let DepthStep::Got(n, end) = b else {
         return DepthStep::Refused(b.fault());
     };
-    let deeper = larger(m, n);
-    DepthStep::Got(deeper, end)
+    let depth = larger(m, n) + 1;
+    DepthStep::Got(depth, end)
 }
 
-// A query as packets hold it, of depth 24 at most.
+// A query as packets hold it.
 pub fn read_query(s: &[u8], c: Cursor) -> QueryStep
     ensures meaning { λ r. ⌜ queryMeaning (now (s .entry)) r ≡ decodeQuery (now (s .entry)) (c .at) ⌝ }
     ensures placed { λ r. ⌜ QueryStepPlaced (now (s .entry)) r ⌝ }
 {
-    let d = read_query_in(s, c, 24);
+    let d = read_query_in(s, c, DEPTH_LIMIT);
     let DepthStep::Got(depth, next) = d else {
         return QueryStep::Refused(d.fault());
     };
@@ -333,7 +346,7 @@ pub fn read_lone_query(s: &[u8]) -> QueryAnswer
     ensures demand3 { λ r. ⌜ ((m : messages.Query) →
         (queryReply (now (s .entry)) r ≡ message m) ↔ ((now (s .entry) ≡ encodeQuery m) × Valid messages.loneQuery m)) ⌝ }
 {
-    if 65536 < s.len() {
+    if PACKET_CEILING < s.len() {
         return QueryAnswer::Refused(wire::number(Rule::BytesCeiling));
     }
     let q = read_query(s, Cursor { at: 0 });

@@ -3,8 +3,8 @@ use borrow.Author.Needs.{needs}
 use Rattle.query.proofs.read_join.Statement.{statement}
 use Rattle.query.proofs.read_join.Tie as tie
 
-read-operator-requires : tie.Need-read-operator-requires
-read-operator-requires c κs = search needs
+read-operator-code-requires : tie.Need-read-operator-code-requires
+read-operator-code-requires c κs = search needs
 
 enum-known-o : tie.Need-enum-known-o
 enum-known-o c = search needs
@@ -16,12 +16,12 @@ fault-requires : tie.Need-fault-requires
 fault-requires c κs = search needs
 
 returns : tie.Need-returns
-returns c = rw (c .fault .ensures, ← c .before .before .before .read-operator .ensures, c .before .enum-told .given .1) (refl, tt)
+returns c = rw (c .fault .ensures, ← c .before .before .before .read-operator-code .ensures, c .before .enum-told .given .1) (refl, tt)
 
 returns-2 : tie.Need-returns-2
-returns-2 c = rw (← c .before .before .before .read-operator .ensures, c .before .o .given .1) (refl, tt)
+returns-2 c = rw (← c .before .before .before .read-operator-code .ensures, c .before .o .given .1) (refl, tt)
 
 pub read-join-spec : {M : Type 1} → statement M
 read-join-spec =
     tie.close
-    (tie.spec read-operator-requires enum-known-o enum-told fault-requires returns returns-2)
+    (tie.spec read-operator-code-requires enum-known-o enum-told fault-requires returns returns-2)

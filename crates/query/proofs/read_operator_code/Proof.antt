@@ -2,8 +2,8 @@ use mathlib.Core.Path.{refl}
 use borrow.Author.Tests.{ne-eqb}
 use Rattle.format.specs.Order.{decodeCode}
 use borrow.Author.Needs.{needs}
-use Rattle.query.proofs.read_operator.Statement.{statement}
-use Rattle.query.proofs.read_operator.Tie as tie
+use Rattle.query.proofs.read_operator_code.Statement.{statement}
+use Rattle.query.proofs.read_operator_code.Tie as tie
 
 byte-requires : tie.Need-byte-requires
 byte-requires c κs = search needs
@@ -40,8 +40,8 @@ returns-5 c =
     rw (← b .before .before .byte .ensures, b .b .given .1)
     (rw (ne-eqb _ _ (c .match2 .rest .0 .0 .1), ne-eqb _ _ (c .match2 .rest .0 .1), ne-eqb _ _ (c .match2 .rest .1)) refl)
 
-pub read-operator-spec : {M : Type 1} → statement M
-read-operator-spec =
+pub read-operator-code-spec : {M : Type 1} → statement M
+read-operator-code-spec =
     tie.close
     (tie.spec
     byte-requires
