@@ -1,4 +1,5 @@
-//! Links the archive that ED2K_ARCHIVE names, or the one that `rt staticlib ed2k` made in the repository.
+//! Links the archive that ED2K_ARCHIVE names, or the one that `rt staticlib ed2k` made in the
+//! repository.
 
 use std::path::PathBuf;
 use std::{env, fs};
@@ -10,7 +11,8 @@ fn main() {
     println!("cargo:rerun-if-changed={}", archive.display());
     let folder = PathBuf::from(env::var_os("OUT_DIR").expect("cargo sets OUT_DIR"));
     if let Err(error) = fs::copy(&archive, folder.join("libed2k_proved.a")) {
-        panic!("the archive {} cannot be read ({error}); `rt staticlib ed2k` makes it", archive.display());
+        let archive = archive.display();
+        panic!("the archive {archive} cannot be read ({error}); `rt staticlib ed2k` makes it");
     }
     println!("cargo:rustc-link-search=native={}", folder.display());
     println!("cargo:rustc-link-lib=static=ed2k_proved");
