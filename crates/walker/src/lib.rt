@@ -1,22 +1,22 @@
 // The tag walker: it holds a lent tag list and a place in it, and gives tag after tag.
 //
-// A walker is made of the bytes of a tag list with its count. `next` gives the tag at its place, with the place behind it and how
-// many tags are left; or that there are no more; or the number of a refusal. `moved` puts a walker at such a place:
+// A walker is made of the bytes of a tag list with its count. `next` gives the tag at its place and moves it behind that tag; or it says that
+// there are no more, or gives the number of a refusal:
 //
 //     let mut w = walker::new(tags);
 //     loop {
-//         match walker::next(w) {
-//             WalkStep::Tag(tag, at, left) => { .. w = walker::moved(w, at, left); }
+//         match walker::next(&mut w) {
+//             WalkStep::Tag(tag) => { .. }
 //             WalkStep::End => { .. }
 //             WalkStep::Refused(n) => { .. }
 //         }
 //     }
 //
-// At a refusal the walker stays where it is: it was passed by value, and the refusal is given again by the next call.
-// All the work is done by `walk_at`, over plain bytes and numbers, which serves a caller that keeps the place by itself.
-// specs/Walk.antt says what the next tag is.
+// At the end and at a refusal the walker stays at its place, and the next call gives the same again. A walk from `new` gives the tags that
+// `tags::read_tag_list` accepts, and then the end; or it comes to the number with which that refuses the bytes (specs/Walk.antt).
+ghost use denote.Ref.{now};
+ghost use Rattle.walker.specs.Walk.{walkFrom, walkAt, Walked, begun, Next};
 ghost use mathlib.Core.Path.{_≡_};
-ghost use Rattle.walker.specs.Walk.{walkFrom, walkAt, walkMeaning, WalkStepInside};
 use tags::Tag;
 use tags::TagStep;
 use tags::read_tag;
@@ -27,57 +27,86 @@ use wire::number;
 
 // The place 0 stands for the beginning, where the count is still to be read: no tag begins there. There `left` has no meaning.
 pub struct TagWalker<'a> {
-    pub tags: &'a [u8],
-    pub at: usize,
-    pub left: u32,
+    tags: &'a [u8],
+    at: usize,
+    left: u32,
 }
 
-// A tag, the place behind it and how many tags are left there; or that there are no more; or the number of a refusal.
+// A tag; or that there are no more; or the number of a refusal.
 pub enum WalkStep {
-    Tag(Tag, usize, u32),
+    Tag(Tag),
     End,
     Refused(u8),
 }
 
-// The tag at a place behind the count.
-fn walk_from(s: &[u8], at: usize, left: u32) -> WalkStep
-    ensures { λ r. ⌜ (walkMeaning (now (s .entry)) r ≡ walkFrom (now (s .entry)) at left) × WalkStepInside (now (s .entry)) r ⌝ }
-{
-    if left == 0 {
-        if at < s.len() {
-            return WalkStep::Refused(number(Rule::Rest));
-        }
-        return WalkStep::End;
-    }
-    let t = read_tag(s, Cursor { at });
-    let TagStep::Got(tag, next) = t else {
-        let f = t.fault();
-        let rule = f.rule;
-        return WalkStep::Refused(number(rule));
-    };
-    let behind = next.at;
-    WalkStep::Tag(tag, behind, left - 1)
+// A step, and where the walker stands afterwards.
+struct Moved {
+    step: WalkStep,
+    at: usize,
+    left: u32,
 }
 
-// The tag at any place of a tag list.
-pub fn walk_at(s: &[u8], at: usize, left: u32) -> WalkStep
-    ensures { λ r. ⌜ (walkMeaning (now (s .entry)) r ≡ walkAt (now (s .entry)) at left) × WalkStepInside (now (s .entry)) r ⌝ }
+// The step of a walker whose next tag is at `from`, the first of `count`. It stands at `at`, with `left`, and stays there if it gets no tag.
+fn walk_from(s: &[u8], from: usize, count: u32, at: usize, left: u32) -> Moved
+    ensures { λ r. ⌜ Walked (now (s .entry)) (walkFrom (now (s .entry)) from count) at left r ⌝ }
 {
-    if at == 0 {
-        let d = Cursor { at: 0 }.dword(s);
-        let DwordStep::Got(count, first) = d else {
-            let f = d.fault();
-            let rule = f.rule;
-            return WalkStep::Refused(number(rule));
+    if count == 0 {
+        if from < s.len() {
+            return Moved {
+                step: WalkStep::Refused(number(Rule::Rest)),
+                at,
+                left,
+            };
+        }
+        return Moved {
+            step: WalkStep::End,
+            at,
+            left,
         };
-        return walk_from(s, first.at, count);
     }
-    walk_from(s, at, left)
+    let t = read_tag(s, Cursor { at: from });
+    let TagStep::Got(tag, next) = t else {
+        return Moved {
+            step: WalkStep::Refused(t.fault().number()),
+            at,
+            left,
+        };
+    };
+    Moved {
+        step: WalkStep::Tag(tag),
+        at: next.at,
+        left: count - 1,
+    }
+}
+
+// The step of a walker at any place: at the beginning the byte ceiling and then the count come first.
+fn walk_at(s: &[u8], at: usize, left: u32) -> Moved
+    ensures { λ r. ⌜ Walked (now (s .entry)) (walkAt (now (s .entry)) at left) at left r ⌝ }
+{
+    if at != 0 {
+        return walk_from(s, at, left, at, left);
+    }
+    if 65536 < s.len() {
+        return Moved {
+            step: WalkStep::Refused(number(Rule::BytesCeiling)),
+            at,
+            left,
+        };
+    }
+    let d = Cursor { at: 0 }.dword(s);
+    let DwordStep::Got(count, first) = d else {
+        return Moved {
+            step: WalkStep::Refused(d.fault().number()),
+            at,
+            left,
+        };
+    };
+    walk_from(s, first.at, count, at, left)
 }
 
 // A walker at the beginning of a tag list.
 pub fn new<'a>(tags: &'a [u8]) -> TagWalker<'a>
-    ensures { λ r. ⌜ (r .tags ≡ tags .entry) × ((r .at ≡ 0) × (r .left ≡ 0)) ⌝ }
+    ensures { λ r. ⌜ r ≡ begun (tags .entry) ⌝ }
 {
     TagWalker {
         tags,
@@ -86,21 +115,12 @@ pub fn new<'a>(tags: &'a [u8]) -> TagWalker<'a>
     }
 }
 
-// The tag at the walker's place.
-pub fn next<'a>(w: TagWalker<'a>) -> WalkStep
-    ensures { λ r. ⌜ (walkMeaning (now (w .entry .tags)) r ≡ walkAt (now (w .entry .tags)) (w .entry .at) (w .entry .left))
-        × WalkStepInside (now (w .entry .tags)) r ⌝ }
+// The tag at the walker's place, or the end, or a refusal; a tag moves the walker behind it.
+pub fn next<'s, 'a>(w: &'s mut TagWalker<'a>) -> WalkStep
+    ensures { λ r. ⌜ Next (now (w .entry)) r (now (w .exit)) ⌝ }
 {
-    walk_at(w.tags, w.at, w.left)
-}
-
-// The walker at another place.
-pub fn moved<'a>(w: TagWalker<'a>, at: usize, left: u32) -> TagWalker<'a>
-    ensures { λ r. ⌜ (r .tags ≡ w .entry .tags) × ((r .at ≡ at) × (r .left ≡ left)) ⌝ }
-{
-    TagWalker {
-        tags: w.tags,
-        at,
-        left,
-    }
+    let m = walk_at(w.tags, w.at, w.left);
+    w.at = m.at;
+    w.left = m.left;
+    m.step
 }

@@ -11,12 +11,14 @@ number-requires c κs = search needs
 returns : tie.Need-returns
 unfolding walkFrom
 returns c =
-    let at = c .before .before .before .before .args .at in
-    rw (c .number .ensures, eq-eqb _ 0 (c .before .before .if1 .taken), lt-ltb at _ (c .before .if2 .taken)) (refl, tt)
+    let from = c .before .before .before .before .args .from in
+    rw (c .number .ensures, eq-eqb _ 0 (c .before .before .if1 .taken), lt-ltb from _ (c .before .if2 .taken)) (refl, ((refl, refl), tt))
 
 returns-2 : tie.Need-returns-2
 unfolding walkFrom
-returns-2 c = rw (eq-eqb _ 0 (c .before .if1 .taken), le-ltb (c .before .before .before .args .at) _ (c .if2 .left)) (refl, tt)
+returns-2 c =
+    let from = c .before .before .before .args .from in
+    rw (eq-eqb _ 0 (c .before .if1 .taken), le-ltb from _ (c .if2 .left)) (refl, ((refl, refl), tt))
 
 read-tag-requires : tie.Need-read-tag-requires
 read-tag-requires c κs = search needs
@@ -38,17 +40,17 @@ unfolding walkFrom
 returns-3 c =
     let b = c .before .before in
     rw (c .number2 .ensures, c .before .fault .ensures, ne-eqb _ _ (b .before .before .before .if1 .left))
-    (rw (← b .before .before .read-tag .ensures .0, b .enum-told .given .1) (refl, tt))
+    (rw (← b .before .before .read-tag .ensures .0, b .enum-told .given .1) (refl, ((refl, refl), tt)))
 
-sub-t17 : tie.Need-sub-t17
-sub-t17 c = search needs
+sub-t21 : tie.Need-sub-t21
+sub-t21 c = search needs
 
 returns-4 : tie.Need-returns-4
 unfolding walkFrom
 returns-4 c =
     let b = c .before in
     rw (ne-eqb _ _ (b .before .before .before .if1 .left), ← b .before .before .read-tag .ensures .0, b .t .given .1)
-    (refl, rw (b .t .given .1) at (b .before .before .read-tag .ensures .1))
+    (refl, (tt, rw (b .t .given .1) at (b .before .before .read-tag .ensures .1)))
 
 pub walk-from-spec : {M : Type 1} → statement M
 walk-from-spec =
@@ -63,5 +65,5 @@ walk-from-spec =
     fault-requires
     number-requires-2
     returns-3
-    sub-t17
+    sub-t21
     returns-4)
