@@ -1,1 +1,2 @@
+pub mod TagEnds
 pub mod Walks

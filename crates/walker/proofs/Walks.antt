@@ -2,32 +2,31 @@
 use Prim.Native.Nat.{ℕ, zero, suc, _-_, _<_, _≤_}
 use mathlib.Core.Path.{_≡_, refl, sym, ap, _∙_, ap₂, subst, subst₂}
 use mathlib.Core.Bool.{Bool, true, false}
-use mathlib.Core.Logic.{_↔_, _⊎_, inl, inr}
+use mathlib.Core.Logic.{_⊎_, inl, inr}
 use mathlib.Core.List.{List, [], _∷_, map}
 use native.Mathlib.Omega.{arith}
-use lib.ListN.{length, length-append, length-drop}
+use lib.ListN.{length}
 use lib.Dec.{eqb, ltb, leb}
 use denote.Ref.{RefT, now}
-use borrow.Author.Tests.{eq-eqb, ne-eqb, ltb-true, ltb-false}
+use borrow.Author.Tests.{eq-eqb, ne-eqb, eqb-true, ltb-true, ltb-false}
 use Rattle.format.specs.Tables.{pick}
 use Rattle.format.specs.Messages as messages
 use Rattle.format.specs.Messages.{loneTags}
-use Rattle.format.specs.Rules.{Bytes, ceiling}
+use Rattle.format.specs.Rules.{ceiling}
 use Rattle.format.specs.Decoding.{fault, rest, bytesCeiling, Answer, Outcome, refused, got, andThen, pure, decodeMany, finish, accepted, refusal, refusedWith, reply}
 use Rattle.format.specs.Order.{decodeDword, decodeTag, decodeCounted, decodeTags}
 use Rattle.format.specs.MetOrder.{decode}
 use Rattle.format.proofs.Differ.{differ}
-use Rattle.format.proofs.Codec.{anywhere}
-use Rattle.format.proofs.Items.{codec-tag}
 use Rattle.format.proofs.There.{dword-ends}
 use Rattle.tags.specs.declared.Tag.{Tag}
 use Rattle.tags.specs.Meaning.{tagOf}
 use Rattle.walker.specs.declared.TagWalker.{TagWalker}
 use Rattle.walker.specs.declared.WalkStep.{WalkStep}
 use Rattle.walker.specs.Walk as walk
-use Rattle.walker.specs.Walk.{Walk, tag, end, walkOf, walkFrom, begin, walkAt, stepMeaning, begun, Next}
+use Rattle.walker.specs.Walk.{Walk, tag, end, walkOf, walkFrom, begin, walkAt, stepMeaning, begun}
+use Rattle.walker.proofs.TagEnds.{tag-ends}
 use Rattle.walker.specs.Walks as calls
-use Rattle.walker.specs.Walks.{Walks, stops, goes, WalkAccepts, WalkRefuses, WalkStops, Keeps, Calls, CallsAccept, CallsRefuse, CallsStop}
+use Rattle.walker.specs.Walks.{Walks, stops, goes, WalkTells, Keeps, Calls, CallsTell, TagMoves}
 
 -- A walk with these tags and this last step tells an answer.
 data Told (a : Answer (List messages.Tag)) : List messages.Tag → Walk → Type 0 where
@@ -74,86 +73,77 @@ module _ (s : List ℕ) where
   restart q (stops e) = stops (q ∙ e)
   restart q (goes e w) = goes (q ∙ e) w
 
-  module _ (hb : Bytes s) where
-    -- A tag lies in the bytes, behind the place where it begins.
-    inside : {at : ℕ} {t : messages.Tag} {next : ℕ} → at ≤ length s → decodeTag s at ≡ got t next → (at ≤ next) × (next ≤ length s)
-    inside {at} {t} {next} h e =
-        let f = codec-tag {p = anywhere} .sound s hb at h t next e tt in
-        let k = f .inside in
-        let n = ap length (f .bytes) in
-        (omega (arith, simp (length-append, length-drop) at n), k)
+  -- The walk over no tags from a place on, and over one more than a walk from each later place.
+  last-step : (at : ℕ) → 0 < at → at ≤ length s → (b : Bool) → ltb at (length s) ≡ b → Whole s at 0 (finish s (got [] at))
+  last-step at some h true q = record {
+    tags = [];
+    last = walk.refusal 7;
+    walks = stops (step-none at some ∙ rw q refl);
+    told = refuses {k = 7} (rw (ne-eqb at (length s) (λ e. omega (arith, ltb-true at (length s) q))) refl);
+  }
+  last-step at some h false q = record {
+    tags = [];
+    last = end;
+    walks = stops (step-none at some ∙ rw q refl);
+    told = accepts {l = []} (rw (eq-eqb at (length s) (omega (arith, ltb-false at (length s) q))) refl);
+  }
 
-    -- The walk over no tags from a place on, and over one more than a walk from each later place.
-    last-step : (at : ℕ) → 0 < at → at ≤ length s → (b : Bool) → ltb at (length s) ≡ b → Whole s at 0 (finish s (got [] at))
-    last-step at some h true q = record {
-      tags = [];
-      last = walk.refusal 7;
-      walks = stops (step-none at some ∙ rw q refl);
-      told = refuses {k = 7} (rw (ne-eqb at (length s) (λ e. omega (arith, ltb-true at (length s) q))) refl);
-    }
-    last-step at some h false q = record {
-      tags = [];
-      last = end;
-      walks = stops (step-none at some ∙ rw q refl);
-      told = accepts {l = []} (rw (eq-eqb at (length s) (omega (arith, ltb-false at (length s) q))) refl);
-    }
+  one-more : (n at : ℕ) → 0 < at → ((next : ℕ) → 0 < next → next ≤ length s → Whole s next n (finish s (decodeMany n decodeTag s next))) →
+      (o : Outcome messages.Tag) → decodeTag s at ≡ o →
+      Whole s at (suc n) (finish s (andThen s o (λ t s at. andThen s (decodeMany n decodeTag s at) (λ l. pure (t ∷ l)))))
+  one-more n at some later (refused f) q = record {
+    tags = [];
+    last = walkOf (refused f) n;
+    walks = stops (step-some at n some ∙ ap (λ o. walkOf o n) q);
+    told = refuses refl;
+  }
+  one-more n at some later (got t next) q =
+      let i = tag-ends s q in
+      let w = later next (omega (arith, i .0)) (i .1) in
+      record {
+        tags = t ∷ w .tags;
+        last = w .last;
+        walks = goes (step-some at n some ∙ ap (λ o. walkOf o n) q) (w .walks);
+        told = told-cons s t (decodeMany n decodeTag s next) (w .told);
+      }
 
-    one-more : (n at : ℕ) → 0 < at → at ≤ length s → ((next : ℕ) → 0 < next → next ≤ length s → Whole s next n (finish s (decodeMany n decodeTag s next))) →
-        (o : Outcome messages.Tag) → decodeTag s at ≡ o →
-        Whole s at (suc n) (finish s (andThen s o (λ t s at. andThen s (decodeMany n decodeTag s at) (λ l. pure (t ∷ l)))))
-    one-more n at some h later (refused f) q = record {
-      tags = [];
-      last = walkOf (refused f) n;
-      walks = stops (step-some at n some ∙ ap (λ o. walkOf o n) q);
-      told = refuses refl;
-    }
-    one-more n at some h later (got t next) q =
-        let i = inside h q in
-        let w = later next (omega (arith, i .0)) (i .1) in
-        record {
-          tags = t ∷ w .tags;
-          last = w .last;
-          walks = goes (step-some at n some ∙ ap (λ o. walkOf o n) q) (w .walks);
-          told = told-cons s t (decodeMany n decodeTag s next) (w .told);
-        }
+  from : (n at : ℕ) → 0 < at → at ≤ length s → Whole s at n (finish s (decodeMany n decodeTag s at))
+  from zero at some h = last-step at some h (ltb at (length s)) refl
+  from (suc n) at some h = one-more n at some (λ next. from n next) (decodeTag s at) refl
 
-    from : (n at : ℕ) → 0 < at → at ≤ length s → Whole s at n (finish s (decodeMany n decodeTag s at))
-    from zero at some h = last-step at some h (ltb at (length s)) refl
-    from (suc n) at some h = one-more n at some h (λ next. from n next) (decodeTag s at) refl
+  -- At the beginning come the ceiling and the count.
+  start : (b : Bool) → leb (length s) (ceiling loneTags) ≡ b → walkAt s 0 0 ≡ pick b (begin s (decodeDword s 0)) (walk.refusal 6)
+  unfolding walkAt
+  start b q = rw q refl
 
-    -- At the beginning come the ceiling and the count.
-    start : (b : Bool) → leb (length s) (ceiling loneTags) ≡ b → walkAt s 0 0 ≡ pick b (begin s (decodeDword s 0)) (walk.refusal 6)
-    unfolding walkAt
-    start b q = rw q refl
+  counted : leb (length s) (ceiling loneTags) ≡ true → (o : Outcome ℕ) → decodeDword s 0 ≡ o →
+      Whole s 0 0 (finish s (andThen s o (λ n. decodeMany n decodeTag)))
+  counted c (refused f) q = record {
+    tags = [];
+    last = begin s (refused f);
+    walks = stops (start true c ∙ ap (begin s) q);
+    told = refuses refl;
+  }
+  counted c (got n first) q =
+      let d = dword-ends s 0 q in
+      let some : 0 < first = omega (arith, d .1) in
+      let w = from n first some (omega (arith, d .0, d .1)) in
+      record {
+        tags = w .tags;
+        last = w .last;
+        walks = restart (start true c ∙ ap (begin s) q ∙ sym (behind first n some)) (w .walks);
+        told = w .told;
+      }
 
-    counted : leb (length s) (ceiling loneTags) ≡ true → (o : Outcome ℕ) → decodeDword s 0 ≡ o →
-        Whole s 0 0 (finish s (andThen s o (λ n. decodeMany n decodeTag)))
-    counted c (refused f) q = record {
-      tags = [];
-      last = begin s (refused f);
-      walks = stops (start true c ∙ ap (begin s) q);
-      told = refuses refl;
-    }
-    counted c (got n first) q =
-        let d = dword-ends s 0 q in
-        let some : 0 < first = omega (arith, d .1) in
-        let w = from n first some (omega (arith, d .0, d .1)) in
-        record {
-          tags = w .tags;
-          last = w .last;
-          walks = restart (start true c ∙ ap (begin s) q ∙ sym (behind first n some)) (w .walks);
-          told = w .told;
-        }
+  by-ceiling : (b : Bool) → leb (length s) (ceiling loneTags) ≡ b →
+      Whole s 0 0 (pick b (finish s (decodeTags s 0)) (refusal (fault bytesCeiling 0 (length s))))
+  unfolding decodeTags decodeCounted
+  by-ceiling false c = record { tags = []; last = walk.refusal 6; walks = stops (start false c); told = refuses refl }
+  by-ceiling true c = counted c (decodeDword s 0) refl
 
-    by-ceiling : (b : Bool) → leb (length s) (ceiling loneTags) ≡ b →
-        Whole s 0 0 (pick b (finish s (decodeTags s 0)) (refusal (fault bytesCeiling 0 (length s))))
-    unfolding decodeTags decodeCounted
-    by-ceiling false c = record { tags = []; last = walk.refusal 6; walks = stops (start false c); told = refuses refl }
-    by-ceiling true c = counted c (decodeDword s 0) refl
-
-    whole : Whole s 0 0 (decode loneTags s)
-    unfolding decode
-    whole = by-ceiling (leb (length s) (ceiling loneTags)) refl
+  whole : Whole s 0 0 (decode loneTags s)
+  unfolding decode
+  whole = by-ceiling (leb (length s) (ceiling loneTags)) refl
 
 -- A walk stops at a step that is no tag, and two walks from one place are the same.
 abbrev Stop : Walk → Type 0
@@ -206,14 +196,14 @@ accepted-as (accepts e) = e
 refused-with : {a : Answer (List messages.Tag)} {l : List messages.Tag} {k : ℕ} → Told a l (walk.refusal k) → reply a ≡ refusedWith k
 refused-with (refuses e) = e
 
-pub walk-accepts : WalkAccepts
-walk-accepts s hb l = let x = whole s hb in (λ w. accepted-as (only-walk x tt w), λ e. ended (x .walks) (x .told) e)
-
-pub walk-refuses : WalkRefuses
-walk-refuses s hb l k w = refused-with (only-walk (whole s hb) tt w)
-
-pub walk-stops : WalkStops
-walk-stops s hb = let x = whole s hb in (x .tags, stopped (x .walks) (x .told))
+pub walk-tells : (s : List ℕ) → WalkTells s
+walk-tells s =
+    let x = whole s in
+    record {
+      accepts = λ l. (λ w. accepted-as (only-walk x tt w), λ e. ended (x .walks) (x .told) e);
+      refuses = λ l k w. refused-with (only-walk x tt w);
+      comes = (x .tags, stopped (x .walks) (x .told));
+    }
 
 -- What a step stands for tells the step.
 as-tag : (s : List ℕ) (r : WalkStep) (at left : ℕ) {t : messages.Tag} {next more : ℕ} → stepMeaning s r at left ≡ tag t next more →
@@ -265,12 +255,48 @@ module _ (next : TagWalker → WalkStep × TagWalker) (keeps : Keeps next) (tags
   found l (inl v) = let c = walk-calls WalkStep.End (as-end s) (begun tags) refl refl refl v in (c .0, inl (c .1))
   found l (inr v) = let c = walk-calls (WalkStep.Refused (v .0)) (as-refusal s) (begun tags) refl refl refl (v .1) in (c .0, inr (v .0, c .1))
 
-pub calls-accept : CallsAccept
-calls-accept next keeps tags hb l c = walk-accepts (now tags) hb (map (tagOf (now tags)) l) .0 (calls-walk next keeps tags end (λ at left. refl) refl c)
+pub calls-tell : (next : TagWalker → WalkStep × TagWalker) → Keeps next → (tags : RefT (List ℕ)) → CallsTell next tags
+calls-tell next keeps tags =
+    let x = walk-tells (now tags) in
+    record {
+      accepts = λ l c. x .accepts (map (tagOf (now tags)) l) .0 (calls-walk next keeps tags end (λ at left. refl) refl c);
+      refuses = λ l k c. x .refuses (map (tagOf (now tags)) l) k (calls-walk next keeps tags (walk.refusal k) (λ at left. refl) refl c);
+      comes = found next keeps tags (x .comes .0) (x .comes .1);
+    }
 
-pub calls-refuse : CallsRefuse
-calls-refuse next keeps tags hb l k c =
-    walk-refuses (now tags) hb (map (tagOf (now tags)) l) k (calls-walk next keeps tags (walk.refusal k) (λ at left. refl) refl c)
+-- The step at a place that is behind the count, or is not.
+from-moves : (s : List ℕ) (at left : ℕ) {t : messages.Tag} {next more : ℕ} → walkFrom s at left ≡ tag t next more → (at < next) × (next ≤ length s)
+unfolding walkFrom
+from-moves s at left {t} {next} {more} e = go (eqb left 0) e
+  where
+    none : (b : Bool) {P : Type 0} → pick b (walk.refusal 7) end ≡ tag t next more → P
+    none true e = differ cc
+    none false e = differ cc
 
-pub calls-stop : CallsStop
-calls-stop next keeps tags hb = let x = walk-stops (now tags) hb in found next keeps tags (x .0) (x .1)
+    some : (o : Outcome messages.Tag) → walkOf o (left - 1) ≡ tag t next more → o ≡ got t next
+    some (refused f) e = differ cc
+    some (got u p) e = cc
+
+    go : (b : Bool) → pick b (pick (ltb at (length s)) (walk.refusal 7) end) (walkOf (decodeTag s at) (left - 1)) ≡ tag t next more → (at < next) × (next ≤ length s)
+    go true e = none (ltb at (length s)) e
+    go false e = tag-ends s (some (decodeTag s at) e)
+
+begin-moves : (s : List ℕ) (o : Outcome ℕ) {t : messages.Tag} {next more : ℕ} → begin s o ≡ tag t next more → (0 < next) × (next ≤ length s)
+begin-moves s (refused f) e = differ cc
+begin-moves s (got count first) e = let x = from-moves s first count e in (omega (arith, x .0), x .1)
+
+at-moves : (s : List ℕ) (at left : ℕ) {t : messages.Tag} {next more : ℕ} → walkAt s at left ≡ tag t next more → (at < next) × (next ≤ length s)
+unfolding walkAt
+at-moves s at left {t} {next} {more} e = go (eqb at 0) refl e
+  where
+    within : (b : Bool) → pick b (begin s (decodeDword s 0)) (walk.refusal 6) ≡ tag t next more → (0 < next) × (next ≤ length s)
+    within true e = begin-moves s (decodeDword s 0) e
+    within false e = differ cc
+
+    go : (b : Bool) → eqb at 0 ≡ b → pick b (pick (leb (length s) (ceiling loneTags)) (begin s (decodeDword s 0)) (walk.refusal 6)) (walkFrom s at left) ≡ tag t next more →
+        (at < next) × (next ≤ length s)
+    go true q e = let x = within (leb (length s) (ceiling loneTags)) e in (omega (arith, eqb-true at 0 q, x .0), x .1)
+    go false q e = from-moves s at left e
+
+pub tag-moves : (w : TagWalker) → TagMoves w
+tag-moves w t after h = at-moves (now (w .tags)) (w .at) (w .left) (sym (h .1 .0))

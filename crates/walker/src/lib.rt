@@ -116,7 +116,7 @@ pub fn new<'a>(tags: &'a [u8]) -> TagWalker<'a>
 }
 
 // The tag at the walker's place, or the end, or a refusal; a tag moves the walker behind it.
-pub fn next<'s, 'a>(w: &'s mut TagWalker<'a>) -> WalkStep
+pub fn next(w: &mut TagWalker) -> WalkStep
     ensures { λ r. ⌜ Next (now (w .entry)) r (now (w .exit)) ⌝ }
 {
     let m = walk_at(w.tags, w.at, w.left);
