@@ -1,7 +1,12 @@
 // The worked cases of the scope paper that are run and compared: each prints one line.
+ghost use mathlib.Core.Path.{_≡_};
+ghost use Rattle.format.specs.Gaps.{sizeLimit};
+ghost use Rattle.gaps.specs.Marking.{marked};
 use gaps::GapRecord;
+use gaps::MarkAnswer;
 use gaps::all_missing;
 use gaps::mark;
+use gaps::mark_in_place;
 use met::block_count;
 use met::part_count;
 use query::QueryAnswer;
@@ -438,6 +443,85 @@ fn show_gap(g: GapRecord, i: usize) {
     }
 }
 
+fn show_answer(answer: MarkAnswer, start: u64, end: u64) {
+    io::write_all(1, b"mark in place ");
+    io::print_decimal(1, start);
+    io::write_all(1, b" to ");
+    io::print_decimal(1, end);
+    io::write_all(1, b": answer ");
+    io::print_decimal(1, answer.number as u64);
+    say(b", missing ", answer.missing);
+}
+
+// Marks a range of a record that is lent to the marking call, and hands the record back as the call left it.
+fn mark_lent(mut g: GapRecord, start: u64, end: u64) -> GapRecord
+    ensures { λ r. ⌜ r ≡ marked sizeLimit g start end .after ⌝ }
+{
+    let answer = mark_in_place(&mut g, start, end);
+    show_answer(answer, start, end);
+    g
+}
+
+fn is_same_gap(a: GapRecord, b: GapRecord, i: usize) -> bool {
+    if 64 <= i {
+        return true;
+    }
+    let x = a.gaps[i];
+    let y = b.gaps[i];
+    if x.start != y.start {
+        return false;
+    }
+    x.end == y.end
+}
+
+fn is_same(a: GapRecord, b: GapRecord) -> bool {
+    if a.size != b.size {
+        return false;
+    }
+    if a.count != b.count {
+        return false;
+    }
+    let mut i = 0;
+    while i < 64 {
+        if !is_same_gap(a, b, i) {
+            return false;
+        }
+        i += 1;
+    }
+    true
+}
+
+fn show_same(a: GapRecord, b: GapRecord) {
+    if is_same(a, b) {
+        io::write_all(1, b"the record is equal\n");
+    } else {
+        io::write_all(1, b"the record differs\n");
+    }
+}
+
+// A file of 640 bytes of which every tenth has arrived: 64 gaps.
+fn many_gaps() -> GapRecord {
+    let mut g = all_missing(640);
+    let mut at = 9;
+    while at < 640 {
+        let m = mark(g, at, at + 1);
+        g = m.after;
+        at += 10;
+    }
+    g
+}
+
+// The marking in place: a refusal leaves the record equal.
+fn show_in_place() {
+    let halves = mark_lent(all_missing(100), 40, 60);
+    show_gap(halves, 0);
+    show_gap(halves, 1);
+    show_same(halves, mark_lent(halves, 60, 60));
+    let full = many_gaps();
+    say(b"gaps ", full.count as u64);
+    show_same(full, mark_lent(full, 3, 4));
+}
+
 // How many part hashes and block hashes a file of a size has.
 fn show_size(size: u32) {
     io::write_all(1, b"size ");
@@ -467,4 +551,5 @@ fn main() {
     let first = show_mark(beyond, 0, 50);
     show_gap(first, 0);
     show_mark(first, 0, 100);
+    show_in_place();
 }
