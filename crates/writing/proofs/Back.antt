@@ -1,7 +1,7 @@
 -- What was read is written back: a place that a reader hands out is there for the writers, and a message that lies at such places of some bytes,
 -- and is what these bytes say, is written as these bytes.
 use Prim.Native.Nat.{ℕ, _≤_}
-use mathlib.Core.Path.{_≡_, refl, sym, subst}
+use mathlib.Core.Path.{_≡_, refl, subst}
 use mathlib.Core.List.{List}
 use lib.ListN.{length}
 use borrow.Author.Tests.{le-leb}

@@ -1,4 +1,4 @@
--- A join from its sides: what the reader says of its bytes, and its number.
+-- A join from its sides: what the reader says of its bytes, its number, and what its writer owes.
 use Prim.Native.Nat.{ℕ, zero, suc, max, _+_, _≤_, _<_}
 use mathlib.Core.Path.{_≡_, refl, sym, ap, _∙_}
 use mathlib.Core.Bool.{Bool, true, false}
@@ -13,12 +13,13 @@ use borrow.Author.Tests.{le-leb, leb-false, leb-true}
 use Rattle.format.specs.Tables.{pick}
 use Rattle.format.specs.Messages.{Operator, Query, and, andNot, field, join, keyword, limit, loneQuery, or}
 use Rattle.format.specs.Layout.{byte, encodeQuery, operatorCode}
-use Rattle.format.specs.Rules.{Valid, ValidLeaves, depth, packetCeiling}
-use Rattle.format.specs.Decoding.{Answer, Outcome, accepted, andThen, depthCeiling, fault, got, message, pure, refusal, refused, refusedWith, reply}
+use Rattle.format.specs.Rules.{Bytes, Valid, ValidLeaves, depth, packetCeiling}
+use Rattle.format.specs.Decoding.{Answer, Outcome, accepted, andThen, depthCeiling, fault, got, message, number, pure, refusal, refused, refusedWith, reply}
 use Rattle.format.specs.Order.{QueryCase, caseCode, decodeCase, decodeCode, decodeQuery, decodeQueryIn, isField, isJoin, isKeyword, isLimit, operators}
 use Rattle.format.specs.MetOrder.{decode}
-use Rattle.format.specs.Writing.{Judged, QueryFits, refusedFor, unwritten}
-use Rattle.format.proofs.Codec.{Codec, anywhere, behind, codec-table, fits, length-littleEndian, never, same-value}
+use Rattle.format.specs.Writing.{Judged, QueryFits, Written, refusedFor, unwritten}
+use Rattle.format.proofs.Differ.{differ}
+use Rattle.format.proofs.Codec.{Codec, anywhere, behind, bytes-append, bytes-littleEndian, codec-table, fits, length-littleEndian, never, same-value}
 use Rattle.format.proofs.Acceptance.{accepts}
 use Rattle.format.proofs.Items.{codec-query, some-depth}
 use Rattle.format.proofs.Writing.{ceiling-judged, query-fits, valid-judged}
@@ -26,7 +27,9 @@ use Rattle.wire.proofs.Replies.{slice-bytes}
 use Rattle.query.specs.declared.Query as place
 use Rattle.query.specs.Nodes.{depths}
 use Rattle.query.specs.Meaning.{QueryPlaced, queryIn, queryOf}
-use Rattle.writing.specs.Writers.{joinNumber, writeChecked, writeJoin, writeSides}
+use Rattle.writing.specs.Writers.{joinOf, sidesThere}
+use Rattle.writing.specs.Numbers.{joinNumber}
+use Rattle.writing.proofs.Answers.{Promised, Ready, message-ready, missing}
 use Rattle.writing.proofs.Pieces.{ceiling-fits}
 use Rattle.writing.proofs.Leaves.{codec-case, query-step}
 
@@ -158,7 +161,7 @@ unfolding ValidLeaves
 both-leaves o q r a b = (a, b)
 
 -- The number of a join of valid queries.
-pub join-judged : (o : Operator) (q r : Query) → Valid loneQuery q → Valid loneQuery r →
+join-judged : (o : Operator) (q r : Query) → Valid loneQuery q → Valid loneQuery r →
     Judged loneQuery (join o q r) (joinNumber (length (encodeQuery (join o q r))) (depth (join o q r)))
 unfolding joinNumber decode decodeQuery
 join-judged o q r hq hr =
@@ -201,10 +204,6 @@ side s known q e p =
     let is = told-message (decode loneQuery s) e in
     record { is = is; bytes = accepts loneQuery s (slice-bytes s known) (queryIn s q) .0 is .0; deep = placed-depth (decodeQuery s (q .at)) p }
 
-join-bytes : (o : Operator) (q r : Query) → encodeQuery (join o q r) ≡ byte 0 ++ (byte (operatorCode o) ++ (encodeQuery q ++ encodeQuery r))
-unfolding encodeQuery
-join-bytes o q r = refl
-
 join-depth : (o : Operator) (q r : Query) → depth (join o q r) ≡ suc (max (depth q) (depth r))
 unfolding depth
 join-depth o q r = refl
@@ -213,7 +212,7 @@ module _ (o : Operator) (a b output : List ℕ) where
   abbrev pub joined : List ℕ
   joined = byte 0 ++ (byte (operatorCode o) ++ (a ++ b))
 
-  pub join-size : length joined ≡ 2 + length a + length b
+  join-size : length joined ≡ 2 + length a + length b
   join-size =
       omega (
         arith,
@@ -224,27 +223,40 @@ module _ (o : Operator) (a b output : List ℕ) where
         length-littleEndian 1 (operatorCode o),
       )
 
-  pub left-refused : {n : ℕ} → refusedWith n ≡ reply (decode loneQuery a) → unwritten n output ≡ writeJoin o a b output
-  unfolding writeJoin
+  abbrev JoinPromised : Answer Query → Answer Query → Written → Type 0
+  JoinPromised x y w = Promised loneQuery (sidesThere x y) (joinOf o x y) output w
+
+  -- A side that is no lone query has its own number.
+  pub left-refused : {n : ℕ} → refusedWith n ≡ reply (decode loneQuery a) → JoinPromised (decode loneQuery a) (decode loneQuery b) (unwritten n output)
   left-refused e = go (decode loneQuery a) e
     where
-      go : (x : Answer Query) {n : ℕ} → refusedWith n ≡ reply x → unwritten n output ≡ writeSides o x (decode loneQuery b) output
-      go (refusal f) e = cc
-      go (accepted q) e = cc
+      go : (x : Answer Query) {n : ℕ} → refusedWith n ≡ reply x → JoinPromised x (decode loneQuery b) (unwritten n output)
+      go (refusal f) {n} e = let same : n ≡ number (f .rule) = cc in rw same (missing output refl)
+      go (accepted q) e = differ cc
 
-  pub right-refused : {q : Query} {d n : ℕ} → Side a q d → refusedWith n ≡ reply (decode loneQuery b) → unwritten n output ≡ writeJoin o a b output
-  unfolding writeJoin
+  pub right-refused : {q : Query} {d n : ℕ} → Side a q d → refusedWith n ≡ reply (decode loneQuery b) →
+      JoinPromised (decode loneQuery a) (decode loneQuery b) (unwritten n output)
   right-refused {q} h e = rw (h .is) (go (decode loneQuery b) e)
     where
-      go : (x : Answer Query) {n : ℕ} → refusedWith n ≡ reply x → unwritten n output ≡ writeSides o (accepted q) x output
-      go (refusal f) e = cc
-      go (accepted r) e = cc
+      go : (y : Answer Query) {n : ℕ} → refusedWith n ≡ reply y → JoinPromised (accepted q) y (unwritten n output)
+      go (refusal f) {n} e = let same : n ≡ number (f .rule) = cc in rw same (missing output refl)
+      go (accepted r) e = differ cc
 
-  pub joins : {q r : Query} {d e : ℕ} → Side a q d → Side b r e →
-      writeJoin o a b output ≡ writeChecked (joinNumber (2 + length a + length b) (suc (max d e))) joined output
-  unfolding writeJoin
-  joins {q} {r} h k =
-      rw (h .is, k .is, join-bytes o q r, ← h .bytes, ← k .bytes, join-size, join-depth o q r, h .deep, k .deep) refl
+  module _ (ha : Bytes a) (hb : Bytes b) {q r : Query} {d e : ℕ} (h : Side a q d) (k : Side b r e) where
+    join-bytes : joined ≡ encodeQuery (join o q r)
+    unfolding encodeQuery
+    join-bytes = rw (h .bytes, k .bytes) refl
+
+    number-same : joinNumber (length (encodeQuery (join o q r))) (depth (join o q r)) ≡ joinNumber (2 + length a + length b) (suc (max d e))
+    number-same = rw (← join-bytes, join-size, join-depth o q r, h .deep, k .deep) refl
+
+    pub join-ready : {n : ℕ} → n ≡ joinNumber (2 + length a + length b) (suc (max d e)) →
+        Ready (JoinPromised (decode loneQuery a) (decode loneQuery b)) output n joined (2 + length a + length b)
+    join-ready {n} same =
+        let judged : Judged loneQuery (join o q r) n =
+        rw (same, ← number-same) (join-judged o q r (accepts loneQuery a ha q .0 (h .is) .1) (accepts loneQuery b hb r .0 (k .is) .1)) in
+        let bytes = bytes-append (byte 0) _ (bytes-littleEndian 1 0) (bytes-append (byte (operatorCode o)) _ (bytes-littleEndian 1 (operatorCode o)) (bytes-append a b ha hb)) in
+        rw (h .is, k .is) (message-ready output refl judged join-bytes bytes join-size)
 
 pub join-fits : (size deep : ℕ) → joinNumber size deep ≡ 0 → size ≤ 65536
 unfolding joinNumber

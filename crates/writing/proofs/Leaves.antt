@@ -1,25 +1,24 @@
--- What the reader says of the bytes of a leaf whose name is too short or too long, and the number of each leaf.
+-- Leaves of queries: what the reader says of the bytes of one whose name is too short or too long, its number, and what its writer owes.
 use Prim.Native.Nat.{ℕ, suc, _+_, _≤_, _<_}
 use mathlib.Core.Path.{_≡_, refl, sym, _∙_}
-use mathlib.Core.Bool.{Bool, true, false}
 use mathlib.Core.List.{List, [], _∷_, _++_, append-assoc, append-nil}
 use native.Mathlib.Omega.{arith}
 use lib.ListN.{length, drop}
-use lib.Dec.{eqb, leb}
-use borrow.Author.Tests.{eqb-false, le-leb, leb-false, leb-true}
-use Rattle.format.specs.Tables.{pick}
+use borrow.Author.Tests.{le-leb}
 use Rattle.format.specs.Messages.{Bound, Query, atLeast, atMost, field, keyword, limit, loneQuery}
 use Rattle.format.specs.Layout.{boundCode, byte, dword, encodeName, encodeQuery, encodeString, word}
 use Rattle.format.specs.Rules.{Bytes, Dword, ValidLeaves, depth, packetCeiling}
-use Rattle.format.specs.Decoding.{Rule, andThen, choice, fault, nameCeiling, refusal, refused, violates}
+use Rattle.format.specs.Decoding.{Rule, andThen, fault, refusal, refused, violates}
 use Rattle.format.specs.Order.{bounds, caseCode, checkNameLength, decodeCase, decodeCode, decodeName, decodeQuery, decodeQueryIn, isField, isJoin, isKeyword, isLimit, queryCases}
 use Rattle.format.specs.MetOrder.{decode}
 use Rattle.format.specs.Writing.{Judged, QueryFits, overflows, refusedFor}
-use Rattle.format.proofs.Codec.{Codec, anywhere, behind, codec-dword, codec-table, codec-word, fits}
+use Rattle.format.proofs.Codec.{Codec, anywhere, behind, bytes-append, bytes-littleEndian, codec-dword, codec-table, codec-word, fits}
 use Rattle.format.proofs.Items.{codec-string}
 use Rattle.format.proofs.Writing.{ceiling-judged, valid-judged}
-use Rattle.writing.specs.Writers.{countNumber, fieldNumber, keywordNumber, limitNumber, nameNumber}
-use Rattle.writing.proofs.Pieces.{field-size, keyword-size, limit-size}
+use Rattle.writing.specs.There.{noPlaces}
+use Rattle.writing.specs.Numbers.{fieldNumber, keywordNumber, limitNumber}
+use Rattle.writing.proofs.Answers.{Promised, Ready, message-ready}
+use Rattle.writing.proofs.Pieces.{count-judged, field-size, keyword-size, limit-size, name-judged, name-string}
 
 -- A query begins with its case.
 pub query-step : (d : ℕ) (s : List ℕ) (at : ℕ) → decodeQueryIn (suc d) s at ≡ andThen s (decodeCode queryCases s at) (decodeCase (decodeQueryIn d))
@@ -97,51 +96,65 @@ module _ (rule : Rule) (n : List ℕ) (few : length n < 65536) (v : checkNameLen
       )
       refl
 
--- The numbers, one check after the other.
-count-judged : (q : Query) (n next : ℕ) → (QueryFits q → n < 65536) → (n < 65536 → Judged loneQuery q next) → Judged loneQuery q (countNumber n next)
-count-judged q n next over j = go (leb n 65535) refl
-  where
-    go : (t : Bool) → leb n 65535 ≡ t → Judged loneQuery q (pick t next 6)
-    go true e = let h = leb-true n 65535 e in j (omega arith)
-    go false e = let h = leb-false n 65535 e in overflows (λ fit. let k = over fit in omega arith)
+-- The number of each leaf, and what its writer owes.
+abbrev Judges : Query → ℕ → Type 0
+Judges q n = Judged loneQuery q n
 
-name-judged : (q : Query) (n at : ℕ) → QueryFits q → ((rule : Rule) → checkNameLength n ≡ violates rule → decode loneQuery (encodeQuery q) ≡ refusal (fault rule at 2)) →
-    (1 ≤ n → n ≤ 255 → Judged loneQuery q 0) → Judged loneQuery q (nameNumber n)
-name-judged q n at fit bad good = go (eqb n 0) refl
-  where
-    go₂ : (eqb n 0 ≡ false) → (t : Bool) → leb n 255 ≡ t → Judged loneQuery q (pick t 0 6)
-    go₂ z true e = let k = eqb-false n 0 z in good (omega arith) (leb-true n 255 e)
-    go₂ z false e = refusedFor fit (fault nameCeiling at 2) (bad nameCeiling (rw (z, e) refl))
-
-    go : (t : Bool) → eqb n 0 ≡ t → Judged loneQuery q (pick t 5 (pick (leb n 255) 0 6))
-    go true e = refusedFor fit (fault choice at 2) (bad choice (rw e refl))
-    go false e = go₂ e (leb n 255) refl
-
-pub keyword-judged : (t : List ℕ) → Bytes t → Judged loneQuery (keyword t) (keywordNumber (length t))
+keyword-judged : (t : List ℕ) → Bytes t → Judges (keyword t) (keywordNumber (length t))
 unfolding keywordNumber QueryFits ValidLeaves depth
 keyword-judged t hb =
     let q = keyword t in
-    count-judged q (length t) _ (λ fit. fit) (λ few.
+    count-judged (Judges q) (length t) _ (λ over. overflows over) (λ few.
     rw (← keyword-size t)
     (ceiling-judged loneQuery q 0 few (λ within. valid-judged loneQuery q (record { content = ((few, hb), omega arith); few = within }))))
 
-pub field-judged : (t n : List ℕ) → Bytes t → Bytes n → Judged loneQuery (field t n) (fieldNumber (length t) (length n))
+field-judged : (t n : List ℕ) → Bytes t → Bytes n → Judges (field t n) (fieldNumber (length t) (length n))
 unfolding fieldNumber QueryFits ValidLeaves depth
 field-judged t n ht hn =
     let q = field t n in
-    count-judged q (length t) _ (λ fit. fit .0) (λ short.
-    count-judged q (length n) _ (λ fit. fit .1) (λ few.
+    count-judged (Judges q) (length t) _ (λ over. overflows (λ fit. over (fit .0))) (λ short.
+    count-judged (Judges q) (length n) _ (λ over. overflows (λ fit. over (fit .1))) (λ few.
     rw (← field-size t n)
     (ceiling-judged loneQuery q _ (short, few) (λ within.
-    name-judged q (length n) _ (short, few) (λ rule v. field-refused rule n few v t ht short within) (λ some most.
+    name-judged (Judges q) (length n) (λ rule v. refusedFor (short, few) (fault rule _ 2) (field-refused rule n few v t ht short within)) (λ some most.
     valid-judged loneQuery q (record { content = (((short, ht), record { some = some; few = most; bytes = hn }), omega arith); few = within }))))))
 
-pub limit-judged : (v : ℕ) (b : Bound) (n : List ℕ) → Dword v → Bytes n → Judged loneQuery (limit v b n) (limitNumber (length n))
+limit-judged : (v : ℕ) (b : Bound) (n : List ℕ) → Dword v → Bytes n → Judges (limit v b n) (limitNumber (length n))
 unfolding limitNumber QueryFits ValidLeaves depth
 limit-judged v b n small hn =
     let q = limit v b n in
-    count-judged q (length n) _ (λ fit. fit) (λ few.
+    count-judged (Judges q) (length n) _ (λ over. overflows over) (λ few.
     rw (← limit-size v b n)
     (ceiling-judged loneQuery q _ few (λ within.
-    name-judged q (length n) _ few (λ rule bad. limit-refused rule n few bad v b small within) (λ some most.
+    name-judged (Judges q) (length n) (λ rule bad. refusedFor few (fault rule _ 2) (limit-refused rule n few bad v b small within)) (λ some most.
     valid-judged loneQuery q (record { content = ((small, record { some = some; few = most; bytes = hn }), omega arith); few = within })))))
+
+string-bytes : (t : List ℕ) → Bytes t → Bytes (encodeString t)
+unfolding encodeString
+string-bytes t h = bytes-append (word (length t)) t (bytes-littleEndian 2 (length t)) h
+
+name-bytes : (n : List ℕ) → Bytes n → Bytes (encodeName n)
+name-bytes n h = rw (name-string n) (string-bytes n h)
+
+module _ (output : List ℕ) {number : ℕ} where
+  pub keyword-ready : (t : List ℕ) → Bytes t → number ≡ keywordNumber (length t) →
+      Ready (Promised loneQuery noPlaces (keyword t) output) output number (encodeQuery (keyword t)) (3 + length t)
+  unfolding encodeQuery
+  keyword-ready t ht e =
+      let bytes = bytes-append (byte 1) _ (bytes-littleEndian 1 1) (string-bytes t ht) in
+      message-ready output refl (rw e (keyword-judged t ht)) refl bytes (keyword-size t)
+
+  pub field-ready : (t n : List ℕ) → Bytes t → Bytes n → number ≡ fieldNumber (length t) (length n) →
+      Ready (Promised loneQuery noPlaces (field t n) output) output number (encodeQuery (field t n)) (5 + length t + length n)
+  unfolding encodeQuery
+  field-ready t n ht hn e =
+      let bytes = bytes-append (byte 2) _ (bytes-littleEndian 1 2) (bytes-append (encodeString t) (encodeName n) (string-bytes t ht) (name-bytes n hn)) in
+      message-ready output refl (rw e (field-judged t n ht hn)) refl bytes (field-size t n)
+
+  pub limit-ready : (v : ℕ) (b : Bound) (n : List ℕ) → Dword v → Bytes n → number ≡ limitNumber (length n) →
+      Ready (Promised loneQuery noPlaces (limit v b n) output) output number (encodeQuery (limit v b n)) (8 + length n)
+  unfolding encodeQuery
+  limit-ready v b n hv hn e =
+      let named = bytes-append (byte (boundCode b)) (encodeName n) (bytes-littleEndian 1 (boundCode b)) (name-bytes n hn) in
+      let bytes = bytes-append (byte 3) _ (bytes-littleEndian 1 3) (bytes-append (dword v) _ (bytes-littleEndian 4 v) named) in
+      message-ready output refl (rw e (limit-judged v b n hv hn)) refl bytes (limit-size v b n)

@@ -1,9 +1,10 @@
 pub mod There
-pub mod Back
-pub mod Laws
-pub mod Writes
+pub mod Answers
 pub mod Pieces
 pub mod Leaves
 pub mod Joins
-pub mod TagPieces
+pub mod Copies
+pub mod Item
+pub mod Back
 pub mod ReadBack
+pub mod Once

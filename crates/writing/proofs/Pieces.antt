@@ -1,18 +1,19 @@
--- Pieces of a query: how many bytes they have, what a number of 0 says of their lengths, and the answer once the number is known.
+-- Pieces of queries and tags: how many bytes they have, what a number of 0 says of their lengths, and which number it is.
 use Prim.Native.Nat.{ℕ, _+_, _≤_, _<_}
 use mathlib.Core.Path.{_≡_, refl, ap, _∙_}
 use mathlib.Core.Bool.{Bool, true, false}
 use mathlib.Core.List.{List, _++_}
 use native.Mathlib.Omega.{arith}
 use lib.ListN.{length, length-append}
-use lib.Dec.{leb}
-use borrow.Author.Tests.{eq-eqb, le-leb, leb-true, lt-leb, ne-eqb}
+use lib.Dec.{eqb, leb}
+use borrow.Author.Tests.{eqb-false, leb-false, leb-true}
 use Rattle.format.specs.Tables.{pick}
 use Rattle.format.specs.Messages.{Bound, field, keyword, limit}
 use Rattle.format.specs.Layout.{boundCode, byte, dword, encodeName, encodeQuery, encodeString, word}
-use Rattle.format.specs.Writing.{overwritten, unwritten}
+use Rattle.format.specs.Decoding.{Rule, choice, nameCeiling, number, violates}
+use Rattle.format.specs.Order.{checkNameLength}
 use Rattle.format.proofs.Codec.{length-littleEndian}
-use Rattle.writing.specs.Writers.{ceilingNumber, countNumber, fieldNumber, keywordNumber, limitNumber, writeChecked}
+use Rattle.writing.specs.Numbers.{ceilingNumber, countNumber, fieldNumber, keywordNumber, limitNumber, nameNumber, tagNumber}
 
 -- Sizes.
 pub length-string : (t : List ℕ) → length (encodeString t) ≡ 2 + length t
@@ -57,6 +58,10 @@ limit-size v b n =
       length-name n,
     )
 
+-- The type and the name of a tag.
+pub head-size : (code : ℕ) (n : List ℕ) → length (byte code ++ encodeName n) ≡ 3 + length n
+head-size code n = omega (arith, length-append (byte code) (encodeName n), length-littleEndian 1 code, length-name n)
+
 -- Lengths of pieces with no fault.
 or-six : (t : Bool) (next : ℕ) → pick t next 6 ≡ 0 → (t ≡ true) × (next ≡ 0)
 or-six true next e = (refl, e)
@@ -83,14 +88,26 @@ pub limit-fits : (n : ℕ) → limitNumber n ≡ 0 → (n < 65536) × (8 + n ≤
 unfolding limitNumber
 limit-fits n e = let a = count-fits n _ e in (a .0, ceiling-fits (8 + n) _ (a .1) .0)
 
--- The answer, where `found` is the number that code works out.
-module _ (number found : ℕ) (same : found ≡ number) (bytes output : List ℕ) where
-  pub faulty : (found ≡ 0 → ⊥) → unwritten found output ≡ writeChecked number bytes output
-  faulty some = rw (← same, ne-eqb found 0 some) refl
+pub tag-fits : (n t : ℕ) → tagNumber n t ≡ 0 → (n < 65536) × (t < 65536)
+unfolding tagNumber
+tag-fits n t e = let a = count-fits n _ e in (a .0, count-fits t _ (a .1) .0)
 
-  module _ (none : found ≡ 0) (size : ℕ) (sized : length bytes ≡ size) where
-    pub roomless : length output < size → unwritten 10 output ≡ writeChecked number bytes output
-    roomless h = rw (← same, eq-eqb found 0 none, lt-leb (length bytes) (length output) (omega arith)) refl
+-- The numbers, one check after the other: `J` is what they are judged by, be it for a query or for a single item.
+module _ (J : ℕ → Type 0) (n : ℕ) where
+  pub count-judged : (next : ℕ) → ((n < 65536 → ⊥) → J 6) → (n < 65536 → J next) → J (countNumber n next)
+  count-judged next over j = go (leb n 65535) refl
+    where
+      go : (t : Bool) → leb n 65535 ≡ t → J (pick t next 6)
+      go true e = let h = leb-true n 65535 e in j (omega arith)
+      go false e = let h = leb-false n 65535 e in over (λ k. omega arith)
 
-    pub written : size ≤ length output → record { number = 0; length = size; output = overwritten bytes output } ≡ writeChecked number bytes output
-    written h = rw (← same, eq-eqb found 0 none, le-leb (length bytes) (length output) (omega arith), sized) refl
+  pub name-judged : ((rule : Rule) → checkNameLength n ≡ violates rule → J (number rule)) → (1 ≤ n → n ≤ 255 → J 0) → J (nameNumber n)
+  name-judged bad good = go (eqb n 0) refl
+    where
+      long : eqb n 0 ≡ false → (t : Bool) → leb n 255 ≡ t → J (pick t 0 6)
+      long z true e = let k = eqb-false n 0 z in good (omega arith) (leb-true n 255 e)
+      long z false e = bad nameCeiling (rw (z, e) refl)
+
+      go : (t : Bool) → eqb n 0 ≡ t → J (pick t 5 (pick (leb n 255) 0 6))
+      go true e = bad choice (rw e refl)
+      go false e = long e (leb n 255) refl

@@ -1,27 +1,25 @@
 -- A lone tag list and a lone query that were read are written back as their bytes: from the contracts of reader and writer, and no other fact.
 use Prim.Native.Nat.{ℕ, _≤_}
-use mathlib.Core.Path.{_≡_, refl, sym, ap, _∙_}
+use mathlib.Core.Path.{_≡_, refl, sym, _∙_}
 use mathlib.Core.Logic.{_↔_}
 use mathlib.Core.List.{List}
 use lib.ListN.{length}
 use native.Mathlib.Omega.{arith}
-use borrow.Author.Tests.{le-leb}
 use Rattle.format.specs.Messages as messages
 use Rattle.format.specs.Messages.{loneQuery, loneTags}
 use Rattle.format.specs.Layout.{encodeQuery, encodeTags}
-use Rattle.format.specs.Rules.{Bytes, Valid, depthLimit, packetCeiling}
-use Rattle.format.specs.Decoding.{Outcome, decodeMany, ends, got, message, refused, reply}
+use Rattle.format.specs.Rules.{Bytes, Valid, depthLimit}
+use Rattle.format.specs.Decoding.{Outcome, ends, got, message, refused, reply}
 use Rattle.format.specs.Order.{decodeByte, decodeCode, decodeQuery, decodeTag, queryCases}
 use Rattle.format.specs.MetOrder.{decode}
-use Rattle.format.specs.Writing.{Written, overwritten}
-use Rattle.format.specs.RoundTrip.{IsThere, RoundTrip}
+use Rattle.format.specs.Writing.{overwritten}
+use Rattle.format.specs.RoundTrip.{RoundTrip, WritesAt}
 use Rattle.format.proofs.Differ.{differ}
 use Rattle.format.proofs.Codec.{anywhere, went}
 use Rattle.format.proofs.Items.{codec-query}
 use Rattle.format.proofs.There.{byte-ends}
-use Rattle.format.proofs.Many.{ends-items}
 use Rattle.wire.specs.declared.Items.{Items}
-use Rattle.wire.specs.Meaning.{itemsIn}
+use Rattle.wire.specs.Meaning.{ItemsInside, itemsIn}
 use Rattle.tags.specs.declared.TagListAnswer.{TagListAnswer}
 use Rattle.tags.specs.Meaning.{TagListPlaced, tagListReply}
 use Rattle.query.specs.declared.Query.{Query}
@@ -30,13 +28,9 @@ use Rattle.query.specs.Nodes.{decodeNode, depths}
 use Rattle.query.proofs.Nodes.{query-left}
 use Rattle.query.specs.Meaning.{QueryAnswerPlaced, QueryPlaced, queryIn, queryOf, queryReply}
 use Rattle.writing.specs.declared.WriteAnswer.{WriteAnswer}
-use Rattle.writing.specs.Writers.{answered, writeFound, writeQuery, writeTagList, writeWithin}
+use Rattle.writing.specs.Writers.{answered}
 use Rattle.writing.specs.There.{itemsThere}
-
--- Bytes within the ceiling and the room.
-fits-within : (s bytes output : List ℕ) → s ≡ bytes → length bytes ≤ packetCeiling → length s ≤ length output →
-    writeWithin bytes output ≡ record { number = 0; length = length s; output = overwritten s output }
-fits-within s bytes output e few room = rw (← e, le-leb (length s) packetCeiling (rw e few), le-leb (length s) (length output) room) refl
+use Rattle.writing.proofs.Back.{items-here, query-here, written-back}
 
 module _ (s : List ℕ) (r : TagListAnswer)
     (meaning : tagListReply s r ≡ reply (decode loneTags s))
@@ -44,16 +38,12 @@ module _ (s : List ℕ) (r : TagListAnswer)
     (exact : (m : List messages.Tag) → (tagListReply s r ≡ message m) ↔ ((s ≡ encodeTags m) × Valid loneTags m))
     (l : Items) (accepted : r ≡ TagListAnswer.Accepted l) where
   pub tag-list-back : (output out : List ℕ) (a : WriteAnswer) →
-      answered a out ≡ writeTagList s l output →
+      WritesAt loneTags (itemsThere decodeTag s l) (itemsIn decodeTag s l) output (answered a out) →
       RoundTrip loneTags (itemsThere decodeTag s l) (itemsIn decodeTag s l) output (answered a out) →
       length s ≤ length output → answered a out ≡ record { number = 0; length = length s; output = overwritten s output }
-  unfolding writeTagList
   tag-list-back output out a writes round room =
-      let here = rw accepted at placed in
-      let read = exact (itemsIn decodeTag s l) .0 (rw accepted refl) in
-      writes
-      ∙ ap (λ o. writeFound encodeTags o output) (sym (ends-items (decodeMany (l .count) decodeTag s (l .at)) (l .end) (here .0)))
-      ∙ fits-within s (encodeTags (itemsIn decodeTag s l)) output (read .0) (read .1 .few) room
+      let here : ItemsInside decodeTag s l = rw accepted at placed in
+      written-back loneTags (itemsThere decodeTag s l) (itemsIn decodeTag s l) s output (items-here s decodeTag l here) (exact (itemsIn decodeTag s l) .0 (rw accepted refl)) room writes round
 
 query-found : (o : Outcome messages.Query) {depth end : ℕ} → depths o ≡ got depth end → o ≡ got (queryOf o) end
 unfolding depths
@@ -77,13 +67,9 @@ module _ (s : List ℕ) (r : QueryAnswer)
     (demand3 : (m : messages.Query) → (queryReply s r ≡ message m) ↔ ((s ≡ encodeQuery m) × Valid loneQuery m))
     (q : Query) (accepted : r ≡ QueryAnswer.Accepted q) where
   pub query-back : (output out : List ℕ) (a : WriteAnswer) →
-      answered a out ≡ writeQuery s q output →
+      WritesAt loneQuery (ends (decodeQuery s (q .at))) (queryIn s q) output (answered a out) →
       RoundTrip loneQuery (ends (decodeQuery s (q .at))) (queryIn s q) output (answered a out) →
       length s ≤ length output → answered a out ≡ record { number = 0; length = length s; output = overwritten s output }
-  unfolding writeQuery
   query-back output out a writes round room =
       let here : QueryPlaced s q = rw accepted at placed in
-      let read = demand3 (queryIn s q) .0 (rw accepted refl) in
-      writes
-      ∙ ap (λ o. writeFound encodeQuery o output) (query-found (decodeQuery s (q .at)) here)
-      ∙ fits-within s (encodeQuery (queryIn s q)) output (read .0) (read .1 .few) room
+      written-back loneQuery (ends (decodeQuery s (q .at))) (queryIn s q) s output (query-here s q here) (demand3 (queryIn s q) .0 (rw accepted refl)) room writes round

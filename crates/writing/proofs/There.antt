@@ -4,7 +4,7 @@ use mathlib.Core.Path.{_≡_, refl, sym, subst}
 use mathlib.Core.List.{List}
 use lib.ListN.{length}
 use Rattle.format.specs.Rules.{Bytes, ValidHash}
-use Rattle.format.specs.Decoding.{Outcome, bytesAt, decodeRun, ends, got, refused}
+use Rattle.format.specs.Decoding.{Fault, Outcome, bytesAt, decodeRun, ends, got, refused}
 use Rattle.format.specs.Order.{decodeHash}
 use Rattle.format.specs.RoundTrip.{IsThere}
 use Rattle.format.proofs.Codec.{bytes-part}
@@ -18,6 +18,14 @@ is-there e = subst IsThere (sym e) tt
 pub there-at : (o : Outcome (Unit {0})) → IsThere o → (next : ℕ) × (o ≡ got tt next)
 there-at (refused f) h = absurd h
 there-at (got u next) h = (next, refl)
+
+pub ends-refused : {A : Type 0} {f : Fault} {o : Outcome A} → refused f ≡ o → refused f ≡ ends o
+unfolding ends
+ends-refused e = rw (← e) refl
+
+pub ends-there : {A : Type 0} {x : A} {next : ℕ} {o : Outcome A} → got x next ≡ o → IsThere (ends o)
+unfolding ends
+ends-there e = rw (← e) tt
 
 -- Of two places that are there, each is.
 pub both-first : (a b : Outcome (Unit {0})) → IsThere (bothThere a b) → IsThere a

@@ -1,2 +1,4 @@
 pub mod Writers
+pub mod Item
 pub mod There
+pub mod Numbers

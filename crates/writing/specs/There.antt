@@ -6,6 +6,10 @@ use Rattle.format.specs.Order.{decodeHash}
 use Rattle.wire.specs.declared.Items.{Items}
 use Rattle.wire.specs.declared.Place.{Place}
 
+-- A message that is given by its values alone has no place, so none is at fault.
+abbrev pub noPlaces : Outcome (Unit {0})
+noPlaces = got tt 0
+
 abbrev pub hashThere : List ℕ → ℕ → Outcome (Unit {0})
 hashThere s at = ends (decodeHash s at)
 

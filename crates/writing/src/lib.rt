@@ -1,30 +1,31 @@
 // The writers of the lone tag list and the lone query: what lies at a place of the lent bytes, queries from their pieces, and
 // single tags, of which a caller composes a list.
 //
-// Each writer is lent the output and answers with the number of the papers, 0 for an accepted write, and with how many bytes it
+// Each writer is lent the output and answers with the number of document 01, 0 for an accepted write, and with how many bytes it
 // wrote at the front of the output. Everything is checked and the size is known before the first store, so a refusal leaves the
-// output as it was. The order is that of the papers: 6 for what a count field cannot hold, then the number that the reader would
+// output as it was. The order is that of document 01: 6 for what a count field cannot hold, then the number that the reader would
 // give for the finished bytes, and 10, the room, last.
 //
-// specs/Writers.antt says what each writer does; proofs/Writes.antt shows that this is a write of the format.
+// The writers of messages promise a write of the format, at the places that the message has, and its round trip. Those of single
+// items promise a write of specs/Item.antt.
 ghost use mathlib.Core.Path.{_≡_};
 ghost use mathlib.Core.List.{_++_};
-ghost use Prim.Native.Nat.{suc, max, _+_, _≤_, _<_};
+ghost use Prim.Native.Nat.{suc, max, _+_, _≤_};
 ghost use lib.ListN.{length};
-ghost use Rattle.format.specs.Messages.{keyword, field, limit, loneQuery, loneTags};
+ghost use Rattle.format.specs.Messages.{keyword, field, limit, loneQuery, loneTags, stringType, dwordType, floatType, hashType};
 ghost use Rattle.format.specs.Layout.{byte, dword, encodeName, encodeQuery, encodeString};
-ghost use Rattle.format.specs.Decoding.{decodeMany, ends, got};
-ghost use Rattle.format.specs.Order.{decodeQuery, decodeTag};
+ghost use Rattle.format.specs.Decoding.{decodeMany, ends};
+ghost use Rattle.format.specs.Order.{decodeName, decodeQuery, decodeString, decodeTag};
 ghost use Rattle.format.specs.MetOrder.{decode};
-ghost use Rattle.format.specs.Writing.{overwritten};
-ghost use Rattle.wire.specs.Meaning.{doneMeaning, itemsIn};
+ghost use Rattle.format.specs.Writing.{StringFits, overwritten};
+ghost use Rattle.format.specs.RoundTrip.{RoundTrip, WritesAt};
+ghost use Rattle.wire.specs.Meaning.{doneMeaning, hashAt, itemsIn};
 ghost use Rattle.query.specs.Meaning.{boundOf, operatorOf, queryIn};
-ghost use Rattle.format.specs.RoundTrip.{RoundTrip};
-ghost use Rattle.writing.specs.There.{itemsThere};
-ghost use Rattle.writing.specs.Writers.{answered, joinOf, refusedBy, sidesThere, boundByte, operatorByte, answerNumber};
-ghost use Rattle.writing.specs.Writers.{countNumber, nameNumber, keywordNumber, fieldNumber, limitNumber, joinNumber, tagNumber};
-ghost use Rattle.writing.specs.Writers.{writeTagList, writeQuery, writeKeyword, writeField, writeLimit, writeJoin};
-ghost use Rattle.writing.specs.Writers.{writeString, writeName, writeTextTag, writeDwordTag, writeFloatTag, writeHashTag};
+ghost use Rattle.writing.specs.There.{hashThere, itemsThere, noPlaces};
+ghost use Rattle.writing.specs.Writers.{answered, joinOf, refusedBy, sidesThere};
+ghost use Rattle.writing.specs.Item.{WritesItem, WritesTag, tagOf};
+ghost use Rattle.writing.specs.Numbers.{boundByte, operatorByte, answerNumber};
+ghost use Rattle.writing.specs.Numbers.{countNumber, nameNumber, keywordNumber, fieldNumber, limitNumber, joinNumber, tagNumber};
 use query::Bound;
 use query::Operator;
 use query::Query;
@@ -35,6 +36,21 @@ use wire::DoneStep;
 use wire::HashStep;
 use wire::Items;
 use wire::ItemsStep;
+
+// The ceilings of document 01: the bytes of a lone query or tag list, the depth of a query, the bytes of a name.
+const PACKET_CEILING: usize = 65536;
+
+const DEPTH_LIMIT: usize = 24;
+
+const NAME_LIMIT: usize = 255;
+
+// The highest count that a WORD holds.
+const WORD_MOST: usize = 65535;
+
+// What the byte ceiling leaves for the tags of a list behind their count, and for the sides of a join behind its two bytes.
+const TAGS_CEILING: usize = PACKET_CEILING - 4;
+
+const SIDES_CEILING: usize = PACKET_CEILING - 2;
 
 // 0 and how many bytes were written, or the number of a refusal and 0.
 pub struct WriteAnswer {
@@ -74,7 +90,8 @@ fn put_list(out: &mut [u8], count: u32, items: &[u8]) -> usize
 // The lone tag list of the tags that lie at a place of `src`, as the readers hand it out. They are read again, and their bytes are
 // copied as they lie there. A place where no such tags lie is no message: it is refused first, with the number of its own reading.
 pub fn write_tag_list(src: &[u8], tags: Items, out: &mut [u8]) -> WriteAnswer
-    ensures writes { λ r. ⌜ answered r (now (out .exit)) ≡ writeTagList (now (src .entry)) tags (now (out .entry)) ⌝ }
+    ensures writes { λ r. ⌜ WritesAt loneTags (itemsThere decodeTag (now (src .entry)) tags) (itemsIn decodeTag (now (src .entry)) tags)
+        (now (out .entry)) (answered r (now (out .exit))) ⌝ }
     ensures round { λ r. ⌜ RoundTrip loneTags (itemsThere decodeTag (now (src .entry)) tags) (itemsIn decodeTag (now (src .entry)) tags)
         (now (out .entry)) (answered r (now (out .exit))) ⌝ }
 {
@@ -86,7 +103,7 @@ pub fn write_tag_list(src: &[u8], tags: Items, out: &mut [u8]) -> WriteAnswer
     };
     let end = next.at;
     let n = end - at;
-    if 65532 < n {
+    if TAGS_CEILING < n {
         return refused(6);
     }
     if out.len() < 4 + n {
@@ -102,7 +119,8 @@ pub fn write_tag_list(src: &[u8], tags: Items, out: &mut [u8]) -> WriteAnswer
 
 // The lone query that lies at a place of `src`, as the readers hand it out. It is read again, and its bytes are copied.
 pub fn write_query(src: &[u8], q: Query, out: &mut [u8]) -> WriteAnswer
-    ensures writes { λ r. ⌜ answered r (now (out .exit)) ≡ writeQuery (now (src .entry)) q (now (out .entry)) ⌝ }
+    ensures writes { λ r. ⌜ WritesAt loneQuery (ends (decodeQuery (now (src .entry)) (q .at))) (queryIn (now (src .entry)) q)
+        (now (out .entry)) (answered r (now (out .exit))) ⌝ }
     ensures round { λ r. ⌜ RoundTrip loneQuery (ends (decodeQuery (now (src .entry)) (q .at))) (queryIn (now (src .entry)) q)
         (now (out .entry)) (answered r (now (out .exit))) ⌝ }
 {
@@ -113,7 +131,7 @@ pub fn write_query(src: &[u8], q: Query, out: &mut [u8]) -> WriteAnswer
     };
     let end = next.at;
     let n = end - at;
-    if 65536 < n {
+    if PACKET_CEILING < n {
         return refused(6);
     }
     if out.len() < n {
@@ -127,7 +145,7 @@ pub fn write_query(src: &[u8], q: Query, out: &mut [u8]) -> WriteAnswer
     }
 }
 
-// The numbers for pieces that have these lengths, in the order of the papers; the room comes last and is looked at by the writers.
+// The numbers for pieces that have these lengths, in the order of document 01; the room comes last and is looked at by the writers.
 
 fn name_number(n: usize) -> u8
     ensures { λ r. ⌜ r ≡ nameNumber n ⌝ }
@@ -135,28 +153,28 @@ fn name_number(n: usize) -> u8
     if n == 0 {
         return 5;
     }
-    if n <= 255 { 0 } else { 6 }
+    if n <= NAME_LIMIT { 0 } else { 6 }
 }
 
 fn keyword_number(text: usize) -> u8
     ensures { λ r. ⌜ r ≡ keywordNumber text ⌝ }
 {
-    if 65535 < text {
+    if WORD_MOST < text {
         return 6;
     }
-    if 65536 < 3 + text { 6 } else { 0 }
+    if PACKET_CEILING < 3 + text { 6 } else { 0 }
 }
 
 fn field_number(text: usize, name: usize) -> u8
     ensures { λ r. ⌜ r ≡ fieldNumber text name ⌝ }
 {
-    if 65535 < text {
+    if WORD_MOST < text {
         return 6;
     }
-    if 65535 < name {
+    if WORD_MOST < name {
         return 6;
     }
-    if 65536 < 5 + text + name {
+    if PACKET_CEILING < 5 + text + name {
         return 6;
     }
     name_number(name)
@@ -165,10 +183,10 @@ fn field_number(text: usize, name: usize) -> u8
 fn limit_number(name: usize) -> u8
     ensures { λ r. ⌜ r ≡ limitNumber name ⌝ }
 {
-    if 65535 < name {
+    if WORD_MOST < name {
         return 6;
     }
-    if 65536 < 8 + name {
+    if PACKET_CEILING < 8 + name {
         return 6;
     }
     name_number(name)
@@ -177,7 +195,7 @@ fn limit_number(name: usize) -> u8
 // The pieces of a query, at the front of what is lent; each answers with how many bytes it wrote.
 
 fn put_keyword(out: &mut [u8], text: &[u8]) -> usize
-    requires { ⌜ (length (now text) < 65536) × (3 + length (now text) ≤ length (now out)) ⌝ }
+    requires { ⌜ StringFits (now text) × (3 + length (now text) ≤ length (now out)) ⌝ }
     ensures written { λ r. ⌜ r ≡ 3 + length (now (text .entry)) ⌝ }
     ensures output { λ r. ⌜ now (out .exit) ≡ overwritten (encodeQuery (keyword (now (text .entry)))) (now (out .entry)) ⌝ }
 {
@@ -187,7 +205,7 @@ fn put_keyword(out: &mut [u8], text: &[u8]) -> usize
 }
 
 fn put_field(out: &mut [u8], text: &[u8], name: &[u8]) -> usize
-    requires { ⌜ (length (now text) < 65536) × (length (now name) < 65536) × (5 + length (now text) + length (now name) ≤ length (now out)) ⌝ }
+    requires { ⌜ StringFits (now text) × StringFits (now name) × (5 + length (now text) + length (now name) ≤ length (now out)) ⌝ }
     ensures written { λ r. ⌜ r ≡ 5 + length (now (text .entry)) + length (now (name .entry)) ⌝ }
     ensures output { λ r. ⌜ now (out .exit) ≡ overwritten (encodeQuery (field (now (text .entry)) (now (name .entry)))) (now (out .entry)) ⌝ }
 {
@@ -208,7 +226,7 @@ fn bound_byte(bound: Bound) -> u8
 }
 
 fn put_limit(out: &mut [u8], value: u32, bound: Bound, name: &[u8]) -> usize
-    requires { ⌜ (length (now name) < 65536) × (8 + length (now name) ≤ length (now out)) ⌝ }
+    requires { ⌜ StringFits (now name) × (8 + length (now name) ≤ length (now out)) ⌝ }
     ensures written { λ r. ⌜ r ≡ 8 + length (now (name .entry)) ⌝ }
     ensures output { λ r. ⌜ now (out .exit) ≡ overwritten (encodeQuery (limit value (boundOf bound) (now (name .entry)))) (now (out .entry)) ⌝ }
 {
@@ -222,8 +240,9 @@ fn put_limit(out: &mut [u8], value: u32, bound: Bound, name: &[u8]) -> usize
 
 // A lone query that is a keyword.
 pub fn write_keyword(text: &[u8], out: &mut [u8]) -> WriteAnswer
-    ensures writes { λ r. ⌜ answered r (now (out .exit)) ≡ writeKeyword (now (text .entry)) (now (out .entry)) ⌝ }
-    ensures round { λ r. ⌜ RoundTrip loneQuery (got tt 0) (keyword (now (text .entry)))
+    ensures writes { λ r. ⌜ WritesAt loneQuery noPlaces (keyword (now (text .entry)))
+        (now (out .entry)) (answered r (now (out .exit))) ⌝ }
+    ensures round { λ r. ⌜ RoundTrip loneQuery noPlaces (keyword (now (text .entry)))
         (now (out .entry)) (answered r (now (out .exit))) ⌝ }
 {
     let number = keyword_number(text.len());
@@ -242,8 +261,9 @@ pub fn write_keyword(text: &[u8], out: &mut [u8]) -> WriteAnswer
 
 // A lone query that is a field: a text and the name of the tag that must equal it.
 pub fn write_field(text: &[u8], name: &[u8], out: &mut [u8]) -> WriteAnswer
-    ensures writes { λ r. ⌜ answered r (now (out .exit)) ≡ writeField (now (text .entry)) (now (name .entry)) (now (out .entry)) ⌝ }
-    ensures round { λ r. ⌜ RoundTrip loneQuery (got tt 0) (field (now (text .entry)) (now (name .entry)))
+    ensures writes { λ r. ⌜ WritesAt loneQuery noPlaces (field (now (text .entry)) (now (name .entry)))
+        (now (out .entry)) (answered r (now (out .exit))) ⌝ }
+    ensures round { λ r. ⌜ RoundTrip loneQuery noPlaces (field (now (text .entry)) (now (name .entry)))
         (now (out .entry)) (answered r (now (out .exit))) ⌝ }
 {
     let number = field_number(text.len(), name.len());
@@ -262,8 +282,9 @@ pub fn write_field(text: &[u8], name: &[u8], out: &mut [u8]) -> WriteAnswer
 
 // A lone query that is a limit: a number, whether it is the least or the most, and the name of the tag that must keep to it.
 pub fn write_limit(value: u32, bound: Bound, name: &[u8], out: &mut [u8]) -> WriteAnswer
-    ensures writes { λ r. ⌜ answered r (now (out .exit)) ≡ writeLimit value (boundOf bound) (now (name .entry)) (now (out .entry)) ⌝ }
-    ensures round { λ r. ⌜ RoundTrip loneQuery (got tt 0) (limit value (boundOf bound) (now (name .entry)))
+    ensures writes { λ r. ⌜ WritesAt loneQuery noPlaces (limit value (boundOf bound) (now (name .entry)))
+        (now (out .entry)) (answered r (now (out .exit))) ⌝ }
+    ensures round { λ r. ⌜ RoundTrip loneQuery noPlaces (limit value (boundOf bound) (now (name .entry)))
         (now (out .entry)) (answered r (now (out .exit))) ⌝ }
 {
     let number = limit_number(name.len());
@@ -304,16 +325,16 @@ fn answer_number(a: QueryAnswer) -> u8
 fn join_number(left: usize, right: usize, left_depth: usize, right_depth: usize) -> u8
     ensures { λ r. ⌜ r ≡ joinNumber (2 + left + right) (suc (max «left_depth» «right_depth»)) ⌝ }
 {
-    if 65534 < left {
+    if SIDES_CEILING < left {
         return 6;
     }
-    if 65534 - left < right {
+    if SIDES_CEILING - left < right {
         return 6;
     }
-    if 23 < left_depth {
+    if DEPTH_LIMIT <= left_depth {
         return 6;
     }
-    if 23 < right_depth { 6 } else { 0 }
+    if DEPTH_LIMIT <= right_depth { 6 } else { 0 }
 }
 
 fn put_join(out: &mut [u8], operator: Operator, left: &[u8], right: &[u8]) -> usize
@@ -334,7 +355,9 @@ fn put_join(out: &mut [u8], operator: Operator, left: &[u8], right: &[u8]) -> us
 // A lone query that joins two lone queries, given as their bytes. A side that is no lone query is refused with its own number, the
 // left one first; then the join is checked like any other query.
 pub fn write_join(operator: Operator, left: &[u8], right: &[u8], out: &mut [u8]) -> WriteAnswer
-    ensures writes { λ r. ⌜ answered r (now (out .exit)) ≡ writeJoin (operatorOf operator) (now (left .entry)) (now (right .entry)) (now (out .entry)) ⌝ }
+    ensures writes { λ r. ⌜ WritesAt loneQuery (sidesThere (decode loneQuery (now (left .entry))) (decode loneQuery (now (right .entry))))
+        (joinOf (operatorOf operator) (decode loneQuery (now (left .entry))) (decode loneQuery (now (right .entry))))
+        (now (out .entry)) (answered r (now (out .exit))) ⌝ }
     ensures round { λ r. ⌜ RoundTrip loneQuery (sidesThere (decode loneQuery (now (left .entry))) (decode loneQuery (now (right .entry))))
         (joinOf (operatorOf operator) (decode loneQuery (now (left .entry))) (decode loneQuery (now (right .entry))))
         (now (out .entry)) (answered r (now (out .exit))) ⌝ }
@@ -366,16 +389,16 @@ pub fn write_join(operator: Operator, left: &[u8], right: &[u8], out: &mut [u8])
 fn string_number(text: usize) -> u8
     ensures { λ r. ⌜ r ≡ countNumber text 0 ⌝ }
 {
-    if 65535 < text { 6 } else { 0 }
+    if WORD_MOST < text { 6 } else { 0 }
 }
 
 fn tag_number(name: usize, text: usize) -> u8
     ensures { λ r. ⌜ r ≡ tagNumber name text ⌝ }
 {
-    if 65535 < name {
+    if WORD_MOST < name {
         return 6;
     }
-    if 65535 < text {
+    if WORD_MOST < text {
         return 6;
     }
     name_number(name)
@@ -383,7 +406,8 @@ fn tag_number(name: usize, text: usize) -> u8
 
 // A String: the WORD of its length and its bytes.
 pub fn write_string(text: &[u8], out: &mut [u8]) -> WriteAnswer
-    ensures { λ r. ⌜ answered r (now (out .exit)) ≡ writeString (now (text .entry)) (now (out .entry)) ⌝ }
+    ensures { λ r. ⌜ WritesItem StringFits encodeString decodeString noPlaces (now (text .entry))
+        (now (out .entry)) (answered r (now (out .exit))) ⌝ }
 {
     let number = string_number(text.len());
     if number != 0 {
@@ -401,7 +425,8 @@ pub fn write_string(text: &[u8], out: &mut [u8]) -> WriteAnswer
 
 // A name: laid out as a String, of 1 to 255 bytes.
 pub fn write_name(name: &[u8], out: &mut [u8]) -> WriteAnswer
-    ensures { λ r. ⌜ answered r (now (out .exit)) ≡ writeName (now (name .entry)) (now (out .entry)) ⌝ }
+    ensures { λ r. ⌜ WritesItem StringFits encodeName decodeName noPlaces (now (name .entry))
+        (now (out .entry)) (answered r (now (out .exit))) ⌝ }
 {
     let number = tag_number(name.len(), 0);
     if number != 0 {
@@ -419,7 +444,7 @@ pub fn write_name(name: &[u8], out: &mut [u8]) -> WriteAnswer
 
 // The type and the name of a tag.
 fn put_tag_head(out: &mut [u8], code: u8, name: &[u8]) -> usize
-    requires { ⌜ (length (now name) < 65536) × (3 + length (now name) ≤ length (now out)) ⌝ }
+    requires { ⌜ StringFits (now name) × (3 + length (now name) ≤ length (now out)) ⌝ }
     ensures written { λ r. ⌜ r ≡ 3 + length (now (name .entry)) ⌝ }
     ensures output { λ r. ⌜ now (out .exit) ≡ overwritten (byte code ++ encodeName (now (name .entry))) (now (out .entry)) ⌝ }
 {
@@ -429,7 +454,7 @@ fn put_tag_head(out: &mut [u8], code: u8, name: &[u8]) -> usize
 }
 
 fn put_number_tag(out: &mut [u8], code: u8, name: &[u8], value: u32) -> usize
-    requires { ⌜ (length (now name) < 65536) × (7 + length (now name) ≤ length (now out)) ⌝ }
+    requires { ⌜ StringFits (now name) × (7 + length (now name) ≤ length (now out)) ⌝ }
     ensures written { λ r. ⌜ r ≡ 7 + length (now (name .entry)) ⌝ }
     ensures output { λ r. ⌜ now (out .exit) ≡ overwritten (byte code ++ (encodeName (now (name .entry)) ++ dword value)) (now (out .entry)) ⌝ }
 {
@@ -439,7 +464,7 @@ fn put_number_tag(out: &mut [u8], code: u8, name: &[u8], value: u32) -> usize
 }
 
 fn put_text_tag(out: &mut [u8], name: &[u8], text: &[u8]) -> usize
-    requires { ⌜ (length (now name) < 65536) × (length (now text) < 65536) × (5 + length (now name) + length (now text) ≤ length (now out)) ⌝ }
+    requires { ⌜ StringFits (now name) × StringFits (now text) × (5 + length (now name) + length (now text) ≤ length (now out)) ⌝ }
     ensures written { λ r. ⌜ r ≡ 5 + length (now (name .entry)) + length (now (text .entry)) ⌝ }
     ensures output { λ r. ⌜ now (out .exit) ≡ overwritten (byte 2 ++ (encodeName (now (name .entry)) ++ encodeString (now (text .entry)))) (now (out .entry)) ⌝ }
 {
@@ -450,7 +475,8 @@ fn put_text_tag(out: &mut [u8], name: &[u8], text: &[u8]) -> usize
 
 // A String tag.
 pub fn write_text_tag(name: &[u8], text: &[u8], out: &mut [u8]) -> WriteAnswer
-    ensures { λ r. ⌜ answered r (now (out .exit)) ≡ writeTextTag (now (name .entry)) (now (text .entry)) (now (out .entry)) ⌝ }
+    ensures { λ r. ⌜ WritesTag noPlaces (tagOf (now (name .entry)) stringType (now (text .entry)))
+        (now (out .entry)) (answered r (now (out .exit))) ⌝ }
 {
     let number = tag_number(name.len(), text.len());
     if number != 0 {
@@ -468,7 +494,8 @@ pub fn write_text_tag(name: &[u8], text: &[u8], out: &mut [u8]) -> WriteAnswer
 
 // A DWORD tag.
 pub fn write_dword_tag(name: &[u8], value: u32, out: &mut [u8]) -> WriteAnswer
-    ensures { λ r. ⌜ answered r (now (out .exit)) ≡ writeDwordTag (now (name .entry)) value (now (out .entry)) ⌝ }
+    ensures { λ r. ⌜ WritesTag noPlaces (tagOf (now (name .entry)) dwordType value)
+        (now (out .entry)) (answered r (now (out .exit))) ⌝ }
 {
     let number = tag_number(name.len(), 0);
     if number != 0 {
@@ -486,7 +513,8 @@ pub fn write_dword_tag(name: &[u8], value: u32, out: &mut [u8]) -> WriteAnswer
 
 // A FLOAT tag, given as its bits.
 pub fn write_float_tag(name: &[u8], bits: u32, out: &mut [u8]) -> WriteAnswer
-    ensures { λ r. ⌜ answered r (now (out .exit)) ≡ writeFloatTag (now (name .entry)) bits (now (out .entry)) ⌝ }
+    ensures { λ r. ⌜ WritesTag noPlaces (tagOf (now (name .entry)) floatType bits)
+        (now (out .entry)) (answered r (now (out .exit))) ⌝ }
 {
     let number = tag_number(name.len(), 0);
     if number != 0 {
@@ -503,7 +531,7 @@ pub fn write_float_tag(name: &[u8], bits: u32, out: &mut [u8]) -> WriteAnswer
 }
 
 fn put_hash_tag(out: &mut [u8], name: &[u8], hash: &[u8]) -> usize
-    requires { ⌜ (length (now name) < 65536) × (length (now hash) ≡ 16) × (19 + length (now name) ≤ length (now out)) ⌝ }
+    requires { ⌜ StringFits (now name) × (length (now hash) ≡ 16) × (19 + length (now name) ≤ length (now out)) ⌝ }
     ensures written { λ r. ⌜ r ≡ 19 + length (now (name .entry)) ⌝ }
     ensures output { λ r. ⌜ now (out .exit) ≡ overwritten (byte 1 ++ (encodeName (now (name .entry)) ++ now (hash .entry))) (now (out .entry)) ⌝ }
 {
@@ -514,11 +542,12 @@ fn put_hash_tag(out: &mut [u8], name: &[u8], hash: &[u8]) -> usize
 
 // A HASH tag. The hash is the 16 bytes at a place of `src`; where they are not, the number is that of their own reading.
 pub fn write_hash_tag(name: &[u8], src: &[u8], at: usize, out: &mut [u8]) -> WriteAnswer
-    ensures { λ r. ⌜ answered r (now (out .exit)) ≡ writeHashTag (now (name .entry)) (now (src .entry)) at (now (out .entry)) ⌝ }
+    ensures { λ r. ⌜ WritesTag (hashThere (now (src .entry)) at) (tagOf (now (name .entry)) hashType (hashAt (now (src .entry)) at))
+        (now (out .entry)) (answered r (now (out .exit))) ⌝ }
 {
     let c = Cursor { at };
     let h = c.hash(src);
-    let HashStep::Got(place, _) = h else {
+    let HashStep::Got(_, _) = h else {
         return refused(h.fault().number());
     };
     let number = tag_number(name.len(), 0);
@@ -528,7 +557,7 @@ pub fn write_hash_tag(name: &[u8], src: &[u8], at: usize, out: &mut [u8]) -> Wri
     if out.len() < 19 + name.len() {
         return refused(10);
     }
-    let hash = wire::bytes_at(src, place, 16);
+    let hash = wire::bytes_at(src, at, 16);
     let wrote = put_hash_tag(out, name, hash);
     WriteAnswer {
         number: 0,

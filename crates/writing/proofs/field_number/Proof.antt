@@ -1,6 +1,6 @@
 use mathlib.Core.Path.{refl}
 use borrow.Author.Tests.{le-leb, lt-leb}
-use Rattle.writing.specs.Writers.{fieldNumber}
+use Rattle.writing.specs.Numbers.{fieldNumber}
 use borrow.Author.Needs.{needs}
 use Rattle.writing.proofs.field_number.Statement.{statement}
 use Rattle.writing.proofs.field_number.Tie as tie

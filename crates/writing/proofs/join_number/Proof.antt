@@ -2,7 +2,7 @@ use Prim.Native.Nat.{suc, max, _+_}
 use mathlib.Core.Path.{refl}
 use native.Mathlib.Omega.{arith}
 use borrow.Author.Tests.{le-leb, lt-leb}
-use Rattle.writing.specs.Writers.{joinNumber}
+use Rattle.writing.specs.Numbers.{joinNumber}
 use Rattle.writing.proofs.join_number.Statement.{statement}
 use Rattle.writing.proofs.join_number.Tie as tie
 

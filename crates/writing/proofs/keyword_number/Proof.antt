@@ -1,6 +1,6 @@
 use mathlib.Core.Path.{refl}
 use borrow.Author.Tests.{le-leb, lt-leb}
-use Rattle.writing.specs.Writers.{keywordNumber}
+use Rattle.writing.specs.Numbers.{keywordNumber}
 use borrow.Author.Needs.{needs}
 use Rattle.writing.proofs.keyword_number.Statement.{statement}
 use Rattle.writing.proofs.keyword_number.Tie as tie

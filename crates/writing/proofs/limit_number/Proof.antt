@@ -1,6 +1,6 @@
 use mathlib.Core.Path.{refl}
 use borrow.Author.Tests.{le-leb, lt-leb}
-use Rattle.writing.specs.Writers.{limitNumber}
+use Rattle.writing.specs.Numbers.{limitNumber}
 use borrow.Author.Needs.{needs}
 use Rattle.writing.proofs.limit_number.Statement.{statement}
 use Rattle.writing.proofs.limit_number.Tie as tie

@@ -7,7 +7,7 @@ use lib.ListN.{length, length-append}
 use Rattle.format.specs.Layout.{byte}
 use Rattle.format.proofs.Codec.{length-littleEndian}
 use Rattle.put.proofs.Laws.{after}
-use Rattle.writing.specs.Writers.{operatorByte}
+use Rattle.writing.specs.Numbers.{operatorByte}
 use borrow.Author.Needs.{needs}
 use Rattle.writing.proofs.put_join.Statement.{statement}
 use Rattle.writing.proofs.put_join.Tie as tie

@@ -6,7 +6,7 @@ use lib.ListN.{length, length-append}
 use Rattle.format.specs.Layout.{byte, dword, encodeQuery, encodeString}
 use Rattle.format.proofs.Codec.{length-littleEndian}
 use Rattle.put.proofs.Laws.{after}
-use Rattle.writing.specs.Writers.{boundByte}
+use Rattle.writing.specs.Numbers.{boundByte}
 use Rattle.writing.proofs.Pieces.{name-string}
 use borrow.Author.Needs.{needs}
 use Rattle.writing.proofs.put_limit.Statement.{statement}

@@ -4,7 +4,7 @@ use native.Mathlib.Omega.{arith}
 use denote.Ref.{now}
 use Rattle.format.specs.Layout.{byte, dword, encodeName}
 use Rattle.put.proofs.Laws.{after}
-use Rattle.writing.proofs.TagPieces.{head-size}
+use Rattle.writing.proofs.Pieces.{head-size}
 use borrow.Author.Needs.{needs}
 use Rattle.writing.proofs.put_number_tag.Statement.{statement}
 use Rattle.writing.proofs.put_number_tag.Tie as tie

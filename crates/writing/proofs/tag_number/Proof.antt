@@ -1,6 +1,6 @@
 use mathlib.Core.Path.{refl}
 use borrow.Author.Tests.{le-leb, lt-leb}
-use Rattle.writing.specs.Writers.{tagNumber}
+use Rattle.writing.specs.Numbers.{tagNumber}
 use borrow.Author.Needs.{needs}
 use Rattle.writing.proofs.tag_number.Statement.{statement}
 use Rattle.writing.proofs.tag_number.Tie as tie

@@ -2,12 +2,10 @@ use mathlib.Core.Path.{_∙_, sym}
 use native.Mathlib.Omega.{arith}
 use denote.Ref.{now}
 use lib.ListN.{length}
-use Rattle.format.specs.Messages.{field}
-use Rattle.format.specs.Layout.{encodeQuery}
-use Rattle.writing.specs.Writers.{writeField}
-use Rattle.writing.proofs.Pieces.{field-size, field-fits, faulty, roomless, written}
 use Rattle.wire.proofs.Replies.{slice-bytes}
-use Rattle.writing.proofs.Writes.{field-round}
+use Rattle.writing.proofs.Answers.{roomless, written}
+use Rattle.writing.proofs.Pieces.{field-fits}
+use Rattle.writing.proofs.Leaves.{field-ready}
 use borrow.Author.Needs.{needs}
 use Rattle.writing.proofs.write_field.Statement.{statement}
 use Rattle.writing.proofs.write_field.Tie as tie
@@ -19,12 +17,13 @@ refused-requires : tie.Need-refused-requires
 refused-requires c κs = search needs
 
 returns : tie.Need-returns
-unfolding writeField
 returns c =
-    let a = c .before .before .before .before .before .before .args in
-    field-round _ (now (a .text)) (now (a .name)) (slice-bytes (now (a .text)) (c .before .before .before .before .before .shared-slice-known .given)) (slice-bytes (now (a .name)) (c .before .before .before .before .shared-slice-known2 .given))
-    (rw (c .refused .ensures)
-    (faulty _ _ (c .before .before .field-number .ensures) (encodeQuery (field (now (a .text)) (now (a .name)))) _ (c .before .if1 .taken)))
+    let b4 = c .before .before .before .before in
+    let a = b4 .before .before .args in
+    let text = slice-bytes (now (a .text)) (b4 .before .shared-slice-known .given) in
+    let name = slice-bytes (now (a .name)) (b4 .shared-slice-known2 .given) in
+    let ready = field-ready (now (a .out)) (now (a .text)) (now (a .name)) text name (c .before .before .field-number .ensures) in
+    rw (c .refused .ensures) (ready .faulty (c .before .if1 .taken))
 
 add-if2 : tie.Need-add-if2
 add-if2 c = search needs
@@ -39,15 +38,13 @@ refused-requires-2 : tie.Need-refused-requires-2
 refused-requires-2 c κs = search needs
 
 returns-2 : tie.Need-returns-2
-unfolding writeField
 returns-2 c =
     let b4 = c .before .before .before .before in
     let a = b4 .before .before .before .args in
-    let bytes = encodeQuery (field (now (a .text)) (now (a .name))) in
-    let sized = field-size (now (a .text)) (now (a .name)) in
-    field-round _ (now (a .text)) (now (a .name)) (slice-bytes (now (a .text)) (b4 .before .before .shared-slice-known .given)) (slice-bytes (now (a .name)) (b4 .before .shared-slice-known2 .given))
-    (rw (c .refused2 .ensures)
-    (roomless _ _ (c .before .before .before .field-number .ensures) bytes _ (c .before .before .if1 .left) _ sized (c .before .if2 .taken)))
+    let text = slice-bytes (now (a .text)) (b4 .before .before .shared-slice-known .given) in
+    let name = slice-bytes (now (a .name)) (b4 .before .shared-slice-known2 .given) in
+    let ready = field-ready (now (a .out)) (now (a .text)) (now (a .name)) text name (c .before .before .before .field-number .ensures) in
+    rw (c .refused2 .ensures) (roomless ready (c .before .before .if1 .left) (c .before .if2 .taken))
 
 put-field-requires : tie.Need-put-field-requires
 put-field-requires c κs =
@@ -60,17 +57,15 @@ same-length : tie.Need-same-length
 same-length c = search needs
 
 returns-3 : tie.Need-returns-3
-unfolding writeField
 returns-3 c =
     let b4 = c .before .before .before .before in
     let b8 = b4 .before .before .before .before in
     let a = b8 .before .before .args in
+    let text = slice-bytes (now (a .text)) (b8 .before .shared-slice-known .given) in
+    let name = slice-bytes (now (a .name)) (b8 .shared-slice-known2 .given) in
+    let ready = field-ready (now (a .out)) (now (a .text)) (now (a .name)) text name (b4 .before .before .field-number .ensures) in
     let put = c .before .before .put-field .ensures in
-    let bytes = encodeQuery (field (now (a .text)) (now (a .name))) in
-    let sized = field-size (now (a .text)) (now (a .name)) in
-    field-round _ (now (a .text)) (now (a .name)) (slice-bytes (now (a .text)) (b8 .before .shared-slice-known .given)) (slice-bytes (now (a .name)) (b8 .shared-slice-known2 .given))
-    (rw (put .0, put .1)
-    (written _ _ (b4 .before .before .field-number .ensures) bytes (now (a .out)) (b4 .before .if1 .left) _ sized (b4 .if2 .left)))
+    rw (put .0, put .1) (written ready (b4 .before .if1 .left) (b4 .if2 .left))
 
 pub write-field-spec : {M : Type 1} → statement M
 write-field-spec =

@@ -1,11 +1,12 @@
 use mathlib.Core.Path.{_∙_, sym}
-use mathlib.Core.List.{_++_}
 use denote.Ref.{now}
 use lib.ListN.{length}
-use Rattle.format.specs.Layout.{byte, encodeName}
 use Rattle.wire.specs.Meaning.{hashAt}
-use Rattle.writing.proofs.Pieces.{faulty, roomless, written}
-use Rattle.writing.proofs.TagPieces.{hash-length, hash-refused, hash-tag-size, hash-writes, tag-fits}
+use Rattle.wire.proofs.Replies.{slice-bytes}
+use Rattle.writing.proofs.There.{ends-refused, ends-there, valid-hash}
+use Rattle.writing.proofs.Answers.{item-missing, roomless, written}
+use Rattle.writing.proofs.Pieces.{tag-fits}
+use Rattle.writing.proofs.Item.{hash-ready}
 use borrow.Author.Needs.{needs}
 use Rattle.writing.proofs.write_hash_tag.Statement.{statement}
 use Rattle.writing.proofs.write_hash_tag.Tie as tie
@@ -13,11 +14,11 @@ use Rattle.writing.proofs.write_hash_tag.Tie as tie
 hash-requires : tie.Need-hash-requires
 hash-requires c κs = search needs
 
-enum-known-h : tie.Need-enum-known-h
-enum-known-h c = search needs
-
 enum-told : tie.Need-enum-told
 enum-told c = search needs
+
+enum-told-2 : tie.Need-enum-told-2
+enum-told-2 c = search needs
 
 fault-requires : tie.Need-fault-requires
 fault-requires c κs = search needs
@@ -33,10 +34,9 @@ returns c =
     let b4 = c .before .before .before .before in
     let b8 = b4 .before .before .before .before in
     let a = b8 .before .args in
-    let told = c .before .before .before .enum-told .given .1 in
+    let told = c .before .before .before .enum-told2 .given .1 in
     let read = rw told at (b4 .before .hash .ensures) in
-    rw (c .refused .ensures, c .before .number .ensures, c .before .before .fault .ensures, told)
-    (hash-refused (now (a .name)) (now (a .src)) (a .at) _ read)
+    rw (c .refused .ensures, c .before .number .ensures, c .before .before .fault .ensures, told) (item-missing (now (a .out)) (ends-refused read))
 
 tag-number-requires : tie.Need-tag-number-requires
 tag-number-requires c κs = search needs
@@ -48,12 +48,12 @@ returns-2 : tie.Need-returns-2
 returns-2 c =
     let b4 = c .before .before .before .before in
     let b8 = b4 .before .before .before .before in
-    let a = b8 .before .before .args in
-    let place = b4 .h .given .0 .0 in
-    let read = rw (b4 .h .given .1) at (b4 .before .before .hash .ensures) in
-    let bytes = byte 1 ++ (encodeName (now (a .name)) ++ hashAt (now (a .src)) place) in
-    rw (c .refused2 .ensures)
-    (faulty _ _ (c .before .before .tag-number .ensures) bytes _ (c .before .if1 .taken)) ∙ sym (hash-writes (now (a .name)) (now (a .src)) (a .at) (now (a .out)) read)
+    let a = b8 .before .args in
+    let here = ends-there (rw (c .before .before .before .enum-told .given .1) at (b4 .before .hash .ensures)) in
+    let name = slice-bytes (now (a .name)) (b8 .shared-slice-known .given) in
+    let hash = valid-hash (now (a .src)) (slice-bytes (now (a .src)) (b4 .before .before .before .shared-slice-known2 .given)) (a .at) here in
+    let ready = hash-ready (now (a .out)) (now (a .name)) name (c .before .before .tag-number .ensures) (hashAt (now (a .src)) (a .at)) here hash in
+    rw (c .refused2 .ensures) (ready .faulty (c .before .if1 .taken))
 
 add-if2 : tie.Need-add-if2
 add-if2 c = search needs
@@ -65,13 +65,12 @@ returns-3 : tie.Need-returns-3
 returns-3 c =
     let b4 = c .before .before .before .before in
     let b8 = b4 .before .before .before .before in
-    let a = b8 .before .before .before .args in
-    let place = b4 .before .h .given .0 .0 in
-    let read = rw (b4 .before .h .given .1) at (b4 .before .before .before .hash .ensures) in
-    let size = hash-tag-size (now (a .name)) (hashAt (now (a .src)) place) (hash-length (now (a .src)) (a .at) read) in
-    let bytes = byte 1 ++ (encodeName (now (a .name)) ++ hashAt (now (a .src)) place) in
-    rw (c .refused3 .ensures)
-    (roomless _ _ (c .before .before .before .tag-number .ensures) bytes _ (c .before .before .if1 .left) _ size (c .before .if2 .taken)) ∙ sym (hash-writes (now (a .name)) (now (a .src)) (a .at) (now (a .out)) read)
+    let a = b8 .before .before .args in
+    let here = ends-there (rw (b4 .enum-told .given .1) at (b4 .before .before .hash .ensures)) in
+    let name = slice-bytes (now (a .name)) (b8 .before .shared-slice-known .given) in
+    let hash = valid-hash (now (a .src)) (slice-bytes (now (a .src)) (b8 .shared-slice-known2 .given)) (a .at) here in
+    let ready = hash-ready (now (a .out)) (now (a .name)) name (c .before .before .before .tag-number .ensures) (hashAt (now (a .src)) (a .at)) here hash in
+    rw (c .refused3 .ensures) (roomless ready (c .before .before .if1 .left) (c .before .if2 .taken))
 
 bytes-at-requires : tie.Need-bytes-at-requires
 bytes-at-requires c κs = search needs
@@ -80,11 +79,11 @@ put-hash-tag-requires : tie.Need-put-hash-tag-requires
 put-hash-tag-requires c κs =
     let b4 = c .before .before .before .before in
     let b8 = b4 .before .before .before .before in
-    let b12 = b8 .before .before .before .before in
-    let a = b12 .args in
-    let read = rw (b4 .before .before .h .given .1) at (b8 .hash .ensures) in
+    let a = b8 .before .before .before .args in
+    let here = ends-there (rw (b4 .before .enum-told .given .1) at (b4 .before .before .before .hash .ensures)) in
+    let hash = valid-hash (now (a .src)) (slice-bytes (now (a .src)) (b8 .before .shared-slice-known2 .given)) (a .at) here in
     let h = tag-fits (length (now (a .name))) 0 (sym (b4 .tag-number .ensures) ∙ c .before .before .before .if1 .left) in
-    (h .0, rw (c .before .bytes-at .ensures) (hash-length (now (a .src)) (a .at) read), c .before .before .if2 .left)
+    (h .0, rw (c .before .bytes-at .ensures) (hash .0), c .before .before .if2 .left)
 
 same-length : tie.Need-same-length
 same-length c = search needs
@@ -94,23 +93,21 @@ returns-4 c =
     let b4 = c .before .before .before .before in
     let b8 = b4 .before .before .before .before in
     let b12 = b8 .before .before .before .before in
-    let a = b12 .before .before .before .args in
-    let place = b8 .before .h .given .0 .0 in
-    let read = rw (b8 .before .h .given .1) at (b8 .before .before .before .hash .ensures) in
-    let size = hash-tag-size (now (a .name)) (hashAt (now (a .src)) place) (hash-length (now (a .src)) (a .at) read) in
+    let a = b12 .before .before .args in
+    let here = ends-there (rw (b8 .enum-told .given .1) at (b8 .before .before .hash .ensures)) in
+    let name = slice-bytes (now (a .name)) (b12 .before .shared-slice-known .given) in
+    let hash = valid-hash (now (a .src)) (slice-bytes (now (a .src)) (b12 .shared-slice-known2 .given)) (a .at) here in
+    let ready = hash-ready (now (a .out)) (now (a .name)) name (b4 .before .before .before .tag-number .ensures) (hashAt (now (a .src)) (a .at)) here hash in
     let put = c .before .before .put-hash-tag .ensures in
-    let bytes = byte 1 ++ (encodeName (now (a .name)) ++ hashAt (now (a .src)) place) in
-    rw (put .0, put .1, b4 .bytes-at .ensures)
-    (written _ _ (b4 .before .before .before .tag-number .ensures) bytes (now (a .out)) (b4 .before .before .if1 .left) _ size (b4 .before .if2 .left))
-    ∙ sym (hash-writes (now (a .name)) (now (a .src)) (a .at) (now (a .out)) read)
+    rw (put .0, put .1, b4 .bytes-at .ensures) (written ready (b4 .before .before .if1 .left) (b4 .before .if2 .left))
 
 pub write-hash-tag-spec : {M : Type 1} → statement M
 write-hash-tag-spec =
     tie.close
     (tie.spec
     hash-requires
-    enum-known-h
     enum-told
+    enum-told-2
     fault-requires
     number-requires
     refused-requires

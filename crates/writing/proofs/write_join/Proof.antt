@@ -4,10 +4,9 @@ use native.Mathlib.Omega.{arith}
 use denote.Ref.{now}
 use lib.ListN.{length}
 use Rattle.query.specs.Meaning.{operatorOf}
-use Rattle.writing.proofs.Pieces.{faulty, roomless, written}
-use Rattle.writing.proofs.Joins.{join-fits, join-size, joined, joins, left-refused, right-refused, side}
 use Rattle.wire.proofs.Replies.{slice-bytes}
-use Rattle.writing.proofs.Writes.{join-round}
+use Rattle.writing.proofs.Answers.{roomless, written}
+use Rattle.writing.proofs.Joins.{join-fits, join-ready, left-refused, right-refused, side}
 use borrow.Author.Needs.{needs}
 use Rattle.writing.proofs.write_join.Statement.{statement}
 use Rattle.writing.proofs.write_join.Tie as tie
@@ -29,14 +28,12 @@ refused-requires c κs = search needs
 
 returns : tie.Need-returns
 returns c =
-    let b4 = c .before .before .before .before in
-    let first = b4 in
+    let first = c .before .before .before .before in
     let a = first .before .before .before .before .args in
     let told = c .before .before .enum-told .given .1 in
     let x = rw told at (first .read-lone-query .ensures) in
-    join-round _ (operatorOf (a .operator)) (now (a .left)) (now (a .right)) (slice-bytes (now (a .left)) (first .before .before .before .shared-slice-known .given)) (slice-bytes (now (a .right)) (first .before .before .shared-slice-known2 .given))
-    (rw (c .refused .ensures, c .before .answer-number .ensures, told)
-    (left-refused (operatorOf (a .operator)) (now (a .left)) (now (a .right)) _ (x .0)))
+    rw (c .refused .ensures, c .before .answer-number .ensures, told)
+    (left-refused (operatorOf (a .operator)) (now (a .left)) (now (a .right)) (now (a .out)) (x .0))
 
 read-lone-query-requires-2 : tie.Need-read-lone-query-requires-2
 read-lone-query-requires-2 c κs = search needs
@@ -56,16 +53,14 @@ refused-requires-2 c κs = search needs
 returns-2 : tie.Need-returns-2
 returns-2 c =
     let b4 = c .before .before .before .before in
-    let b8 = b4 .before .before .before .before in
-    let first = b8 in
+    let first = b4 .before .before .before .before in
     let a = first .before .before .before .before .args in
     let x = rw (b4 .before .before .a .given .1) at (first .read-lone-query .ensures) in
     let left = side (now (a .left)) (first .before .before .before .shared-slice-known .given) (b4 .before .before .a .given .0 .0) (x .0) (x .1 .0) in
     let told = c .before .before .enum-told2 .given .1 in
     let y = rw told at (b4 .read-lone-query2 .ensures) in
-    join-round _ (operatorOf (a .operator)) (now (a .left)) (now (a .right)) (slice-bytes (now (a .left)) (first .before .before .before .shared-slice-known .given)) (slice-bytes (now (a .right)) (first .before .before .shared-slice-known2 .given))
-    (rw (c .refused2 .ensures, c .before .answer-number2 .ensures, told)
-    (right-refused (operatorOf (a .operator)) (now (a .left)) (now (a .right)) _ left (y .0)))
+    rw (c .refused2 .ensures, c .before .answer-number2 .ensures, told)
+    (right-refused (operatorOf (a .operator)) (now (a .left)) (now (a .right)) (now (a .out)) left (y .0))
 
 join-number-requires : tie.Need-join-number-requires
 join-number-requires c κs = search needs
@@ -83,12 +78,10 @@ returns-3 c =
     let left = side (now (a .left)) (first .before .before .before .shared-slice-known .given) (b8 .a .given .0 .0) (x .0) (x .1 .0) in
     let y = rw (b4 .b .given .1) at (b4 .before .before .read-lone-query2 .ensures) in
     let right = side (now (a .right)) (first .before .before .shared-slice-known2 .given) (b4 .b .given .0 .0) (y .0) (y .1 .0) in
-    let j = joins (operatorOf (a .operator)) (now (a .left)) (now (a .right)) (now (a .out)) left right in
-    let bytes = joined (operatorOf (a .operator)) (now (a .left)) (now (a .right)) (now (a .out)) in
-    join-round _ (operatorOf (a .operator)) (now (a .left)) (now (a .right)) (slice-bytes (now (a .left)) (first .before .before .before .shared-slice-known .given)) (slice-bytes (now (a .right)) (first .before .before .shared-slice-known2 .given))
-    (rw (c .refused3 .ensures)
-    (faulty _ _ (c .before .before .join-number .ensures) bytes _ (c .before .if1 .taken))
-    ∙ sym j)
+    let leftBytes = slice-bytes (now (a .left)) (first .before .before .before .shared-slice-known .given) in
+    let rightBytes = slice-bytes (now (a .right)) (first .before .before .shared-slice-known2 .given) in
+    let ready = join-ready (operatorOf (a .operator)) (now (a .left)) (now (a .right)) (now (a .out)) leftBytes rightBytes left right (c .before .before .join-number .ensures) in
+    rw (c .refused3 .ensures) (ready .faulty (c .before .if1 .taken))
 
 add-if2 : tie.Need-add-if2
 add-if2 c = search needs
@@ -112,13 +105,10 @@ returns-4 c =
     let left = side (now (a .left)) (first .before .before .before .shared-slice-known .given) (b8 .before .a .given .0 .0) (x .0) (x .1 .0) in
     let y = rw (b4 .before .b .given .1) at (b4 .before .before .before .read-lone-query2 .ensures) in
     let right = side (now (a .right)) (first .before .before .shared-slice-known2 .given) (b4 .before .b .given .0 .0) (y .0) (y .1 .0) in
-    let j = joins (operatorOf (a .operator)) (now (a .left)) (now (a .right)) (now (a .out)) left right in
-    let bytes = joined (operatorOf (a .operator)) (now (a .left)) (now (a .right)) (now (a .out)) in
-    let sized = join-size (operatorOf (a .operator)) (now (a .left)) (now (a .right)) (now (a .out)) in
-    join-round _ (operatorOf (a .operator)) (now (a .left)) (now (a .right)) (slice-bytes (now (a .left)) (first .before .before .before .shared-slice-known .given)) (slice-bytes (now (a .right)) (first .before .before .shared-slice-known2 .given))
-    (rw (c .refused4 .ensures)
-    (roomless _ _ (c .before .before .before .join-number .ensures) bytes _ (c .before .before .if1 .left) _ sized (c .before .if2 .taken))
-    ∙ sym j)
+    let leftBytes = slice-bytes (now (a .left)) (first .before .before .before .shared-slice-known .given) in
+    let rightBytes = slice-bytes (now (a .right)) (first .before .before .shared-slice-known2 .given) in
+    let ready = join-ready (operatorOf (a .operator)) (now (a .left)) (now (a .right)) (now (a .out)) leftBytes rightBytes left right (c .before .before .before .join-number .ensures) in
+    rw (c .refused4 .ensures) (roomless ready (c .before .before .if1 .left) (c .before .if2 .taken))
 
 put-join-requires : tie.Need-put-join-requires
 put-join-requires c κs = search needs
@@ -137,14 +127,11 @@ returns-5 c =
     let left = side (now (a .left)) (first .before .before .before .shared-slice-known .given) (b12 .a .given .0 .0) (x .0) (x .1 .0) in
     let y = rw (b8 .b .given .1) at (b8 .before .before .read-lone-query2 .ensures) in
     let right = side (now (a .right)) (first .before .before .shared-slice-known2 .given) (b8 .b .given .0 .0) (y .0) (y .1 .0) in
-    let j = joins (operatorOf (a .operator)) (now (a .left)) (now (a .right)) (now (a .out)) left right in
+    let leftBytes = slice-bytes (now (a .left)) (first .before .before .before .shared-slice-known .given) in
+    let rightBytes = slice-bytes (now (a .right)) (first .before .before .shared-slice-known2 .given) in
+    let ready = join-ready (operatorOf (a .operator)) (now (a .left)) (now (a .right)) (now (a .out)) leftBytes rightBytes left right (b4 .before .before .join-number .ensures) in
     let put = c .before .before .put-join .ensures in
-    let bytes = joined (operatorOf (a .operator)) (now (a .left)) (now (a .right)) (now (a .out)) in
-    let sized = join-size (operatorOf (a .operator)) (now (a .left)) (now (a .right)) (now (a .out)) in
-    join-round _ (operatorOf (a .operator)) (now (a .left)) (now (a .right)) (slice-bytes (now (a .left)) (first .before .before .before .shared-slice-known .given)) (slice-bytes (now (a .right)) (first .before .before .shared-slice-known2 .given))
-    (rw (put .0, put .1)
-    (written _ _ (b4 .before .before .join-number .ensures) bytes (now (a .out)) (b4 .before .if1 .left) _ sized (b4 .if2 .left))
-    ∙ sym j)
+    rw (put .0, put .1) (written ready (b4 .before .if1 .left) (b4 .if2 .left))
 
 pub write-join-spec : {M : Type 1} → statement M
 write-join-spec =

@@ -1,12 +1,10 @@
 use mathlib.Core.Path.{_∙_, sym}
 use denote.Ref.{now}
 use lib.ListN.{length}
-use Rattle.format.specs.Messages.{keyword}
-use Rattle.format.specs.Layout.{encodeQuery}
-use Rattle.writing.specs.Writers.{writeKeyword}
-use Rattle.writing.proofs.Pieces.{keyword-size, keyword-fits, faulty, roomless, written}
 use Rattle.wire.proofs.Replies.{slice-bytes}
-use Rattle.writing.proofs.Writes.{keyword-round}
+use Rattle.writing.proofs.Answers.{roomless, written}
+use Rattle.writing.proofs.Pieces.{keyword-fits}
+use Rattle.writing.proofs.Leaves.{keyword-ready}
 use borrow.Author.Needs.{needs}
 use Rattle.writing.proofs.write_keyword.Statement.{statement}
 use Rattle.writing.proofs.write_keyword.Tie as tie
@@ -18,12 +16,12 @@ refused-requires : tie.Need-refused-requires
 refused-requires c κs = search needs
 
 returns : tie.Need-returns
-unfolding writeKeyword
 returns c =
-    let a = c .before .before .before .before .before .args in
-    keyword-round _ (now (a .text)) (slice-bytes (now (a .text)) (c .before .before .before .before .shared-slice-known .given))
-    (rw (c .refused .ensures)
-    (faulty _ _ (c .before .before .keyword-number .ensures) (encodeQuery (keyword (now (a .text)))) _ (c .before .if1 .taken)))
+    let b4 = c .before .before .before .before in
+    let a = b4 .before .args in
+    let text = slice-bytes (now (a .text)) (b4 .shared-slice-known .given) in
+    let ready = keyword-ready (now (a .out)) (now (a .text)) text (c .before .before .keyword-number .ensures) in
+    rw (c .refused .ensures) (ready .faulty (c .before .if1 .taken))
 
 add-if2 : tie.Need-add-if2
 add-if2 c = search needs
@@ -32,15 +30,12 @@ refused-requires-2 : tie.Need-refused-requires-2
 refused-requires-2 c κs = search needs
 
 returns-2 : tie.Need-returns-2
-unfolding writeKeyword
 returns-2 c =
     let b4 = c .before .before .before .before in
     let a = b4 .before .before .args in
-    let bytes = encodeQuery (keyword (now (a .text))) in
-    let sized = keyword-size (now (a .text)) in
-    keyword-round _ (now (a .text)) (slice-bytes (now (a .text)) (b4 .before .shared-slice-known .given))
-    (rw (c .refused2 .ensures)
-    (roomless _ _ (c .before .before .before .keyword-number .ensures) bytes _ (c .before .before .if1 .left) _ sized (c .before .if2 .taken)))
+    let text = slice-bytes (now (a .text)) (b4 .before .shared-slice-known .given) in
+    let ready = keyword-ready (now (a .out)) (now (a .text)) text (c .before .before .before .keyword-number .ensures) in
+    rw (c .refused2 .ensures) (roomless ready (c .before .before .if1 .left) (c .before .if2 .taken))
 
 put-keyword-requires : tie.Need-put-keyword-requires
 put-keyword-requires c κs =
@@ -52,17 +47,14 @@ same-length : tie.Need-same-length
 same-length c = search needs
 
 returns-3 : tie.Need-returns-3
-unfolding writeKeyword
 returns-3 c =
     let b4 = c .before .before .before .before in
     let b8 = b4 .before .before .before .before in
     let a = b8 .before .args in
+    let text = slice-bytes (now (a .text)) (b8 .shared-slice-known .given) in
+    let ready = keyword-ready (now (a .out)) (now (a .text)) text (b4 .before .before .keyword-number .ensures) in
     let put = c .before .before .put-keyword .ensures in
-    let bytes = encodeQuery (keyword (now (a .text))) in
-    let sized = keyword-size (now (a .text)) in
-    keyword-round _ (now (a .text)) (slice-bytes (now (a .text)) (b8 .shared-slice-known .given))
-    (rw (put .0, put .1)
-    (written _ _ (b4 .before .before .keyword-number .ensures) bytes (now (a .out)) (b4 .before .if1 .left) _ sized (b4 .if2 .left)))
+    rw (put .0, put .1) (written ready (b4 .before .if1 .left) (b4 .if2 .left))
 
 pub write-keyword-spec : {M : Type 1} → statement M
 write-keyword-spec =

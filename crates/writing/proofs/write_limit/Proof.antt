@@ -2,13 +2,11 @@ use native.Mathlib.Omega.{arith}
 use mathlib.Core.Path.{_∙_, sym}
 use denote.Ref.{now}
 use lib.ListN.{length}
-use Rattle.format.specs.Messages.{limit}
-use Rattle.format.specs.Layout.{encodeQuery}
-use Rattle.query.specs.Meaning.{boundOf}
-use Rattle.writing.specs.Writers.{writeLimit}
-use Rattle.writing.proofs.Pieces.{limit-size, limit-fits, faulty, roomless, written}
 use Rattle.wire.proofs.Replies.{slice-bytes}
-use Rattle.writing.proofs.Writes.{limit-round}
+use Rattle.query.specs.Meaning.{boundOf}
+use Rattle.writing.proofs.Answers.{roomless, written}
+use Rattle.writing.proofs.Pieces.{limit-fits}
+use Rattle.writing.proofs.Leaves.{limit-ready}
 use borrow.Author.Needs.{needs}
 use Rattle.writing.proofs.write_limit.Statement.{statement}
 use Rattle.writing.proofs.write_limit.Tie as tie
@@ -20,14 +18,12 @@ refused-requires : tie.Need-refused-requires
 refused-requires c κs = search needs
 
 returns : tie.Need-returns
-unfolding writeLimit
 returns c =
     let b4 = c .before .before .before .before in
     let a = b4 .before .args in
-    let bytes = encodeQuery (limit (a .value) (boundOf (a .bound)) (now (a .name))) in
-    limit-round _ (a .value) (boundOf (a .bound)) (now (a .name)) (omega (arith, b4 .before .good)) (slice-bytes (now (a .name)) (b4 .shared-slice-known .given))
-    (rw (c .refused .ensures)
-    (faulty _ _ (c .before .before .limit-number .ensures) bytes _ (c .before .if1 .taken)))
+    let name = slice-bytes (now (a .name)) (b4 .shared-slice-known .given) in
+    let ready = limit-ready (now (a .out)) (a .value) (boundOf (a .bound)) (now (a .name)) (omega (arith, b4 .before .good)) name (c .before .before .limit-number .ensures) in
+    rw (c .refused .ensures) (ready .faulty (c .before .if1 .taken))
 
 add-if2 : tie.Need-add-if2
 add-if2 c = search needs
@@ -36,15 +32,12 @@ refused-requires-2 : tie.Need-refused-requires-2
 refused-requires-2 c κs = search needs
 
 returns-2 : tie.Need-returns-2
-unfolding writeLimit
 returns-2 c =
     let b4 = c .before .before .before .before in
     let a = b4 .before .before .args in
-    let bytes = encodeQuery (limit (a .value) (boundOf (a .bound)) (now (a .name))) in
-    let sized = limit-size (a .value) (boundOf (a .bound)) (now (a .name)) in
-    limit-round _ (a .value) (boundOf (a .bound)) (now (a .name)) (omega (arith, b4 .before .before .good)) (slice-bytes (now (a .name)) (b4 .before .shared-slice-known .given))
-    (rw (c .refused2 .ensures)
-    (roomless _ _ (c .before .before .before .limit-number .ensures) bytes _ (c .before .before .if1 .left) _ sized (c .before .if2 .taken)))
+    let name = slice-bytes (now (a .name)) (b4 .before .shared-slice-known .given) in
+    let ready = limit-ready (now (a .out)) (a .value) (boundOf (a .bound)) (now (a .name)) (omega (arith, b4 .before .before .good)) name (c .before .before .before .limit-number .ensures) in
+    rw (c .refused2 .ensures) (roomless ready (c .before .before .if1 .left) (c .before .if2 .taken))
 
 put-limit-requires : tie.Need-put-limit-requires
 put-limit-requires c κs =
@@ -56,17 +49,14 @@ same-length : tie.Need-same-length
 same-length c = search needs
 
 returns-3 : tie.Need-returns-3
-unfolding writeLimit
 returns-3 c =
     let b4 = c .before .before .before .before in
     let b8 = b4 .before .before .before .before in
     let a = b8 .before .args in
+    let name = slice-bytes (now (a .name)) (b8 .shared-slice-known .given) in
+    let ready = limit-ready (now (a .out)) (a .value) (boundOf (a .bound)) (now (a .name)) (omega (arith, b8 .before .good)) name (b4 .before .before .limit-number .ensures) in
     let put = c .before .before .put-limit .ensures in
-    let bytes = encodeQuery (limit (a .value) (boundOf (a .bound)) (now (a .name))) in
-    let sized = limit-size (a .value) (boundOf (a .bound)) (now (a .name)) in
-    limit-round _ (a .value) (boundOf (a .bound)) (now (a .name)) (omega (arith, b8 .before .good)) (slice-bytes (now (a .name)) (b8 .shared-slice-known .given))
-    (rw (put .0, put .1)
-    (written _ _ (b4 .before .before .limit-number .ensures) bytes (now (a .out)) (b4 .before .if1 .left) _ sized (b4 .if2 .left)))
+    rw (put .0, put .1) (written ready (b4 .before .if1 .left) (b4 .if2 .left))
 
 pub write-limit-spec : {M : Type 1} → statement M
 write-limit-spec =

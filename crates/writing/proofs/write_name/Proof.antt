@@ -1,10 +1,10 @@
 use mathlib.Core.Path.{_∙_, sym}
 use denote.Ref.{now}
 use lib.ListN.{length}
-use Rattle.format.specs.Layout.{encodeName}
-use Rattle.writing.specs.Writers.{writeName}
-use Rattle.writing.proofs.Pieces.{faulty, length-name, name-string, roomless, written}
-use Rattle.writing.proofs.TagPieces.{tag-fits}
+use Rattle.wire.proofs.Replies.{slice-bytes}
+use Rattle.writing.proofs.Answers.{roomless, written}
+use Rattle.writing.proofs.Pieces.{tag-fits}
+use Rattle.writing.proofs.Item.{name-ready}
 use borrow.Author.Needs.{needs}
 use Rattle.writing.proofs.write_name.Statement.{statement}
 use Rattle.writing.proofs.write_name.Tie as tie
@@ -16,10 +16,12 @@ refused-requires : tie.Need-refused-requires
 refused-requires c κs = search needs
 
 returns : tie.Need-returns
-unfolding writeName
 returns c =
-    let a = c .before .before .before .before .before .args in
-    rw (c .refused .ensures) (faulty _ _ (c .before .before .tag-number .ensures) (encodeName (now (a .name))) _ (c .before .if1 .taken))
+    let b4 = c .before .before .before .before in
+    let a = b4 .before .args in
+    let name = slice-bytes (now (a .name)) (b4 .shared-slice-known .given) in
+    let ready = name-ready (now (a .out)) (now (a .name)) name (c .before .before .tag-number .ensures) in
+    rw (c .refused .ensures) (ready .faulty (c .before .if1 .taken))
 
 add-if2 : tie.Need-add-if2
 add-if2 c = search needs
@@ -28,12 +30,12 @@ refused-requires-2 : tie.Need-refused-requires-2
 refused-requires-2 c κs = search needs
 
 returns-2 : tie.Need-returns-2
-unfolding writeName
 returns-2 c =
     let b4 = c .before .before .before .before in
     let a = b4 .before .before .args in
-    rw (c .refused2 .ensures)
-    (roomless _ _ (c .before .before .before .tag-number .ensures) (encodeName (now (a .name))) _ (c .before .before .if1 .left) _ (length-name (now (a .name))) (c .before .if2 .taken))
+    let name = slice-bytes (now (a .name)) (b4 .before .shared-slice-known .given) in
+    let ready = name-ready (now (a .out)) (now (a .name)) name (c .before .before .before .tag-number .ensures) in
+    rw (c .refused2 .ensures) (roomless ready (c .before .before .if1 .left) (c .before .if2 .taken))
 
 put-string-requires : tie.Need-put-string-requires
 put-string-requires c κs =
@@ -44,13 +46,14 @@ same-length : tie.Need-same-length
 same-length c = search needs
 
 returns-3 : tie.Need-returns-3
-unfolding writeName
 returns-3 c =
     let b4 = c .before .before .before .before in
-    let a = b4 .before .before .before .before .before .args in
+    let b8 = b4 .before .before .before .before in
+    let a = b8 .before .args in
+    let name = slice-bytes (now (a .name)) (b8 .shared-slice-known .given) in
+    let ready = name-ready (now (a .out)) (now (a .name)) name (b4 .before .before .tag-number .ensures) in
     let put = c .before .before .put-string .ensures in
-    rw (put .0, put .1, ← name-string (now (a .name)))
-    (written _ _ (b4 .before .before .tag-number .ensures) (encodeName (now (a .name))) (now (a .out)) (b4 .before .if1 .left) _ (length-name (now (a .name))) (b4 .if2 .left))
+    rw (put .0, put .1) (written ready (b4 .before .if1 .left) (b4 .if2 .left))
 
 pub write-name-spec : {M : Type 1} → statement M
 write-name-spec =

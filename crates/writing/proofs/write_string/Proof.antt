@@ -1,9 +1,10 @@
 use mathlib.Core.Path.{_∙_, sym}
 use denote.Ref.{now}
 use lib.ListN.{length}
-use Rattle.format.specs.Layout.{encodeString}
-use Rattle.writing.specs.Writers.{writeString}
-use Rattle.writing.proofs.Pieces.{count-fits, faulty, length-string, roomless, written}
+use Rattle.wire.proofs.Replies.{slice-bytes}
+use Rattle.writing.proofs.Answers.{roomless, written}
+use Rattle.writing.proofs.Pieces.{count-fits}
+use Rattle.writing.proofs.Item.{string-ready}
 use borrow.Author.Needs.{needs}
 use Rattle.writing.proofs.write_string.Statement.{statement}
 use Rattle.writing.proofs.write_string.Tie as tie
@@ -15,10 +16,12 @@ refused-requires : tie.Need-refused-requires
 refused-requires c κs = search needs
 
 returns : tie.Need-returns
-unfolding writeString
 returns c =
-    let a = c .before .before .before .before .before .args in
-    rw (c .refused .ensures) (faulty _ _ (c .before .before .string-number .ensures) (encodeString (now (a .text))) _ (c .before .if1 .taken))
+    let b4 = c .before .before .before .before in
+    let a = b4 .before .args in
+    let text = slice-bytes (now (a .text)) (b4 .shared-slice-known .given) in
+    let ready = string-ready (now (a .out)) (now (a .text)) text (c .before .before .string-number .ensures) in
+    rw (c .refused .ensures) (ready .faulty (c .before .if1 .taken))
 
 add-if2 : tie.Need-add-if2
 add-if2 c = search needs
@@ -27,12 +30,12 @@ refused-requires-2 : tie.Need-refused-requires-2
 refused-requires-2 c κs = search needs
 
 returns-2 : tie.Need-returns-2
-unfolding writeString
 returns-2 c =
     let b4 = c .before .before .before .before in
     let a = b4 .before .before .args in
-    rw (c .refused2 .ensures)
-    (roomless _ _ (c .before .before .before .string-number .ensures) (encodeString (now (a .text))) _ (c .before .before .if1 .left) _ (length-string (now (a .text))) (c .before .if2 .taken))
+    let text = slice-bytes (now (a .text)) (b4 .before .shared-slice-known .given) in
+    let ready = string-ready (now (a .out)) (now (a .text)) text (c .before .before .before .string-number .ensures) in
+    rw (c .refused2 .ensures) (roomless ready (c .before .before .if1 .left) (c .before .if2 .taken))
 
 put-string-requires : tie.Need-put-string-requires
 put-string-requires c κs =
@@ -43,13 +46,14 @@ same-length : tie.Need-same-length
 same-length c = search needs
 
 returns-3 : tie.Need-returns-3
-unfolding writeString
 returns-3 c =
     let b4 = c .before .before .before .before in
-    let a = b4 .before .before .before .before .before .args in
+    let b8 = b4 .before .before .before .before in
+    let a = b8 .before .args in
+    let text = slice-bytes (now (a .text)) (b8 .shared-slice-known .given) in
+    let ready = string-ready (now (a .out)) (now (a .text)) text (b4 .before .before .string-number .ensures) in
     let put = c .before .before .put-string .ensures in
-    rw (put .0, put .1)
-    (written _ _ (b4 .before .before .string-number .ensures) (encodeString (now (a .text))) (now (a .out)) (b4 .before .if1 .left) _ (length-string (now (a .text))) (b4 .if2 .left))
+    rw (put .0, put .1) (written ready (b4 .before .if1 .left) (b4 .if2 .left))
 
 pub write-string-spec : {M : Type 1} → statement M
 write-string-spec =

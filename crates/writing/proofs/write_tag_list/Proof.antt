@@ -1,9 +1,8 @@
-use mathlib.Core.Path.{refl}
 use native.Mathlib.Omega.{arith}
 use denote.Ref.{now}
 use Rattle.wire.proofs.Replies.{slice-bytes}
-use Rattle.writing.proofs.Laws.{list-copies, list-refused, over-ceiling, no-room, wrote}
-use Rattle.writing.proofs.Writes.{tag-list-round}
+use Rattle.writing.proofs.Answers.{missing}
+use Rattle.writing.proofs.Copies.{list-copies, no-room, over-ceiling, wrote}
 use borrow.Author.Needs.{needs}
 use Rattle.writing.proofs.write_tag_list.Statement.{statement}
 use Rattle.writing.proofs.write_tag_list.Tie as tie
@@ -33,16 +32,14 @@ returns c =
     let a = b .before .before .before .args in
     let told = c .before .before .before .enum-told .given .1 in
     let read = rw told at (b .tags-end .ensures) in
-    (tag-list-round (now (a .src)) (slice-bytes (now (a .src)) (b .before .before .shared-slice-known .given)) _ (a .tags) (omega (arith, b .before .before .before .good))
-    (rw (c .refused .ensures, c .before .number .ensures, c .before .before .fault .ensures, told)
-    (list-refused (now (a .src)) (b .before .before .shared-slice-known .given) (a .tags) _ read)))
+    rw (c .refused .ensures, c .before .number .ensures, c .before .before .fault .ensures, told) (missing (now (a .out)) read)
 
 sub-n : tie.Need-sub-n
 sub-n c =
     let b = c .before .before .before in
     let a = b .before .before .before .args in
     let read = rw (c .before .e .given .1) at (b .tags-end .ensures) in
-    list-copies (now (a .src)) (b .before .before .shared-slice-known .given) (a .tags) read .order
+    list-copies (now (a .src)) (now (a .out)) (slice-bytes (now (a .src)) (b .before .before .shared-slice-known .given)) (a .tags) (omega (arith, b .before .before .before .good)) read .order
 
 refused-requires-2 : tie.Need-refused-requires-2
 refused-requires-2 c κs = search needs
@@ -50,11 +47,10 @@ refused-requires-2 c κs = search needs
 returns-2 : tie.Need-returns-2
 returns-2 c =
     let b = c .before .before .before .before .before in
-    let read = rw (c .before .before .before .e .given .1) at (b .tags-end .ensures) in
     let a = b .before .before .before .args in
-    let l = list-copies (now (a .src)) (b .before .before .shared-slice-known .given) (a .tags) read in
-    (tag-list-round (now (a .src)) (slice-bytes (now (a .src)) (b .before .before .shared-slice-known .given)) _ (a .tags) (omega (arith, b .before .before .before .good))
-    (rw (c .refused2 .ensures) (over-ceiling l _ (omega (arith, c .before .if1 .taken)))))
+    let read = rw (c .before .before .before .e .given .1) at (b .tags-end .ensures) in
+    let l = list-copies (now (a .src)) (now (a .out)) (slice-bytes (now (a .src)) (b .before .before .shared-slice-known .given)) (a .tags) (omega (arith, b .before .before .before .good)) read in
+    rw (c .refused2 .ensures) (over-ceiling l (omega (arith, c .before .if1 .taken)))
 
 add-if2 : tie.Need-add-if2
 add-if2 c = search needs
@@ -65,11 +61,10 @@ refused-requires-3 c κs = search needs
 returns-3 : tie.Need-returns-3
 returns-3 c =
     let b = c .before .before .before .before .before .before in
-    let read = rw (c .before .before .before .before .e .given .1) at (b .tags-end .ensures) in
     let a = b .before .before .before .args in
-    let l = list-copies (now (a .src)) (b .before .before .shared-slice-known .given) (a .tags) read in
-    (tag-list-round (now (a .src)) (slice-bytes (now (a .src)) (b .before .before .shared-slice-known .given)) _ (a .tags) (omega (arith, b .before .before .before .good))
-    (rw (c .refused3 .ensures) (no-room l _ (omega (arith, c .before .before .if1 .left)) (omega (arith, c .before .if2 .taken)))))
+    let read = rw (c .before .before .before .before .e .given .1) at (b .tags-end .ensures) in
+    let l = list-copies (now (a .src)) (now (a .out)) (slice-bytes (now (a .src)) (b .before .before .shared-slice-known .given)) (a .tags) (omega (arith, b .before .before .before .good)) read in
+    rw (c .refused3 .ensures) (no-room l (omega (arith, c .before .before .if1 .left)) (c .before .if2 .taken))
 
 bytes-at-requires : tie.Need-bytes-at-requires
 bytes-at-requires c κs = search needs
@@ -77,9 +72,9 @@ bytes-at-requires c κs = search needs
 put-list-requires : tie.Need-put-list-requires
 put-list-requires c κs =
     let b = c .before .before .before .before .before .before .before in
-    let read = rw (c .before .before .before .before .before .e .given .1) at (b .tags-end .ensures) in
     let a = b .before .before .before .args in
-    let l = list-copies (now (a .src)) (b .before .before .shared-slice-known .given) (a .tags) read in
+    let read = rw (c .before .before .before .before .before .e .given .1) at (b .tags-end .ensures) in
+    let l = list-copies (now (a .src)) (now (a .out)) (slice-bytes (now (a .src)) (b .before .before .shared-slice-known .given)) (a .tags) (omega (arith, b .before .before .before .good)) read in
     rw (c .before .bytes-at .ensures, l .size) (c .before .before .if2 .left)
 
 same-length : tie.Need-same-length
@@ -89,13 +84,12 @@ returns-4 : tie.Need-returns-4
 returns-4 c =
     let k = c .before .before .before .before .before in
     let b = k .before .before .before .before .before in
-    let read = rw (k .before .before .before .e .given .1) at (b .tags-end .ensures) in
     let a = b .before .before .before .args in
-    let l = list-copies (now (a .src)) (b .before .before .shared-slice-known .given) (a .tags) read in
-    let bytes = c .before .before .before .before .bytes-at .ensures in
-    (tag-list-round (now (a .src)) (slice-bytes (now (a .src)) (b .before .before .shared-slice-known .given)) _ (a .tags) (omega (arith, b .before .before .before .good))
-    (rw (c .before .before .put-list .ensures .0, c .before .before .put-list .ensures .1)
-    (wrote l _ _ _ (rw (bytes, l .size) refl) bytes (omega (arith, k .before .if1 .left)) (omega (arith, k .if2 .left)))))
+    let read = rw (k .before .before .before .e .given .1) at (b .tags-end .ensures) in
+    let l = list-copies (now (a .src)) (now (a .out)) (slice-bytes (now (a .src)) (b .before .before .shared-slice-known .given)) (a .tags) (omega (arith, b .before .before .before .good)) read in
+    let put = c .before .before .put-list .ensures in
+    rw (put .0, put .1, c .before .before .before .before .bytes-at .ensures, l .size)
+    (wrote l (omega (arith, k .before .if1 .left)) (k .if2 .left))
 
 pub write-tag-list-spec : {M : Type 1} → statement M
 write-tag-list-spec =
