@@ -26,7 +26,7 @@ use Rattle.metwriting.specs.Files.{fileEntryThere, serverEntryThere}
 use Rattle.metwriting.specs.Lengths.{EntryMeaning, entryHead}
 use Rattle.metwriting.specs.Entries.{writeFileEntry, writeServerEntry}
 use Rattle.metwriting.proofs.Lists.{Here, hash-valid, hashes-size, list-here}
-use Rattle.metwriting.proofs.Answers.{then-there}
+use Rattle.writing.proofs.There.{then-there}
 
 module _ (s : List ℕ) (known : (i : ℕ) → Fits w8 (getD s i 0)) where
   -- What a writer copies has the length that was found.

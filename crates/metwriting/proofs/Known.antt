@@ -25,10 +25,9 @@ use Rattle.format.proofs.Writing.{all-map, ceiling-judged, entry-needed, tags-f
 use Rattle.met.specs.declared.KnownMet.{KnownMet}
 use Rattle.met.specs.Meaning.{knownMetIn}
 use Rattle.format.specs.RoundTrip.{RoundTrip, WritesAt}
-use Rattle.format.proofs.RoundTrip.{round-trip}
 use Rattle.metwriting.specs.Files.{knownThere}
 use Rattle.metwriting.specs.Lengths.{openingNumber}
-use Rattle.metwriting.proofs.Answers.{Ready}
+use Rattle.writing.proofs.Answers.{Ready, promised, writes-ready}
 use Rattle.metwriting.proofs.Lists.{Here, list-bytes, list-here}
 
 file-fits : (e : messages.FileEntry) → ValidFileEntry e → FileEntryFits e
@@ -79,9 +78,9 @@ module _ (s : List ℕ) (known : (i : ℕ) → Fits w8 (getD s i 0)) (m : KnownM
             (rw (le-leb (length (encodeKnownMet file)) metCeiling within, wrong-opening (m .opening) small e (dword (length (file .entries)) ++ encodeAll encodeFileEntry (file .entries))) refl)
 
     pub known-ready : {number : ℕ} → number ≡ openingNumber (m .opening) (5 + n) → Byte (m .opening) → Dword (m .entries .count) →
-        Ready knownMet (knownThere s m) file number (byte (m .opening) ++ (dword (m .entries .count) ++ bytesAt s (m .entries .at) n)) (5 + n)
+        Ready (WritesAt knownMet (knownThere s m) file) number (byte (m .opening) ++ (dword (m .entries .count) ++ bytesAt s (m .entries .at) n)) (5 + n)
     known-ready e small few =
-        record { next = m .entries .at + n; here = there; judged = subst (Judged knownMet file) (sym e) (known-judged small few); encoded = known-bytes; sized = known-size }
+        writes-ready there (subst (Judged knownMet file) (sym e) (known-judged small few)) known-bytes (ap length known-bytes ∙ known-size)
 
   known-encoding : Bytes (encodeKnownMet file)
   unfolding encodeKnownMet
@@ -92,7 +91,7 @@ module _ (s : List ℕ) (known : (i : ℕ) → Fits w8 (getD s i 0)) (m : KnownM
   -- both promises of the writer
   pub known-promises : {output : List ℕ} {w : Written} → WritesAt knownMet (knownThere s m) file output w →
       WritesAt knownMet (knownThere s m) file output w × RoundTrip knownMet (knownThere s m) file output w
-  known-promises {output} w = (w, round-trip knownMet file output (knownThere s m) (λ _. known-encoding) w)
+  known-promises = promised (λ _. known-encoding)
 
 -- A file with no fault is within the ceiling.
 pub opening-fits : (opening size : ℕ) → openingNumber opening size ≡ 0 → size ≤ metCeiling

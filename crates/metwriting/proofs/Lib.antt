@@ -1,5 +1,4 @@
 pub mod Lists
-pub mod Answers
 pub mod Known
 pub mod Servers
 pub mod Entries

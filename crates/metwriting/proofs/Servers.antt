@@ -26,11 +26,11 @@ use Rattle.met.specs.Meaning.{serverMetIn}
 use Rattle.format.proofs.There.{run-length}
 use Rattle.writing.specs.There.{itemsThere}
 use Rattle.format.specs.RoundTrip.{RoundTrip, WritesAt}
-use Rattle.format.proofs.RoundTrip.{round-trip}
 use Rattle.format.proofs.MetFiles.{codec-server}
 use Rattle.metwriting.specs.Files.{serverThere}
 use Rattle.metwriting.specs.Lengths.{openingNumber}
-use Rattle.metwriting.proofs.Answers.{Ready, run-there, then-there}
+use Rattle.writing.proofs.There.{ends-got, then-there}
+use Rattle.writing.proofs.Answers.{Ready, promised, writes-ready}
 use Rattle.metwriting.proofs.Lists.{Here, list-bytes, list-here}
 use Rattle.metwriting.proofs.Known.{wrong-opening}
 
@@ -91,16 +91,10 @@ module _ (s : List ℕ) (known : (i : ℕ) → Fits w8 (getD s i 0)) (m : Server
             refl)
 
     pub server-ready : {number : ℕ} → number ≡ openingNumber (m .opening) (5 + (n + tail)) → Byte (m .opening) → Dword (m .entries .count) →
-        Ready serverMet (serverThere s m) file number
+        Ready (WritesAt serverMet (serverThere s m) file) number
         ((byte (m .opening) ++ (dword (m .entries .count) ++ bytesAt s (m .entries .at) n)) ++ bytesAt s (m .tail .at) tail) (5 + (n + tail))
     server-ready e small few =
-        record {
-          next = next;
-          here = then-there there (run-there run);
-          judged = subst (Judged serverMet file) (sym e) (server-judged small few);
-          encoded = server-bytes;
-          sized = server-size;
-        }
+        writes-ready (then-there there (ends-got run)) (subst (Judged serverMet file) (sym e) (server-judged small few)) server-bytes (ap length server-bytes ∙ server-size)
 
   server-encoding : Bytes (encodeServerMet file)
   unfolding encodeServerMet
@@ -113,4 +107,4 @@ module _ (s : List ℕ) (known : (i : ℕ) → Fits w8 (getD s i 0)) (m : Server
   -- both promises of the writer
   pub server-promises : {output : List ℕ} {w : Written} → WritesAt serverMet (serverThere s m) file output w →
       WritesAt serverMet (serverThere s m) file output w × RoundTrip serverMet (serverThere s m) file output w
-  server-promises {output} w = (w, round-trip serverMet file output (serverThere s m) (λ _. server-encoding) w)
+  server-promises = promised (λ _. server-encoding)

@@ -20,7 +20,7 @@ use Rattle.met.specs.declared.HashBlocks.{HashBlocks}
 use Rattle.writing.specs.There.{itemsThere}
 use Rattle.metwriting.specs.declared.LengthStep.{LengthStep}
 use Rattle.metwriting.specs.Lengths.{lengthMeaning}
-use Rattle.metwriting.proofs.Answers.{then-there}
+use Rattle.writing.proofs.There.{then-there}
 use Rattle.metwriting.proofs.Lists.{Here, list-here}
 use Rattle.partwriting.specs.declared.Area.{Area}
 use Rattle.partwriting.specs.Steps.{AreaLies, AreaMeaning, AreaOf, areaBytes, areaNumber, areaSize, oneBlock}

@@ -30,7 +30,8 @@ use Rattle.met.specs.Meaning.{fileEntryIn}
 use Rattle.metwriting.specs.declared.EntryStep.{EntryStep}
 use Rattle.metwriting.specs.Files.{fileEntryThere}
 use Rattle.metwriting.specs.Lengths.{EntryMeaning}
-use Rattle.metwriting.proofs.Answers.{Ready}
+use Rattle.format.specs.RoundTrip.{WritesAt}
+use Rattle.writing.proofs.Answers.{Ready, writes-ready}
 use Rattle.metwriting.proofs.Entries.{entry-size, entry-there, parts-here, tags-here}
 use Rattle.metwriting.proofs.Lists.{hash-valid}
 use Rattle.partwriting.specs.Steps.{e0Number, tagsNumber, verdictNumber}
@@ -118,17 +119,12 @@ module _ (s : List ℕ) (known : (i : ℕ) → Fits w8 (getD s i 0)) (e : met.Fi
         ∙ omega (arith, length-littleEndian 1 0xE0, entry-size s known e p t h)
 
     pub e0-ready : {number : ℕ} → number ≡ e0Number (e .parts .count) (27 + p + t) (itemsIn decodeTag s (e .tags)) → Dword (e .date) → Dword (e .tags .count) →
-        Ready partMet (fileEntryThere s e) (e0 (fileEntryIn s e)) number (encodePartMet (e0 (fileEntryIn s e))) (27 + p + t)
+        Ready (WritesAt partMet (fileEntryThere s e) (e0 (fileEntryIn s e))) number (encodePartMet (e0 (fileEntryIn s e))) (27 + p + t)
     e0-ready q hd ht =
         let ps = parts-here s known e p t h in
         let ts = tags-here s known e p t h in
-        record {
-          next = e .tags .at + t;
-          here = entry-there s known e p t h;
-          judged = rw q (e0-judged (fileEntryIn s e) hd (hash-valid s known (e .hash) (h .0)) (ps .all) (rw (ts .count) ht, ts .all) (ps .count) e0-size);
-          encoded = refl;
-          sized = e0-size;
-        }
+        let judged = e0-judged (fileEntryIn s e) hd (hash-valid s known (e .hash) (h .0)) (ps .all) (rw (ts .count) ht, ts .all) (ps .count) e0-size in
+        writes-ready (entry-there s known e p t h) (rw q judged) refl e0-size
 
 pub e0-fits : (parts size : ℕ) (tags : List Tag) → e0Number parts size tags ≡ 0 → (parts ≤ 65535) × (size ≤ metCeiling)
 unfolding e0Number

@@ -34,8 +34,8 @@ use Rattle.met.specs.declared.PartMet.{PartMet}
 use Rattle.met.specs.Meaning.{blocksIn, partE1In, partMetIn}
 use Rattle.writing.specs.There.{bothThere, itemsThere}
 use Rattle.format.specs.RoundTrip.{RoundTrip, WritesAt}
-use Rattle.format.proofs.RoundTrip.{round-trip}
-use Rattle.metwriting.proofs.Answers.{Ready, then-there}
+use Rattle.writing.proofs.There.{then-there}
+use Rattle.writing.proofs.Answers.{Ready, promised, writes-ready}
 use Rattle.metwriting.proofs.Lists.{Here, hash-valid, list-bytes, list-here}
 use Rattle.partwriting.specs.declared.Area.{Area}
 use Rattle.partwriting.specs.declared.E1Step.{E1Step}
@@ -132,7 +132,7 @@ module _ (s : List ℕ) (known : (i : ℕ) → Fits w8 (getD s i 0)) where
   -- both promises of the writer
   pub part-promises : (m : PartMet) {output : List ℕ} {w : Written} → WritesAt partMet (partThere s m) (partMetIn s m) output w →
       WritesAt partMet (partThere s m) (partMetIn s m) output w × RoundTrip partMet (partThere s m) (partMetIn s m) output w
-  part-promises m {output} w = (w, round-trip partMet (partMetIn s m) output (partThere s m) (λ _. part-encoding m) w)
+  part-promises m = promised (λ _. part-encoding m)
 
   module _ (m : PartE1) (t : ℕ) (a : Area) (h : E1Meaning s m (E1Step.Got t a)) where
     tags-here : Here encodeTag ValidTag s (m .tags) (itemsIn decodeTag s (m .tags)) t
@@ -181,16 +181,11 @@ module _ (s : List ℕ) (known : (i : ℕ) → Fits w8 (getD s i 0)) where
     right size v = rw (valid-allowed size (m .blocks) (h .1 .1 .here) v) refl
 
     pub e1-ready : {number : ℕ} → number ≡ e1Number (26 + t + areaSize a) (checkPartTags (itemsIn decodeTag s (m .tags))) (blocksNumber s (m .blocks) a) →
-        Dword (m .date) → Dword (m .tags .count) → Ready partMet (partE1There s m) (e1 (partE1In s m)) number (e1Bytes s m t a) (26 + t + areaSize a)
+        Dword (m .date) → Dword (m .tags .count) → Ready (WritesAt partMet (partE1There s m) (e1 (partE1In s m))) number (e1Bytes s m t a) (26 + t + areaSize a)
     e1-ready q hd ht =
-        record {
-          next = h .1 .1 .next;
-          here = then-there (h .0) (then-there (h .1 .0) (h .1 .1 .here));
-          judged = rw q (e1-judged (partE1In s m) hd (hash-valid s known (m .hash) (h .0)) (rw (tags-here .count) ht, tags-here .all) (part-encoding (PartMet.E1 m))
-              (blocksNumber s (m .blocks) a) right (λ size. decided size (allowed size (m .blocks)) refl) e1-size);
-          encoded = e1-bytes;
-          sized = e1-size;
-        }
+        let judged = e1-judged (partE1In s m) hd (hash-valid s known (m .hash) (h .0)) (rw (tags-here .count) ht, tags-here .all) (part-encoding (PartMet.E1 m))
+        (blocksNumber s (m .blocks) a) right (λ size. decided size (allowed size (m .blocks)) refl) e1-size in
+        writes-ready (then-there (h .0) (then-there (h .1 .0) (h .1 .1 .here))) (rw q judged) e1-bytes (ap length e1-bytes ∙ e1-size)
 
 pub e1-fits : (size : ℕ) (check : Check (ℕ × List messages.Tag)) (blocks : ℕ → ℕ) → e1Number size check blocks ≡ 0 → size ≤ metCeiling
 unfolding e1Number

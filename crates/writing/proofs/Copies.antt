@@ -22,59 +22,59 @@ use Rattle.query.specs.declared.Query.{Query}
 use Rattle.query.specs.Meaning.{queryIn}
 use Rattle.writing.specs.There.{itemsThere}
 use Rattle.writing.specs.Numbers.{ceilingNumber}
-use Rattle.writing.proofs.Answers.{Promised, Ready, message-ready, roomless, written}
+use Rattle.writing.proofs.Answers.{Promised, Ready, faulty, message-ready, roomless, written}
 
 -- What a writer copies from a place in s, behind bytes of its own: the place is in order, and the byte ceiling is the only rule that can be
 -- broken.
-pub record Copies (W : Written → Type 0) (output s : List ℕ) (at end : ℕ) (own : List ℕ) (total : ℕ) : Type 0 where
+pub record Copies (W : List ℕ → Written → Type 0) (s : List ℕ) (at end : ℕ) (own : List ℕ) (total : ℕ) : Type 0 where
   pub order : at ≤ end
   pub size : length (bytesAt s at (end - at)) ≡ end - at
-  pub ready : Ready W output (ceilingNumber total 0) (own ++ bytesAt s at (end - at)) total
+  pub ready : Ready W (ceilingNumber total 0) (own ++ bytesAt s at (end - at)) total
 
-module _ {W : Written → Type 0} {output s : List ℕ} {at end : ℕ} {own : List ℕ} {total : ℕ} (c : Copies W output s at end own total) where
-  pub over-ceiling : packetCeiling < total → W (unwritten 6 output)
+module _ {W : List ℕ → Written → Type 0} (output : List ℕ) {s : List ℕ} {at end : ℕ} {own : List ℕ} {total : ℕ} (c : Copies W s at end own total) where
+  pub over-ceiling : packetCeiling < total → W output (unwritten 6 output)
   over-ceiling h =
       let six : ceilingNumber total 0 ≡ 6 = rw (lt-leb total packetCeiling h) refl in
-      rw six at (c .ready .faulty (λ none. omega (arith, six)))
+      rw six at (faulty output (c .ready) (λ none. omega (arith, six)))
 
   module _ (h : total ≤ packetCeiling) where
     none : ceilingNumber total 0 ≡ 0
     none = rw (le-leb total packetCeiling h) refl
 
-    pub no-room : length output < total → W (unwritten 10 output)
-    no-room = roomless (c .ready) none
+    pub no-room : length output < total → W output (unwritten 10 output)
+    no-room = roomless output (c .ready) none
 
-    pub wrote : total ≤ length output → W (record { number = 0; length = total; output = overwritten (own ++ bytesAt s at (end - at)) output })
-    wrote = written (c .ready) none
+    pub wrote : total ≤ length output → W output (record { number = 0; length = total; output = overwritten (own ++ bytesAt s at (end - at)) output })
+    wrote = written output (c .ready) none
 
-module _ (k : Kind) {encoded : Message k → List ℕ} {Right : Message k → Type 0} (m : Message k) (s output : List ℕ) (hs : Bytes s) where
+module _ (k : Kind) {encoded : Message k → List ℕ} {Right : Message k → Type 0} (m : Message k) (s : List ℕ) (hs : Bytes s) where
   lies-copies : {there : Outcome (Unit {0})} {at end : ℕ} → got tt end ≡ there → Lies encoded Right s at m end → (own : List ℕ) (total : ℕ) → own ++ encoded m ≡ encode k m →
-      Bytes own → length own + (end - at) ≡ total → Judged k m (ceilingNumber (length (encode k m)) 0) → Copies (Promised k there m output) output s at end own total
+      Bytes own → length own + (end - at) ≡ total → Judged k m (ceilingNumber (length (encode k m)) 0) → Copies (Promised k there m) s at end own total
   lies-copies {at = at} {end} there l own total e ho sum judged =
       let bytes = bytesAt s at (end - at) in
       let size : length bytes ≡ end - at = omega (arith, l .end, ap length (l .bytes)) in
       let all : length (own ++ bytes) ≡ total = length-append own bytes ∙ omega (arith, size, sum) in
       let same : own ++ bytes ≡ encode k m = ap (λ b. own ++ b) (l .bytes) ∙ e in
       let number = subst (λ n. Judged k m (ceilingNumber n 0)) (ap length (sym same) ∙ all) judged in
-      record { order = omega (arith, l .end); size = size; ready = message-ready output there number same (bytes-append own bytes ho (bytes-part s hs at (end - at))) all }
+      record { order = omega (arith, l .end); size = size; ready = message-ready there number same (bytes-append own bytes ho (bytes-part s hs at (end - at))) all }
 
-module _ (s output : List ℕ) (hs : Bytes s) where
+module _ (s : List ℕ) (hs : Bytes s) where
   pub query-copies : (q : Query) {m : messages.Query} {end : ℕ} → got m end ≡ decodeQuery s (q .at) →
-      Copies (Promised loneQuery (ends (decodeQuery s (q .at))) (queryIn s q) output) output s (q .at) end [] (end - q .at)
+      Copies (Promised loneQuery (ends (decodeQuery s (q .at))) (queryIn s q)) s (q .at) end [] (end - q .at)
   unfolding ends
   query-copies q {m} {end} e =
       let l = lies codec-query query-needed s hs (q .at) (sym e) in
       rw (← e)
-      (lies-copies loneQuery m s output hs refl l [] (end - q .at) refl tt (omega arith)
+      (lies-copies loneQuery m s hs refl l [] (end - q .at) refl tt (omega arith)
       (ceiling-judged loneQuery m 0 (query-fits m (l .valid .0)) (λ few. valid-judged loneQuery m (record { content = l .valid; few = few }))))
 
   pub list-copies : (l : Items) → Dword (l .count) → {end : ℕ} → got tt end ≡ itemsThere decodeTag s l →
-      Copies (Promised loneTags (itemsThere decodeTag s l) (itemsIn decodeTag s l) output) output s (l .at) end (dword (l .count)) (4 + (end - l .at))
+      Copies (Promised loneTags (itemsThere decodeTag s l) (itemsIn decodeTag s l)) s (l .at) end (dword (l .count)) (4 + (end - l .at))
   unfolding encodeTags
   list-copies l small {end} e =
       let o = decodeMany (l .count) decodeTag s (l .at) in
       let h = many-lies codec-tag tag-needed s hs (l .at) (l .count) (sym (ends-items o end (sym e))) in
       let content : ValidTags (itemsOf o) = (rw (h .valid .0) small, h .valid .1) in
-      lies-copies loneTags (itemsOf o) s output hs e h (dword (l .count)) (4 + (end - l .at)) (ap (λ n. dword n ++ encodeAll encodeTag (itemsOf o)) (sym (h .valid .0)))
+      lies-copies loneTags (itemsOf o) s hs e h (dword (l .count)) (4 + (end - l .at)) (ap (λ n. dword n ++ encodeAll encodeTag (itemsOf o)) (sym (h .valid .0)))
       (bytes-littleEndian 4 (l .count)) (omega (arith, length-littleEndian 4 (l .count)))
       (ceiling-judged loneTags (itemsOf o) 0 (tags-fit (itemsOf o) content) (λ few. valid-judged loneTags (itemsOf o) (record { content = content; few = few })))

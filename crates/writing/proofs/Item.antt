@@ -26,13 +26,13 @@ item-fine : {A : Type 0} {Fits : A → Type 0} {encode : A → List ℕ} {decode
 item-fine {encode = encode} L a f v = fine f (L .complete (encode a) 0 a [] v (sym (append-nil (encode a))) (omega arith) tt ∙ ap (got a) (omega arith))
 
 -- A String and a name.
-module _ (output t : List ℕ) (ht : Bytes t) where
+module _ (t : List ℕ) (ht : Bytes t) where
   string-judged : ItemJudged StringFits encodeString decodeString t (countNumber (length t) 0)
   string-judged = count-judged (ItemJudged StringFits encodeString decodeString t) (length t) 0 (λ over. overflows over) (λ few. item-fine codec-string t few (few, ht))
 
   pub string-ready : {n : ℕ} → n ≡ countNumber (length t) 0 →
-      Ready (WritesItem StringFits encodeString decodeString noPlaces t output) output n (encodeString t) (2 + length t)
-  string-ready e = item-ready output tt (rw e string-judged) refl (length-string t)
+      Ready (WritesItem StringFits encodeString decodeString noPlaces t) n (encodeString t) (2 + length t)
+  string-ready e = item-ready tt (rw e string-judged) refl (length-string t)
 
   name-fault : (rule : Rule) → StringFits t → checkNameLength (length t) ≡ violates rule → decodeName (encodeName t) 0 ≡ refused (fault rule 0 2)
   name-fault rule few v = name-refused rule (encodeName t) 0 t [] few v (sym (append-nil (encodeName t))) (omega arith)
@@ -46,8 +46,8 @@ module _ (output t : List ℕ) (ht : Bytes t) where
       item-fine codec-name t few (record { some = some; few = most; bytes = ht })))
 
   pub name-ready : {n : ℕ} → n ≡ tagNumber (length t) 0 →
-      Ready (WritesItem StringFits encodeName decodeName noPlaces t output) output n (encodeString t) (2 + length t)
-  name-ready e = item-ready output tt (rw e named-judged) (sym (name-string t)) (length-string t)
+      Ready (WritesItem StringFits encodeName decodeName noPlaces t) n (encodeString t) (2 + length t)
+  name-ready e = item-ready tt (rw e named-judged) (sym (name-string t)) (length-string t)
 
 -- Tags.
 codec-type : Codec anywhere decodeType (λ k. byte (typeCode k)) (λ _. Unit {0})
@@ -96,29 +96,29 @@ module _ (t : Tag) where
         name-judged J m (λ rule v. refusedFor f (fault rule _ 2) (tag-refused rule few v)) (λ some most.
         item-fine codec-tag t f (record { name = record { some = some; few = most; bytes = named }; value = valid short }))))
 
-    tag-ready : {there : Outcome (Unit {0})} (output : List ℕ) {size n : ℕ} → IsThere there → n ≡ tagNumber (length (t .name)) text → 3 + length (t .name) + length value ≡ size →
-        Ready (WritesTag there t output) output n (type ++ (name ++ value)) size
-    tag-ready output here e size = item-ready output here (rw e tag-judged) tag-bytes (tag-size ∙ size)
+    tag-ready : {there : Outcome (Unit {0})} {size n : ℕ} → IsThere there → n ≡ tagNumber (length (t .name)) text → 3 + length (t .name) + length value ≡ size →
+        Ready (WritesTag there t) n (type ++ (name ++ value)) size
+    tag-ready here e size = item-ready here (rw e tag-judged) tag-bytes (tag-size ∙ size)
 
   -- A tag with no text.
-  pub plain-ready : {there : Outcome (Unit {0})} (output : List ℕ) {size n : ℕ} → IsThere there → Bytes (t .name) → ValueFits (t .value .0) (t .value .1) →
+  pub plain-ready : {there : Outcome (Unit {0})} {size n : ℕ} → IsThere there → Bytes (t .name) → ValueFits (t .value .0) (t .value .1) →
       ValidValue (t .value .0) (t .value .1) → n ≡ tagNumber (length (t .name)) 0 → 3 + length (t .name) + length value ≡ size →
-      Ready (WritesTag there t output) output n (type ++ (name ++ value)) size
-  plain-ready output here named fit valid = tag-ready 0 named (λ _. omega arith, λ _. fit) (λ _. valid) output here
+      Ready (WritesTag there t) n (type ++ (name ++ value)) size
+  plain-ready here named fit valid = tag-ready 0 named (λ _. omega arith, λ _. fit) (λ _. valid) here
 
-module _ (output n : List ℕ) (named : Bytes n) {number : ℕ} where
+module _ (n : List ℕ) (named : Bytes n) {number : ℕ} where
   pub text-ready : (t : List ℕ) → Bytes t → number ≡ tagNumber (length n) (length t) →
-      Ready (WritesTag noPlaces (tagOf n stringType t) output) output number (byte 2 ++ (encodeName n ++ encodeString t)) (5 + length n + length t)
+      Ready (WritesTag noPlaces (tagOf n stringType t)) number (byte 2 ++ (encodeName n ++ encodeString t)) (5 + length n + length t)
   text-ready t ht e =
-      tag-ready (tagOf n stringType t) (length t) named (λ f. f, λ f. f) (λ short. (short, ht)) output tt e (omega (arith, length-string t))
+      tag-ready (tagOf n stringType t) (length t) named (λ f. f, λ f. f) (λ short. (short, ht)) tt e (omega (arith, length-string t))
 
   module _ (none : number ≡ tagNumber (length n) 0) where
-    pub dword-ready : (v : ℕ) → Dword v → Ready (WritesTag noPlaces (tagOf n dwordType v) output) output number (byte 3 ++ (encodeName n ++ dword v)) (7 + length n)
-    dword-ready v small = plain-ready (tagOf n dwordType v) output tt named tt small none (omega (arith, length-littleEndian 4 v))
+    pub dword-ready : (v : ℕ) → Dword v → Ready (WritesTag noPlaces (tagOf n dwordType v)) number (byte 3 ++ (encodeName n ++ dword v)) (7 + length n)
+    dword-ready v small = plain-ready (tagOf n dwordType v) tt named tt small none (omega (arith, length-littleEndian 4 v))
 
-    pub float-ready : (v : ℕ) → Dword v → Ready (WritesTag noPlaces (tagOf n floatType v) output) output number (byte 4 ++ (encodeName n ++ dword v)) (7 + length n)
-    float-ready v small = plain-ready (tagOf n floatType v) output tt named tt small none (omega (arith, length-littleEndian 4 v))
+    pub float-ready : (v : ℕ) → Dword v → Ready (WritesTag noPlaces (tagOf n floatType v)) number (byte 4 ++ (encodeName n ++ dword v)) (7 + length n)
+    float-ready v small = plain-ready (tagOf n floatType v) tt named tt small none (omega (arith, length-littleEndian 4 v))
 
     pub hash-ready : {there : Outcome (Unit {0})} (h : List ℕ) → IsThere there → ValidHash h →
-        Ready (WritesTag there (tagOf n hashType h) output) output number (byte 1 ++ (encodeName n ++ h)) (19 + length n)
-    hash-ready h here valid = plain-ready (tagOf n hashType h) output here named tt valid none (omega (arith, valid .0))
+        Ready (WritesTag there (tagOf n hashType h)) number (byte 1 ++ (encodeName n ++ h)) (19 + length n)
+    hash-ready h here valid = plain-ready (tagOf n hashType h) here named tt valid none (omega (arith, valid .0))

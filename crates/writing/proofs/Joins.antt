@@ -29,7 +29,7 @@ use Rattle.query.specs.Nodes.{depths}
 use Rattle.query.specs.Meaning.{QueryPlaced, queryIn, queryOf}
 use Rattle.writing.specs.Writers.{joinOf, sidesThere}
 use Rattle.writing.specs.Numbers.{joinNumber}
-use Rattle.writing.proofs.Answers.{Promised, Ready, message-ready, missing}
+use Rattle.writing.proofs.Answers.{Promised, Ready, message-ready, missing-promised}
 use Rattle.writing.proofs.Pieces.{ceiling-fits}
 use Rattle.writing.proofs.Leaves.{codec-case, query-step}
 
@@ -208,7 +208,7 @@ join-depth : (o : Operator) (q r : Query) → depth (join o q r) ≡ suc (max (d
 unfolding depth
 join-depth o q r = refl
 
-module _ (o : Operator) (a b output : List ℕ) where
+module _ (o : Operator) (a b : List ℕ) where
   abbrev pub joined : List ℕ
   joined = byte 0 ++ (byte (operatorCode o) ++ (a ++ b))
 
@@ -223,23 +223,23 @@ module _ (o : Operator) (a b output : List ℕ) where
         length-littleEndian 1 (operatorCode o),
       )
 
-  abbrev JoinPromised : Answer Query → Answer Query → Written → Type 0
-  JoinPromised x y w = Promised loneQuery (sidesThere x y) (joinOf o x y) output w
+  abbrev JoinPromised : Answer Query → Answer Query → List ℕ → Written → Type 0
+  JoinPromised x y output w = Promised loneQuery (sidesThere x y) (joinOf o x y) output w
 
   -- A side that is no lone query has its own number.
-  pub left-refused : {n : ℕ} → refusedWith n ≡ reply (decode loneQuery a) → JoinPromised (decode loneQuery a) (decode loneQuery b) (unwritten n output)
-  left-refused e = go (decode loneQuery a) e
+  pub left-refused : (output : List ℕ) {n : ℕ} → refusedWith n ≡ reply (decode loneQuery a) → JoinPromised (decode loneQuery a) (decode loneQuery b) output (unwritten n output)
+  left-refused output e = go (decode loneQuery a) e
     where
-      go : (x : Answer Query) {n : ℕ} → refusedWith n ≡ reply x → JoinPromised x (decode loneQuery b) (unwritten n output)
-      go (refusal f) {n} e = let same : n ≡ number (f .rule) = cc in rw same (missing output refl)
+      go : (x : Answer Query) {n : ℕ} → refusedWith n ≡ reply x → JoinPromised x (decode loneQuery b) output (unwritten n output)
+      go (refusal f) {n} e = let same : n ≡ number (f .rule) = cc in rw same (missing-promised output refl)
       go (accepted q) e = differ cc
 
-  pub right-refused : {q : Query} {d n : ℕ} → Side a q d → refusedWith n ≡ reply (decode loneQuery b) →
-      JoinPromised (decode loneQuery a) (decode loneQuery b) (unwritten n output)
-  right-refused {q} h e = rw (h .is) (go (decode loneQuery b) e)
+  pub right-refused : (output : List ℕ) {q : Query} {d n : ℕ} → Side a q d → refusedWith n ≡ reply (decode loneQuery b) →
+      JoinPromised (decode loneQuery a) (decode loneQuery b) output (unwritten n output)
+  right-refused output {q} h e = rw (h .is) (go (decode loneQuery b) e)
     where
-      go : (y : Answer Query) {n : ℕ} → refusedWith n ≡ reply y → JoinPromised (accepted q) y (unwritten n output)
-      go (refusal f) {n} e = let same : n ≡ number (f .rule) = cc in rw same (missing output refl)
+      go : (y : Answer Query) {n : ℕ} → refusedWith n ≡ reply y → JoinPromised (accepted q) y output (unwritten n output)
+      go (refusal f) {n} e = let same : n ≡ number (f .rule) = cc in rw same (missing-promised output refl)
       go (accepted r) e = differ cc
 
   module _ (ha : Bytes a) (hb : Bytes b) {q r : Query} {d e : ℕ} (h : Side a q d) (k : Side b r e) where
@@ -251,12 +251,12 @@ module _ (o : Operator) (a b output : List ℕ) where
     number-same = rw (← join-bytes, join-size, join-depth o q r, h .deep, k .deep) refl
 
     pub join-ready : {n : ℕ} → n ≡ joinNumber (2 + length a + length b) (suc (max d e)) →
-        Ready (JoinPromised (decode loneQuery a) (decode loneQuery b)) output n joined (2 + length a + length b)
+        Ready (JoinPromised (decode loneQuery a) (decode loneQuery b)) n joined (2 + length a + length b)
     join-ready {n} same =
         let judged : Judged loneQuery (join o q r) n =
         rw (same, ← number-same) (join-judged o q r (accepts loneQuery a ha q .0 (h .is) .1) (accepts loneQuery b hb r .0 (k .is) .1)) in
         let bytes = bytes-append (byte 0) _ (bytes-littleEndian 1 0) (bytes-append (byte (operatorCode o)) _ (bytes-littleEndian 1 (operatorCode o)) (bytes-append a b ha hb)) in
-        rw (h .is, k .is) (message-ready output refl judged join-bytes bytes join-size)
+        rw (h .is, k .is) (message-ready refl judged join-bytes bytes join-size)
 
 pub join-fits : (size deep : ℕ) → joinNumber size deep ≡ 0 → size ≤ 65536
 unfolding joinNumber

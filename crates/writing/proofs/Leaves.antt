@@ -136,25 +136,25 @@ string-bytes t h = bytes-append (word (length t)) t (bytes-littleEndian 2 (lengt
 name-bytes : (n : List ℕ) → Bytes n → Bytes (encodeName n)
 name-bytes n h = rw (name-string n) (string-bytes n h)
 
-module _ (output : List ℕ) {number : ℕ} where
+module _ {number : ℕ} where
   pub keyword-ready : (t : List ℕ) → Bytes t → number ≡ keywordNumber (length t) →
-      Ready (Promised loneQuery noPlaces (keyword t) output) output number (encodeQuery (keyword t)) (3 + length t)
+      Ready (Promised loneQuery noPlaces (keyword t)) number (encodeQuery (keyword t)) (3 + length t)
   unfolding encodeQuery
   keyword-ready t ht e =
       let bytes = bytes-append (byte 1) _ (bytes-littleEndian 1 1) (string-bytes t ht) in
-      message-ready output refl (rw e (keyword-judged t ht)) refl bytes (keyword-size t)
+      message-ready refl (rw e (keyword-judged t ht)) refl bytes (keyword-size t)
 
   pub field-ready : (t n : List ℕ) → Bytes t → Bytes n → number ≡ fieldNumber (length t) (length n) →
-      Ready (Promised loneQuery noPlaces (field t n) output) output number (encodeQuery (field t n)) (5 + length t + length n)
+      Ready (Promised loneQuery noPlaces (field t n)) number (encodeQuery (field t n)) (5 + length t + length n)
   unfolding encodeQuery
   field-ready t n ht hn e =
       let bytes = bytes-append (byte 2) _ (bytes-littleEndian 1 2) (bytes-append (encodeString t) (encodeName n) (string-bytes t ht) (name-bytes n hn)) in
-      message-ready output refl (rw e (field-judged t n ht hn)) refl bytes (field-size t n)
+      message-ready refl (rw e (field-judged t n ht hn)) refl bytes (field-size t n)
 
   pub limit-ready : (v : ℕ) (b : Bound) (n : List ℕ) → Dword v → Bytes n → number ≡ limitNumber (length n) →
-      Ready (Promised loneQuery noPlaces (limit v b n) output) output number (encodeQuery (limit v b n)) (8 + length n)
+      Ready (Promised loneQuery noPlaces (limit v b n)) number (encodeQuery (limit v b n)) (8 + length n)
   unfolding encodeQuery
   limit-ready v b n hv hn e =
       let named = bytes-append (byte (boundCode b)) (encodeName n) (bytes-littleEndian 1 (boundCode b)) (name-bytes n hn) in
       let bytes = bytes-append (byte 3) _ (bytes-littleEndian 1 3) (bytes-append (dword v) _ (bytes-littleEndian 4 v) named) in
-      message-ready output refl (rw e (limit-judged v b n hv hn)) refl bytes (limit-size v b n)
+      message-ready refl (rw e (limit-judged v b n hv hn)) refl bytes (limit-size v b n)

@@ -23,9 +23,16 @@ pub ends-refused : {A : Type 0} {f : Fault} {o : Outcome A} → refused f ≡ o 
 unfolding ends
 ends-refused e = rw (← e) refl
 
-pub ends-there : {A : Type 0} {x : A} {next : ℕ} {o : Outcome A} → got x next ≡ o → IsThere (ends o)
+pub ends-got : {A : Type 0} {x : A} {next : ℕ} {o : Outcome A} → got x next ≡ o → got tt next ≡ ends o
 unfolding ends
-ends-there e = rw (← e) tt
+ends-got e = rw (← e) refl
+
+-- Places one after the other.
+pub first-missing : {f : Fault} {first : Outcome (Unit {0})} (second : Outcome (Unit {0})) → refused f ≡ first → refused f ≡ bothThere first second
+first-missing second e = rw (← e) refl
+
+pub then-there : {next : ℕ} {first second o : Outcome (Unit {0})} → got tt next ≡ first → o ≡ second → o ≡ bothThere first second
+then-there e k = rw (← e) k
 
 -- Of two places that are there, each is.
 pub both-first : (a b : Outcome (Unit {0})) → IsThere (bothThere a b) → IsThere a

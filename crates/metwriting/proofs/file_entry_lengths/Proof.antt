@@ -1,5 +1,5 @@
 use denote.Ref.{now}
-use Rattle.metwriting.proofs.Answers.{first-missing, run-missing, run-there, then-there}
+use Rattle.writing.proofs.There.{ends-got, ends-refused, first-missing, then-there}
 use Rattle.metwriting.proofs.Lists.{hash-there}
 use borrow.Author.Needs.{needs}
 use Rattle.metwriting.proofs.file_entry_lengths.Statement.{statement}
@@ -20,7 +20,7 @@ fault-requires c κs = search needs
 returns : tie.Need-returns
 returns c =
     let read = rw (c .before .enum-told2 .given .1) at (c .before .before .before .hash .ensures) in
-    rw (c .fault .ensures, c .before .enum-told2 .given .1) (first-missing _ (run-missing read))
+    rw (c .fault .ensures, c .before .enum-told2 .given .1) (first-missing _ (ends-refused read))
 
 hashes-length-requires : tie.Need-hashes-length-requires
 hashes-length-requires c κs = search needs
@@ -39,7 +39,7 @@ returns-2 c =
     let b4 = c .before .before .before .before in
     let hash = rw (b4 .enum-told .given .1) at (b4 .before .before .hash .ensures) in
     let read = rw (c .before .enum-told3 .given .1) at (c .before .before .before .hashes-length .ensures) in
-    rw (c .fault2 .ensures, c .before .enum-told3 .given .1) (then-there (run-there hash) (first-missing _ read))
+    rw (c .fault2 .ensures, c .before .enum-told3 .given .1) (then-there (ends-got hash) (first-missing _ read))
 
 tags-length-requires : tie.Need-tags-length-requires
 tags-length-requires c κs = search needs
@@ -60,7 +60,7 @@ returns-3 c =
     let hash = rw (b8 .enum-told .given .1) at (b8 .before .before .hash .ensures) in
     let parts = rw (b4 .before .p .given .1) at (b4 .before .before .before .hashes-length .ensures) in
     let read = rw (c .before .enum-told4 .given .1) at (c .before .before .before .tags-length .ensures) in
-    rw (c .fault3 .ensures, c .before .enum-told4 .given .1) (then-there (run-there hash) (then-there parts read))
+    rw (c .fault3 .ensures, c .before .enum-told4 .given .1) (then-there (ends-got hash) (then-there parts read))
 
 returns-4 : tie.Need-returns-4
 returns-4 c =

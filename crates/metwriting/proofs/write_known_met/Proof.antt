@@ -2,7 +2,7 @@ use Rattle.metwriting.proofs.Known.{known-promises, known-ready, openin
 use mathlib.Core.Path.{sym, _∙_}
 use native.Mathlib.Omega.{arith}
 use denote.Ref.{now}
-use Rattle.metwriting.proofs.Answers.{faulty, missing, roomless, written}
+use Rattle.writing.proofs.Answers.{faulty, missing, roomless, written}
 use borrow.Author.Needs.{needs}
 use Rattle.metwriting.proofs.write_known_met.Statement.{statement}
 use Rattle.metwriting.proofs.write_known_met.Tie as tie

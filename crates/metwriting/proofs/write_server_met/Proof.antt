@@ -1,7 +1,8 @@
 use mathlib.Core.Path.{sym, _∙_}
 use native.Mathlib.Omega.{arith}
 use denote.Ref.{now}
-use Rattle.metwriting.proofs.Answers.{faulty, first-missing, missing, roomless, run-missing, then-there, written}
+use Rattle.writing.proofs.There.{ends-refused, first-missing, then-there}
+use Rattle.writing.proofs.Answers.{faulty, missing, roomless, written}
 use Rattle.metwriting.proofs.Known.{opening-fits}
 use Rattle.metwriting.proofs.Servers.{part-sizes, server-promises, server-ready}
 use borrow.Author.Needs.{needs}
@@ -64,7 +65,7 @@ returns-2 c =
     let read = rw (b8 .e .given .1) at (b8 .before .before .server-entries-length .ensures) in
     let tail = rw told at (b4 .before .run .ensures .0) in
     rw (c .refused2 .ensures, c .before .number2 .ensures, c .before .before .fault2 .ensures, told)
-    (server-promises (now (a .src)) (b12 .before .shared-slice-known .given) (a .m) (missing _ (then-there read (run-missing tail))))
+    (server-promises (now (a .src)) (b12 .before .shared-slice-known .given) (a .m) (missing _ (then-there read (ends-refused tail))))
 
 tailed-number-requires : tie.Need-tailed-number-requires
 tailed-number-requires c κs = search needs

@@ -1,5 +1,5 @@
 use denote.Ref.{now}
-use Rattle.metwriting.proofs.Answers.{first-missing, run-missing, run-there, then-there}
+use Rattle.writing.proofs.There.{ends-got, ends-refused, first-missing, then-there}
 use Rattle.metwriting.proofs.Lists.{hash-there}
 use borrow.Author.Needs.{needs}
 use Rattle.partwriting.proofs.e1_lengths.Statement.{statement}
@@ -20,7 +20,7 @@ fault-requires c κs = search needs
 returns : tie.Need-returns
 returns c =
     let told = c .before .enum-told2 .given .1 in
-    rw (c .fault .ensures, told) (first-missing _ (run-missing (rw told at (c .before .before .before .hash .ensures))))
+    rw (c .fault .ensures, told) (first-missing _ (ends-refused (rw told at (c .before .before .before .hash .ensures))))
 
 tags-length-requires : tie.Need-tags-length-requires
 tags-length-requires c κs = search needs
@@ -39,7 +39,7 @@ returns-2 c =
     let b4 = c .before .before .before .before in
     let told = c .before .enum-told3 .given .1 in
     let hash = rw (b4 .enum-told .given .1) at (b4 .before .before .hash .ensures) in
-    rw (c .fault2 .ensures, told) (then-there (run-there hash) (first-missing _ (rw told at (c .before .before .before .tags-length .ensures))))
+    rw (c .fault2 .ensures, told) (then-there (ends-got hash) (first-missing _ (rw told at (c .before .before .before .tags-length .ensures))))
 
 area-of-requires : tie.Need-area-of-requires
 area-of-requires c κs = search needs
@@ -60,7 +60,7 @@ returns-3 c =
     let told = c .before .enum-told4 .given .1 in
     let hash = rw (b8 .enum-told .given .1) at (b8 .before .before .hash .ensures) in
     let tags = rw (b4 .before .l .given .1) at (b4 .before .before .before .tags-length .ensures) in
-    rw (c .fault3 .ensures, told) (then-there (run-there hash) (then-there tags (rw told at (c .before .before .before .area-of .ensures))))
+    rw (c .fault3 .ensures, told) (then-there (ends-got hash) (then-there tags (rw told at (c .before .before .before .area-of .ensures))))
 
 returns-4 : tie.Need-returns-4
 returns-4 c =

@@ -1,5 +1,5 @@
 use denote.Ref.{now}
-use Rattle.metwriting.proofs.Answers.{first-missing, then-there}
+use Rattle.writing.proofs.There.{first-missing, then-there}
 use Rattle.partwriting.proofs.AreaBytes.{both-blocks}
 use borrow.Author.Needs.{needs}
 use Rattle.partwriting.proofs.two_blocks.Statement.{statement}

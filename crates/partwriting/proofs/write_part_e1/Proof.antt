@@ -1,7 +1,7 @@
 use mathlib.Core.Path.{sym, _∙_}
 use native.Mathlib.Omega.{arith}
 use denote.Ref.{now}
-use Rattle.metwriting.proofs.Answers.{faulty, missing, roomless, written}
+use Rattle.writing.proofs.Answers.{faulty, missing, roomless, written}
 use Rattle.partwriting.proofs.E1Places.{e1-fits, e1-ready}
 use borrow.Author.Needs.{needs}
 use Rattle.partwriting.proofs.write_part_e1.Statement.{statement}

@@ -3,7 +3,7 @@ use native.Mathlib.Omega.{arith}
 use denote.Ref.{now}
 use lib.ListN.{length}
 use Rattle.wire.proofs.Replies.{slice-bytes}
-use Rattle.writing.proofs.Answers.{roomless, written}
+use Rattle.writing.proofs.Answers.{faulty, roomless, written}
 use Rattle.writing.proofs.Pieces.{tag-fits}
 use Rattle.writing.proofs.Item.{dword-ready}
 use borrow.Author.Needs.{needs}
@@ -21,8 +21,8 @@ returns c =
     let b4 = c .before .before .before .before in
     let a = b4 .before .args in
     let name = slice-bytes (now (a .name)) (b4 .shared-slice-known .given) in
-    let ready = dword-ready (now (a .out)) (now (a .name)) name (c .before .before .tag-number .ensures) (a .value) (omega (arith, b4 .before .good)) in
-    rw (c .refused .ensures) (ready .faulty (c .before .if1 .taken))
+    let ready = dword-ready (now (a .name)) name (c .before .before .tag-number .ensures) (a .value) (omega (arith, b4 .before .good)) in
+    rw (c .refused .ensures) (faulty _ ready (c .before .if1 .taken))
 
 add-if2 : tie.Need-add-if2
 add-if2 c = search needs
@@ -35,8 +35,8 @@ returns-2 c =
     let b4 = c .before .before .before .before in
     let a = b4 .before .before .args in
     let name = slice-bytes (now (a .name)) (b4 .before .shared-slice-known .given) in
-    let ready = dword-ready (now (a .out)) (now (a .name)) name (c .before .before .before .tag-number .ensures) (a .value) (omega (arith, b4 .before .before .good)) in
-    rw (c .refused2 .ensures) (roomless ready (c .before .before .if1 .left) (c .before .if2 .taken))
+    let ready = dword-ready (now (a .name)) name (c .before .before .before .tag-number .ensures) (a .value) (omega (arith, b4 .before .before .good)) in
+    rw (c .refused2 .ensures) (roomless _ ready (c .before .before .if1 .left) (c .before .if2 .taken))
 
 put-number-tag-requires : tie.Need-put-number-tag-requires
 put-number-tag-requires c κs =
@@ -53,9 +53,9 @@ returns-3 c =
     let b8 = b4 .before .before .before .before in
     let a = b8 .before .args in
     let name = slice-bytes (now (a .name)) (b8 .shared-slice-known .given) in
-    let ready = dword-ready (now (a .out)) (now (a .name)) name (b4 .before .before .tag-number .ensures) (a .value) (omega (arith, b8 .before .good)) in
+    let ready = dword-ready (now (a .name)) name (b4 .before .before .tag-number .ensures) (a .value) (omega (arith, b8 .before .good)) in
     let put = c .before .before .put-number-tag .ensures in
-    rw (put .0, put .1) (written ready (b4 .before .if1 .left) (b4 .if2 .left))
+    rw (put .0, put .1) (written _ ready (b4 .before .if1 .left) (b4 .if2 .left))
 
 pub write-dword-tag-spec : {M : Type 1} → statement M
 write-dword-tag-spec =

@@ -3,8 +3,8 @@ use denote.Ref.{now}
 use lib.ListN.{length}
 use Rattle.wire.specs.Meaning.{hashAt}
 use Rattle.wire.proofs.Replies.{slice-bytes}
-use Rattle.writing.proofs.There.{ends-refused, ends-there, valid-hash}
-use Rattle.writing.proofs.Answers.{item-missing, roomless, written}
+use Rattle.writing.proofs.There.{ends-got, ends-refused, is-there, valid-hash}
+use Rattle.writing.proofs.Answers.{faulty, item-missing, roomless, written}
 use Rattle.writing.proofs.Pieces.{tag-fits}
 use Rattle.writing.proofs.Item.{hash-ready}
 use borrow.Author.Needs.{needs}
@@ -36,7 +36,7 @@ returns c =
     let a = b8 .before .args in
     let told = c .before .before .before .enum-told2 .given .1 in
     let read = rw told at (b4 .before .hash .ensures) in
-    rw (c .refused .ensures, c .before .number .ensures, c .before .before .fault .ensures, told) (item-missing (now (a .out)) (ends-refused read))
+    rw (c .refused .ensures, c .before .number .ensures, c .before .before .fault .ensures, told) (item-missing _ (ends-refused read))
 
 tag-number-requires : tie.Need-tag-number-requires
 tag-number-requires c κs = search needs
@@ -49,11 +49,11 @@ returns-2 c =
     let b4 = c .before .before .before .before in
     let b8 = b4 .before .before .before .before in
     let a = b8 .before .args in
-    let here = ends-there (rw (c .before .before .before .enum-told .given .1) at (b4 .before .hash .ensures)) in
+    let here = is-there (sym (ends-got (rw (c .before .before .before .enum-told .given .1) at (b4 .before .hash .ensures)))) in
     let name = slice-bytes (now (a .name)) (b8 .shared-slice-known .given) in
     let hash = valid-hash (now (a .src)) (slice-bytes (now (a .src)) (b4 .before .before .before .shared-slice-known2 .given)) (a .at) here in
-    let ready = hash-ready (now (a .out)) (now (a .name)) name (c .before .before .tag-number .ensures) (hashAt (now (a .src)) (a .at)) here hash in
-    rw (c .refused2 .ensures) (ready .faulty (c .before .if1 .taken))
+    let ready = hash-ready (now (a .name)) name (c .before .before .tag-number .ensures) (hashAt (now (a .src)) (a .at)) here hash in
+    rw (c .refused2 .ensures) (faulty _ ready (c .before .if1 .taken))
 
 add-if2 : tie.Need-add-if2
 add-if2 c = search needs
@@ -66,11 +66,11 @@ returns-3 c =
     let b4 = c .before .before .before .before in
     let b8 = b4 .before .before .before .before in
     let a = b8 .before .before .args in
-    let here = ends-there (rw (b4 .enum-told .given .1) at (b4 .before .before .hash .ensures)) in
+    let here = is-there (sym (ends-got (rw (b4 .enum-told .given .1) at (b4 .before .before .hash .ensures)))) in
     let name = slice-bytes (now (a .name)) (b8 .before .shared-slice-known .given) in
     let hash = valid-hash (now (a .src)) (slice-bytes (now (a .src)) (b8 .shared-slice-known2 .given)) (a .at) here in
-    let ready = hash-ready (now (a .out)) (now (a .name)) name (c .before .before .before .tag-number .ensures) (hashAt (now (a .src)) (a .at)) here hash in
-    rw (c .refused3 .ensures) (roomless ready (c .before .before .if1 .left) (c .before .if2 .taken))
+    let ready = hash-ready (now (a .name)) name (c .before .before .before .tag-number .ensures) (hashAt (now (a .src)) (a .at)) here hash in
+    rw (c .refused3 .ensures) (roomless _ ready (c .before .before .if1 .left) (c .before .if2 .taken))
 
 bytes-at-requires : tie.Need-bytes-at-requires
 bytes-at-requires c κs = search needs
@@ -80,7 +80,7 @@ put-hash-tag-requires c κs =
     let b4 = c .before .before .before .before in
     let b8 = b4 .before .before .before .before in
     let a = b8 .before .before .before .args in
-    let here = ends-there (rw (b4 .before .enum-told .given .1) at (b4 .before .before .before .hash .ensures)) in
+    let here = is-there (sym (ends-got (rw (b4 .before .enum-told .given .1) at (b4 .before .before .before .hash .ensures)))) in
     let hash = valid-hash (now (a .src)) (slice-bytes (now (a .src)) (b8 .before .shared-slice-known2 .given)) (a .at) here in
     let h = tag-fits (length (now (a .name))) 0 (sym (b4 .tag-number .ensures) ∙ c .before .before .before .if1 .left) in
     (h .0, rw (c .before .bytes-at .ensures) (hash .0), c .before .before .if2 .left)
@@ -94,12 +94,12 @@ returns-4 c =
     let b8 = b4 .before .before .before .before in
     let b12 = b8 .before .before .before .before in
     let a = b12 .before .before .args in
-    let here = ends-there (rw (b8 .enum-told .given .1) at (b8 .before .before .hash .ensures)) in
+    let here = is-there (sym (ends-got (rw (b8 .enum-told .given .1) at (b8 .before .before .hash .ensures)))) in
     let name = slice-bytes (now (a .name)) (b12 .before .shared-slice-known .given) in
     let hash = valid-hash (now (a .src)) (slice-bytes (now (a .src)) (b12 .shared-slice-known2 .given)) (a .at) here in
-    let ready = hash-ready (now (a .out)) (now (a .name)) name (b4 .before .before .before .tag-number .ensures) (hashAt (now (a .src)) (a .at)) here hash in
+    let ready = hash-ready (now (a .name)) name (b4 .before .before .before .tag-number .ensures) (hashAt (now (a .src)) (a .at)) here hash in
     let put = c .before .before .put-hash-tag .ensures in
-    rw (put .0, put .1, b4 .bytes-at .ensures) (written ready (b4 .before .before .if1 .left) (b4 .before .if2 .left))
+    rw (put .0, put .1, b4 .bytes-at .ensures) (written _ ready (b4 .before .before .if1 .left) (b4 .before .if2 .left))
 
 pub write-hash-tag-spec : {M : Type 1} → statement M
 write-hash-tag-spec =

@@ -5,7 +5,7 @@ use denote.Ref.{now}
 use lib.ListN.{length}
 use Rattle.query.specs.Meaning.{operatorOf}
 use Rattle.wire.proofs.Replies.{slice-bytes}
-use Rattle.writing.proofs.Answers.{roomless, written}
+use Rattle.writing.proofs.Answers.{faulty, roomless, written}
 use Rattle.writing.proofs.Joins.{join-fits, join-ready, left-refused, right-refused, side}
 use borrow.Author.Needs.{needs}
 use Rattle.writing.proofs.write_join.Statement.{statement}
@@ -80,8 +80,8 @@ returns-3 c =
     let right = side (now (a .right)) (first .before .before .shared-slice-known2 .given) (b4 .b .given .0 .0) (y .0) (y .1 .0) in
     let leftBytes = slice-bytes (now (a .left)) (first .before .before .before .shared-slice-known .given) in
     let rightBytes = slice-bytes (now (a .right)) (first .before .before .shared-slice-known2 .given) in
-    let ready = join-ready (operatorOf (a .operator)) (now (a .left)) (now (a .right)) (now (a .out)) leftBytes rightBytes left right (c .before .before .join-number .ensures) in
-    rw (c .refused3 .ensures) (ready .faulty (c .before .if1 .taken))
+    let ready = join-ready (operatorOf (a .operator)) (now (a .left)) (now (a .right)) leftBytes rightBytes left right (c .before .before .join-number .ensures) in
+    rw (c .refused3 .ensures) (faulty _ ready (c .before .if1 .taken))
 
 add-if2 : tie.Need-add-if2
 add-if2 c = search needs
@@ -107,8 +107,8 @@ returns-4 c =
     let right = side (now (a .right)) (first .before .before .shared-slice-known2 .given) (b4 .before .b .given .0 .0) (y .0) (y .1 .0) in
     let leftBytes = slice-bytes (now (a .left)) (first .before .before .before .shared-slice-known .given) in
     let rightBytes = slice-bytes (now (a .right)) (first .before .before .shared-slice-known2 .given) in
-    let ready = join-ready (operatorOf (a .operator)) (now (a .left)) (now (a .right)) (now (a .out)) leftBytes rightBytes left right (c .before .before .before .join-number .ensures) in
-    rw (c .refused4 .ensures) (roomless ready (c .before .before .if1 .left) (c .before .if2 .taken))
+    let ready = join-ready (operatorOf (a .operator)) (now (a .left)) (now (a .right)) leftBytes rightBytes left right (c .before .before .before .join-number .ensures) in
+    rw (c .refused4 .ensures) (roomless _ ready (c .before .before .if1 .left) (c .before .if2 .taken))
 
 put-join-requires : tie.Need-put-join-requires
 put-join-requires c κs = search needs
@@ -129,9 +129,9 @@ returns-5 c =
     let right = side (now (a .right)) (first .before .before .shared-slice-known2 .given) (b8 .b .given .0 .0) (y .0) (y .1 .0) in
     let leftBytes = slice-bytes (now (a .left)) (first .before .before .before .shared-slice-known .given) in
     let rightBytes = slice-bytes (now (a .right)) (first .before .before .shared-slice-known2 .given) in
-    let ready = join-ready (operatorOf (a .operator)) (now (a .left)) (now (a .right)) (now (a .out)) leftBytes rightBytes left right (b4 .before .before .join-number .ensures) in
+    let ready = join-ready (operatorOf (a .operator)) (now (a .left)) (now (a .right)) leftBytes rightBytes left right (b4 .before .before .join-number .ensures) in
     let put = c .before .before .put-join .ensures in
-    rw (put .0, put .1) (written ready (b4 .before .if1 .left) (b4 .if2 .left))
+    rw (put .0, put .1) (written _ ready (b4 .before .if1 .left) (b4 .if2 .left))
 
 pub write-join-spec : {M : Type 1} → statement M
 write-join-spec =

@@ -2,7 +2,7 @@ use mathlib.Core.Path.{_∙_, sym}
 use denote.Ref.{now}
 use lib.ListN.{length}
 use Rattle.wire.proofs.Replies.{slice-bytes}
-use Rattle.writing.proofs.Answers.{roomless, written}
+use Rattle.writing.proofs.Answers.{faulty, roomless, written}
 use Rattle.writing.proofs.Pieces.{keyword-fits}
 use Rattle.writing.proofs.Leaves.{keyword-ready}
 use borrow.Author.Needs.{needs}
@@ -20,8 +20,8 @@ returns c =
     let b4 = c .before .before .before .before in
     let a = b4 .before .args in
     let text = slice-bytes (now (a .text)) (b4 .shared-slice-known .given) in
-    let ready = keyword-ready (now (a .out)) (now (a .text)) text (c .before .before .keyword-number .ensures) in
-    rw (c .refused .ensures) (ready .faulty (c .before .if1 .taken))
+    let ready = keyword-ready (now (a .text)) text (c .before .before .keyword-number .ensures) in
+    rw (c .refused .ensures) (faulty _ ready (c .before .if1 .taken))
 
 add-if2 : tie.Need-add-if2
 add-if2 c = search needs
@@ -34,8 +34,8 @@ returns-2 c =
     let b4 = c .before .before .before .before in
     let a = b4 .before .before .args in
     let text = slice-bytes (now (a .text)) (b4 .before .shared-slice-known .given) in
-    let ready = keyword-ready (now (a .out)) (now (a .text)) text (c .before .before .before .keyword-number .ensures) in
-    rw (c .refused2 .ensures) (roomless ready (c .before .before .if1 .left) (c .before .if2 .taken))
+    let ready = keyword-ready (now (a .text)) text (c .before .before .before .keyword-number .ensures) in
+    rw (c .refused2 .ensures) (roomless _ ready (c .before .before .if1 .left) (c .before .if2 .taken))
 
 put-keyword-requires : tie.Need-put-keyword-requires
 put-keyword-requires c κs =
@@ -52,9 +52,9 @@ returns-3 c =
     let b8 = b4 .before .before .before .before in
     let a = b8 .before .args in
     let text = slice-bytes (now (a .text)) (b8 .shared-slice-known .given) in
-    let ready = keyword-ready (now (a .out)) (now (a .text)) text (b4 .before .before .keyword-number .ensures) in
+    let ready = keyword-ready (now (a .text)) text (b4 .before .before .keyword-number .ensures) in
     let put = c .before .before .put-keyword .ensures in
-    rw (put .0, put .1) (written ready (b4 .before .if1 .left) (b4 .if2 .left))
+    rw (put .0, put .1) (written _ ready (b4 .before .if1 .left) (b4 .if2 .left))
 
 pub write-keyword-spec : {M : Type 1} → statement M
 write-keyword-spec =

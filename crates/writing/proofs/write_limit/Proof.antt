@@ -4,7 +4,7 @@ use denote.Ref.{now}
 use lib.ListN.{length}
 use Rattle.wire.proofs.Replies.{slice-bytes}
 use Rattle.query.specs.Meaning.{boundOf}
-use Rattle.writing.proofs.Answers.{roomless, written}
+use Rattle.writing.proofs.Answers.{faulty, roomless, written}
 use Rattle.writing.proofs.Pieces.{limit-fits}
 use Rattle.writing.proofs.Leaves.{limit-ready}
 use borrow.Author.Needs.{needs}
@@ -22,8 +22,8 @@ returns c =
     let b4 = c .before .before .before .before in
     let a = b4 .before .args in
     let name = slice-bytes (now (a .name)) (b4 .shared-slice-known .given) in
-    let ready = limit-ready (now (a .out)) (a .value) (boundOf (a .bound)) (now (a .name)) (omega (arith, b4 .before .good)) name (c .before .before .limit-number .ensures) in
-    rw (c .refused .ensures) (ready .faulty (c .before .if1 .taken))
+    let ready = limit-ready (a .value) (boundOf (a .bound)) (now (a .name)) (omega (arith, b4 .before .good)) name (c .before .before .limit-number .ensures) in
+    rw (c .refused .ensures) (faulty _ ready (c .before .if1 .taken))
 
 add-if2 : tie.Need-add-if2
 add-if2 c = search needs
@@ -36,8 +36,8 @@ returns-2 c =
     let b4 = c .before .before .before .before in
     let a = b4 .before .before .args in
     let name = slice-bytes (now (a .name)) (b4 .before .shared-slice-known .given) in
-    let ready = limit-ready (now (a .out)) (a .value) (boundOf (a .bound)) (now (a .name)) (omega (arith, b4 .before .before .good)) name (c .before .before .before .limit-number .ensures) in
-    rw (c .refused2 .ensures) (roomless ready (c .before .before .if1 .left) (c .before .if2 .taken))
+    let ready = limit-ready (a .value) (boundOf (a .bound)) (now (a .name)) (omega (arith, b4 .before .before .good)) name (c .before .before .before .limit-number .ensures) in
+    rw (c .refused2 .ensures) (roomless _ ready (c .before .before .if1 .left) (c .before .if2 .taken))
 
 put-limit-requires : tie.Need-put-limit-requires
 put-limit-requires c κs =
@@ -54,9 +54,9 @@ returns-3 c =
     let b8 = b4 .before .before .before .before in
     let a = b8 .before .args in
     let name = slice-bytes (now (a .name)) (b8 .shared-slice-known .given) in
-    let ready = limit-ready (now (a .out)) (a .value) (boundOf (a .bound)) (now (a .name)) (omega (arith, b8 .before .good)) name (b4 .before .before .limit-number .ensures) in
+    let ready = limit-ready (a .value) (boundOf (a .bound)) (now (a .name)) (omega (arith, b8 .before .good)) name (b4 .before .before .limit-number .ensures) in
     let put = c .before .before .put-limit .ensures in
-    rw (put .0, put .1) (written ready (b4 .before .if1 .left) (b4 .if2 .left))
+    rw (put .0, put .1) (written _ ready (b4 .before .if1 .left) (b4 .if2 .left))
 
 pub write-limit-spec : {M : Type 1} → statement M
 write-limit-spec =

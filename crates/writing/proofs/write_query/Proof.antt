@@ -1,6 +1,6 @@
 use denote.Ref.{now}
 use Rattle.wire.proofs.Replies.{slice-bytes}
-use Rattle.writing.proofs.Answers.{missing}
+use Rattle.writing.proofs.Answers.{missing-promised}
 use Rattle.writing.proofs.Copies.{no-room, over-ceiling, query-copies, wrote}
 use Rattle.writing.proofs.There.{ends-refused}
 use borrow.Author.Needs.{needs}
@@ -32,14 +32,14 @@ returns c =
     let a = b .before .before .before .args in
     let told = c .before .before .before .enum-told .given .1 in
     let read = rw told at (b .read-query .ensures .0) in
-    rw (c .refused .ensures, c .before .number .ensures, c .before .before .fault .ensures, told) (missing (now (a .out)) (ends-refused read))
+    rw (c .refused .ensures, c .before .number .ensures, c .before .before .fault .ensures, told) (missing-promised _ (ends-refused read))
 
 sub-n : tie.Need-sub-n
 sub-n c =
     let b = c .before .before .before in
     let a = b .before .before .before .args in
     let read = rw (c .before .e .given .1) at (b .read-query .ensures .0) in
-    query-copies (now (a .src)) (now (a .out)) (slice-bytes (now (a .src)) (b .before .before .shared-slice-known .given)) (a .q) read .order
+    query-copies (now (a .src)) (slice-bytes (now (a .src)) (b .before .before .shared-slice-known .given)) (a .q) read .order
 
 refused-requires-2 : tie.Need-refused-requires-2
 refused-requires-2 c κs = search needs
@@ -50,8 +50,8 @@ returns-2 c =
     let b = b4 .before in
     let a = b .before .before .before .args in
     let read = rw (c .before .before .before .e .given .1) at (b .read-query .ensures .0) in
-    let q = query-copies (now (a .src)) (now (a .out)) (slice-bytes (now (a .src)) (b .before .before .shared-slice-known .given)) (a .q) read in
-    rw (c .refused2 .ensures) (over-ceiling q (c .before .if1 .taken))
+    let q = query-copies (now (a .src)) (slice-bytes (now (a .src)) (b .before .before .shared-slice-known .given)) (a .q) read in
+    rw (c .refused2 .ensures) (over-ceiling _ q (c .before .if1 .taken))
 
 refused-requires-3 : tie.Need-refused-requires-3
 refused-requires-3 c κs = search needs
@@ -62,8 +62,8 @@ returns-3 c =
     let b = b4 .before .before in
     let a = b .before .before .before .args in
     let read = rw (b4 .e .given .1) at (b .read-query .ensures .0) in
-    let q = query-copies (now (a .src)) (now (a .out)) (slice-bytes (now (a .src)) (b .before .before .shared-slice-known .given)) (a .q) read in
-    rw (c .refused3 .ensures) (no-room q (c .before .before .if1 .left) (c .before .if2 .taken))
+    let q = query-copies (now (a .src)) (slice-bytes (now (a .src)) (b .before .before .shared-slice-known .given)) (a .q) read in
+    rw (c .refused3 .ensures) (no-room _ q (c .before .before .if1 .left) (c .before .if2 .taken))
 
 bytes-at-requires : tie.Need-bytes-at-requires
 bytes-at-requires c κs = search needs
@@ -74,7 +74,7 @@ copy-requires c κs =
     let b = b4 .before .before .before in
     let a = b .before .before .before .args in
     let read = rw (b4 .before .e .given .1) at (b .read-query .ensures .0) in
-    let q = query-copies (now (a .src)) (now (a .out)) (slice-bytes (now (a .src)) (b .before .before .shared-slice-known .given)) (a .q) read in
+    let q = query-copies (now (a .src)) (slice-bytes (now (a .src)) (b .before .before .shared-slice-known .given)) (a .q) read in
     rw (c .before .bytes-at .ensures, q .size) (c .before .before .if2 .left)
 
 same-length : tie.Need-same-length
@@ -87,8 +87,8 @@ returns-4 c =
     let b = k .before .before .before .before .before in
     let a = b .before .before .before .args in
     let read = rw (k .before .before .before .e .given .1) at (b .read-query .ensures .0) in
-    let q = query-copies (now (a .src)) (now (a .out)) (slice-bytes (now (a .src)) (b .before .before .shared-slice-known .given)) (a .q) read in
-    rw (c .before .before .copy .ensures, b4 .bytes-at .ensures) (wrote q (k .before .if1 .left) (k .if2 .left))
+    let q = query-copies (now (a .src)) (slice-bytes (now (a .src)) (b .before .before .shared-slice-known .given)) (a .q) read in
+    rw (c .before .before .copy .ensures, b4 .bytes-at .ensures) (wrote _ q (k .before .if1 .left) (k .if2 .left))
 
 pub write-query-spec : {M : Type 1} → statement M
 write-query-spec =

@@ -1,7 +1,7 @@
 use native.Mathlib.Omega.{arith}
 use denote.Ref.{now}
 use Rattle.wire.proofs.Replies.{slice-bytes}
-use Rattle.writing.proofs.Answers.{missing}
+use Rattle.writing.proofs.Answers.{missing-promised}
 use Rattle.writing.proofs.Copies.{list-copies, no-room, over-ceiling, wrote}
 use borrow.Author.Needs.{needs}
 use Rattle.writing.proofs.write_tag_list.Statement.{statement}
@@ -32,14 +32,14 @@ returns c =
     let a = b .before .before .before .args in
     let told = c .before .before .before .enum-told .given .1 in
     let read = rw told at (b .tags-end .ensures) in
-    rw (c .refused .ensures, c .before .number .ensures, c .before .before .fault .ensures, told) (missing (now (a .out)) read)
+    rw (c .refused .ensures, c .before .number .ensures, c .before .before .fault .ensures, told) (missing-promised _ read)
 
 sub-n : tie.Need-sub-n
 sub-n c =
     let b = c .before .before .before in
     let a = b .before .before .before .args in
     let read = rw (c .before .e .given .1) at (b .tags-end .ensures) in
-    list-copies (now (a .src)) (now (a .out)) (slice-bytes (now (a .src)) (b .before .before .shared-slice-known .given)) (a .tags) (omega (arith, b .before .before .before .good)) read .order
+    list-copies (now (a .src)) (slice-bytes (now (a .src)) (b .before .before .shared-slice-known .given)) (a .tags) (omega (arith, b .before .before .before .good)) read .order
 
 refused-requires-2 : tie.Need-refused-requires-2
 refused-requires-2 c κs = search needs
@@ -49,8 +49,8 @@ returns-2 c =
     let b = c .before .before .before .before .before in
     let a = b .before .before .before .args in
     let read = rw (c .before .before .before .e .given .1) at (b .tags-end .ensures) in
-    let l = list-copies (now (a .src)) (now (a .out)) (slice-bytes (now (a .src)) (b .before .before .shared-slice-known .given)) (a .tags) (omega (arith, b .before .before .before .good)) read in
-    rw (c .refused2 .ensures) (over-ceiling l (omega (arith, c .before .if1 .taken)))
+    let l = list-copies (now (a .src)) (slice-bytes (now (a .src)) (b .before .before .shared-slice-known .given)) (a .tags) (omega (arith, b .before .before .before .good)) read in
+    rw (c .refused2 .ensures) (over-ceiling _ l (omega (arith, c .before .if1 .taken)))
 
 add-if2 : tie.Need-add-if2
 add-if2 c = search needs
@@ -63,8 +63,8 @@ returns-3 c =
     let b = c .before .before .before .before .before .before in
     let a = b .before .before .before .args in
     let read = rw (c .before .before .before .before .e .given .1) at (b .tags-end .ensures) in
-    let l = list-copies (now (a .src)) (now (a .out)) (slice-bytes (now (a .src)) (b .before .before .shared-slice-known .given)) (a .tags) (omega (arith, b .before .before .before .good)) read in
-    rw (c .refused3 .ensures) (no-room l (omega (arith, c .before .before .if1 .left)) (c .before .if2 .taken))
+    let l = list-copies (now (a .src)) (slice-bytes (now (a .src)) (b .before .before .shared-slice-known .given)) (a .tags) (omega (arith, b .before .before .before .good)) read in
+    rw (c .refused3 .ensures) (no-room _ l (omega (arith, c .before .before .if1 .left)) (c .before .if2 .taken))
 
 bytes-at-requires : tie.Need-bytes-at-requires
 bytes-at-requires c κs = search needs
@@ -74,7 +74,7 @@ put-list-requires c κs =
     let b = c .before .before .before .before .before .before .before in
     let a = b .before .before .before .args in
     let read = rw (c .before .before .before .before .before .e .given .1) at (b .tags-end .ensures) in
-    let l = list-copies (now (a .src)) (now (a .out)) (slice-bytes (now (a .src)) (b .before .before .shared-slice-known .given)) (a .tags) (omega (arith, b .before .before .before .good)) read in
+    let l = list-copies (now (a .src)) (slice-bytes (now (a .src)) (b .before .before .shared-slice-known .given)) (a .tags) (omega (arith, b .before .before .before .good)) read in
     rw (c .before .bytes-at .ensures, l .size) (c .before .before .if2 .left)
 
 same-length : tie.Need-same-length
@@ -86,10 +86,10 @@ returns-4 c =
     let b = k .before .before .before .before .before in
     let a = b .before .before .before .args in
     let read = rw (k .before .before .before .e .given .1) at (b .tags-end .ensures) in
-    let l = list-copies (now (a .src)) (now (a .out)) (slice-bytes (now (a .src)) (b .before .before .shared-slice-known .given)) (a .tags) (omega (arith, b .before .before .before .good)) read in
+    let l = list-copies (now (a .src)) (slice-bytes (now (a .src)) (b .before .before .shared-slice-known .given)) (a .tags) (omega (arith, b .before .before .before .good)) read in
     let put = c .before .before .put-list .ensures in
     rw (put .0, put .1, c .before .before .before .before .bytes-at .ensures, l .size)
-    (wrote l (omega (arith, k .before .if1 .left)) (k .if2 .left))
+    (wrote _ l (omega (arith, k .before .if1 .left)) (k .if2 .left))
 
 pub write-tag-list-spec : {M : Type 1} → statement M
 write-tag-list-spec =

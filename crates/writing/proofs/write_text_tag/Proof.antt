@@ -3,7 +3,7 @@ use native.Mathlib.Omega.{arith}
 use denote.Ref.{now}
 use lib.ListN.{length}
 use Rattle.wire.proofs.Replies.{slice-bytes}
-use Rattle.writing.proofs.Answers.{roomless, written}
+use Rattle.writing.proofs.Answers.{faulty, roomless, written}
 use Rattle.writing.proofs.Pieces.{tag-fits}
 use Rattle.writing.proofs.Item.{text-ready}
 use borrow.Author.Needs.{needs}
@@ -22,8 +22,8 @@ returns c =
     let a = b4 .before .before .args in
     let name = slice-bytes (now (a .name)) (b4 .before .shared-slice-known .given) in
     let text = slice-bytes (now (a .text)) (b4 .shared-slice-known2 .given) in
-    let ready = text-ready (now (a .out)) (now (a .name)) name (now (a .text)) text (c .before .before .tag-number .ensures) in
-    rw (c .refused .ensures) (ready .faulty (c .before .if1 .taken))
+    let ready = text-ready (now (a .name)) name (now (a .text)) text (c .before .before .tag-number .ensures) in
+    rw (c .refused .ensures) (faulty _ ready (c .before .if1 .taken))
 
 add-if2 : tie.Need-add-if2
 add-if2 c = search needs
@@ -43,8 +43,8 @@ returns-2 c =
     let a = b4 .before .before .before .args in
     let name = slice-bytes (now (a .name)) (b4 .before .before .shared-slice-known .given) in
     let text = slice-bytes (now (a .text)) (b4 .before .shared-slice-known2 .given) in
-    let ready = text-ready (now (a .out)) (now (a .name)) name (now (a .text)) text (c .before .before .before .tag-number .ensures) in
-    rw (c .refused2 .ensures) (roomless ready (c .before .before .if1 .left) (c .before .if2 .taken))
+    let ready = text-ready (now (a .name)) name (now (a .text)) text (c .before .before .before .tag-number .ensures) in
+    rw (c .refused2 .ensures) (roomless _ ready (c .before .before .if1 .left) (c .before .if2 .taken))
 
 put-text-tag-requires : tie.Need-put-text-tag-requires
 put-text-tag-requires c κs =
@@ -63,9 +63,9 @@ returns-3 c =
     let a = b8 .before .before .args in
     let name = slice-bytes (now (a .name)) (b8 .before .shared-slice-known .given) in
     let text = slice-bytes (now (a .text)) (b8 .shared-slice-known2 .given) in
-    let ready = text-ready (now (a .out)) (now (a .name)) name (now (a .text)) text (b4 .before .before .tag-number .ensures) in
+    let ready = text-ready (now (a .name)) name (now (a .text)) text (b4 .before .before .tag-number .ensures) in
     let put = c .before .before .put-text-tag .ensures in
-    rw (put .0, put .1) (written ready (b4 .before .if1 .left) (b4 .if2 .left))
+    rw (put .0, put .1) (written _ ready (b4 .before .if1 .left) (b4 .if2 .left))
 
 pub write-text-tag-spec : {M : Type 1} → statement M
 write-text-tag-spec =
