@@ -1,25 +1,16 @@
 /*
  * ed2k: packets, queries and met files of the eDonkey protocol, read, written, marked and saved by proved code.
  *
- * Every call answers with a number: 0 accepted, or why it refuses:
+ * Every call answers with a number: ED2K_ACCEPTED, or why it refuses (ED2K_REFUSED_.. below). A refused call changes nothing that it was
+ * lent, and an accepted one nothing behind what it puts there. Any bytes, offsets and numbers may be given: they are judged by the call.
+ * No call keeps a pointer, allocates, or has state.
  *
- *    1 short     the bytes end before the item being read ends
- *    2 opening   the first byte is not one of this link's or file's
- *    3 length    the header's length is 0 or is not the number of bytes after the header
- *    4 kind      the opcode is not listed for the link, or the kind is none of those below
- *    5 choice    a byte is outside its list, an unused status bit is set, or a tag name has length 0
- *    6 limit     a ceiling is exceeded
- *    7 rest      bytes are left after the last item
- *    8 range     a start, end or gap breaks its rule
- *    9 size      a part.met has not exactly one size tag
- *   10 room      the lent output is too small
- *   11 conflict  the stored file differs from the one opened
+ * A slice is a pointer and how many elements it has. Where it has none, the pointer may be NULL or any other: it is not followed. Else it
+ * points to so many elements and is aligned for them. A pointer to a single number, as `written`, `missing` and `truth`, is never NULL.
+ * What a call is lent to write, as `fields`, `output` and `written`, overlaps nothing else that it is lent.
  *
- * A refused call changes nothing that it was lent, and an accepted one nothing behind what it puts there. Any bytes, offsets and
- * numbers may be given: they are judged by the call. No call keeps a pointer, allocates, or has state.
- *
- * A slice is a pointer and how many elements it has. The pointer is never NULL, also for no elements, and is aligned for its
- * elements. What a call is lent to write, as `fields`, `output` and `written`, overlaps nothing else that it is lent.
+ * Names here keep their numbers. Later versions may add names, and numbers that are refused today may then be accepted: a program should
+ * treat a refusal, shape or type that it does not know as one that it has no use for.
  */
 #ifndef ED2K_H
 #define ED2K_H
@@ -30,6 +21,55 @@
 #ifdef __cplusplus
 extern "C" {
 #endif
+
+/* The numbers that calls answer with. */
+enum {
+    ED2K_ACCEPTED = 0,
+    ED2K_REFUSED_SHORT = 1,    /* the bytes end before the item being read ends */
+    ED2K_REFUSED_OPENING = 2,  /* the first byte is not one of this link's or file's */
+    ED2K_REFUSED_LENGTH = 3,   /* the header's length is 0 or is not the number of bytes after the header */
+    ED2K_REFUSED_KIND = 4,     /* the opcode is not listed for the link, or the kind is none of those below */
+    ED2K_REFUSED_CHOICE = 5,   /* a byte is outside its list, an unused status bit is set, or a tag name has length 0 */
+    ED2K_REFUSED_LIMIT = 6,    /* a ceiling is exceeded */
+    ED2K_REFUSED_REST = 7,     /* bytes are left after the last item */
+    ED2K_REFUSED_RANGE = 8,    /* a start, end or gap breaks its rule */
+    ED2K_REFUSED_SIZE = 9,     /* a part.met has not exactly one size tag */
+    ED2K_REFUSED_ROOM = 10,    /* the lent output is too small */
+    ED2K_REFUSED_CONFLICT = 11 /* the stored file differs from the one opened */
+};
+
+/* What a call's number means, in words. */
+static inline const char *ed2k_meaning(uint8_t number)
+{
+    switch (number) {
+    case ED2K_ACCEPTED:
+        return "accepted";
+    case ED2K_REFUSED_SHORT:
+        return "the bytes end before the item being read ends";
+    case ED2K_REFUSED_OPENING:
+        return "the first byte is not one of this link's or file's";
+    case ED2K_REFUSED_LENGTH:
+        return "the header's length is 0 or is not the number of bytes after the header";
+    case ED2K_REFUSED_KIND:
+        return "the opcode is not listed for the link";
+    case ED2K_REFUSED_CHOICE:
+        return "a byte is outside its list, an unused status bit is set, or a tag name has length 0";
+    case ED2K_REFUSED_LIMIT:
+        return "a ceiling is exceeded";
+    case ED2K_REFUSED_REST:
+        return "bytes are left after the last item";
+    case ED2K_REFUSED_RANGE:
+        return "a start, end or gap breaks its rule";
+    case ED2K_REFUSED_SIZE:
+        return "a part.met has not exactly one size tag";
+    case ED2K_REFUSED_ROOM:
+        return "the lent output is too small";
+    case ED2K_REFUSED_CONFLICT:
+        return "the stored file differs from the one opened";
+    default:
+        return "a number that this header does not have";
+    }
+}
 
 /* The kinds of bytes. The first six have letters in the reading program: s c u k v p. */
 enum {
@@ -47,44 +87,143 @@ enum {
 #define ED2K_FIELDS 16
 
 /*
- * Reads a whole packet, file, query or tag list. Places are offsets in `bytes`. In `fields`:
- *   packets      opening byte, opcode, shape of the body (ED2K_BODY_..), then the body's values as listed there
- *   known.met    opening byte, entries: at, end, count
- *   server.met   opening byte, entries: at, end, count; tail: at, length
- *   part.met     opening byte (E0 or E1), size, date, hash, tags: at, end, count; which hash lists it has (ED2K_HASHES_..);
- *                part hashes: at, end, count; block hashes: at, end, count
- *   lone query   at, end, depth
- *   lone tags    at, end, count
+ * Reads a whole packet, file, query or tag list, and hands out the numbers of its kind, in the places of `fields` that are named below.
+ * Where bytes lie in `bytes` is told by their offset: that of a hash is the offset of its 16 bytes.
  */
 uint8_t ed2k_read(uint8_t kind, const uint8_t *bytes, size_t length, uint64_t *fields, size_t field_count);
 
-/* The shapes of bodies, and what fields[3] and those behind it hold. A hash is the offset of its 16 bytes. */
+/* Some values have several numbers, from their place on: fields[ED2K_FIELD_RECORDS + ED2K_LIST_COUNT] is how many records there are. */
+
+/* A list: the offset of its first entry, the offset behind its last one, and how many there are. */
+#define ED2K_LIST_AT 0
+#define ED2K_LIST_END 1
+#define ED2K_LIST_COUNT 2
+
+#define ED2K_QUERY_AT 0
+#define ED2K_QUERY_END 1
+#define ED2K_QUERY_DEPTH 2
+
+/* A text, a name, data or a tail. */
+#define ED2K_TEXT_AT 0
+#define ED2K_TEXT_LENGTH 1
+
+#define ED2K_ADDRESS_IP 0
+#define ED2K_ADDRESS_PORT 1
+
+/* The places in `fields` of packets and files. */
+enum {
+    ED2K_FIELD_OPENING = 0, /* the opening byte of packets and files */
+
+    ED2K_FIELD_OPCODE = 1,
+    ED2K_FIELD_SHAPE = 2, /* of the body: ED2K_BODY_.. */
+    ED2K_FIELD_BODY = 3,  /* the first of the body's values */
+
+    ED2K_FIELD_KNOWN_ENTRIES = 1, /* list */
+
+    ED2K_FIELD_SERVER_ENTRIES = 1, /* list */
+    ED2K_FIELD_SERVER_TAIL = 4,    /* text */
+
+    ED2K_FIELD_PART_SIZE = 1, /* part.met; it opens with E0 or E1 */
+    ED2K_FIELD_PART_DATE = 2,
+    ED2K_FIELD_PART_HASH = 3,
+    ED2K_FIELD_PART_TAGS = 4,         /* list */
+    ED2K_FIELD_PART_HASH_LISTS = 7,   /* which it has: ED2K_HASHES_.. */
+    ED2K_FIELD_PART_HASHES = 8,       /* list */
+    ED2K_FIELD_PART_BLOCK_HASHES = 11, /* list */
+
+    ED2K_FIELD_LONE_QUERY = 0, /* query */
+    ED2K_FIELD_LONE_TAGS = 0   /* list */
+};
+
+/* The shapes of bodies, and the places of their values. */
 enum {
     ED2K_BODY_NOTHING = 0,
-    ED2K_BODY_QUERY = 1,              /* at, end, depth */
-    ED2K_BODY_HASH = 2,               /* hash */
-    ED2K_BODY_DWORD = 3,              /* number */
-    ED2K_BODY_TWO_DWORDS = 4,         /* number, number */
-    ED2K_BODY_TEXT = 5,               /* text: at, length */
-    ED2K_BODY_TWO_TEXTS = 6,          /* text: at, length; text: at, length */
-    ED2K_BODY_ADDRESS = 7,            /* ip, port */
-    ED2K_BODY_ADDRESSES = 8,          /* addresses: at, end, count */
-    ED2K_BODY_HASH_ADDRESSES = 9,     /* hash; addresses: at, end, count */
-    ED2K_BODY_ADDRESS_DWORD = 10,     /* ip, port, number */
-    ED2K_BODY_HASH_ADDRESS_TAGS = 11, /* hash, ip, port; tags: at, end, count */
-    ED2K_BODY_RECORD = 12,            /* hash, client, port; tags: at, end, count */
-    ED2K_BODY_RECORDS = 13,           /* records: at, end, count */
-    ED2K_BODY_RECORDS_FLAG = 14,      /* records: at, end, count; byte */
-    ED2K_BODY_RECORD_ADDRESS = 15,    /* hash, client, port; tags: at, end, count; ip, port */
-    ED2K_BODY_HELLO = 16,             /* as RECORD_ADDRESS */
-    ED2K_BODY_HASH_TEXT = 17,         /* hash; text: at, length */
-    ED2K_BODY_HASHSET = 18,           /* hash; hashes: at, end, count */
-    ED2K_BODY_SENDING_PART = 19,      /* hash, start, end; data: at, length */
-    ED2K_BODY_REQUEST_PARTS = 20,     /* hash, three starts, three ends */
-    ED2K_BODY_FILE_STATUS = 21,       /* hash, parts, offset of the status bits */
-    ED2K_BODY_STATUS_REQUEST = 22,    /* 0 plain or 1 extended, number */
-    ED2K_BODY_STATUS = 23,            /* three numbers */
-    ED2K_BODY_EXTENDED_STATUS = 24    /* byte, byte, three numbers */
+
+    ED2K_BODY_QUERY = 1,
+    ED2K_FIELD_QUERY = 3, /* query */
+
+    ED2K_BODY_HASH = 2,
+    ED2K_FIELD_HASH = 3, /* in every body that has a hash */
+
+    ED2K_BODY_DWORD = 3,
+    ED2K_FIELD_DWORD = 3,
+
+    ED2K_BODY_TWO_DWORDS = 4,
+    ED2K_FIELD_TWO_DWORDS = 3, /* two numbers */
+
+    ED2K_BODY_TEXT = 5,
+    ED2K_FIELD_TEXT = 3, /* text */
+
+    ED2K_BODY_TWO_TEXTS = 6,
+    ED2K_FIELD_FIRST_TEXT = 3,  /* text */
+    ED2K_FIELD_SECOND_TEXT = 5, /* text */
+
+    ED2K_BODY_ADDRESS = 7,
+    ED2K_FIELD_ADDRESS = 3, /* address */
+
+    ED2K_BODY_ADDRESSES = 8,
+    ED2K_FIELD_ADDRESSES = 3, /* list */
+
+    ED2K_BODY_HASH_ADDRESSES = 9,
+    ED2K_FIELD_HASH_ADDRESSES = 4, /* list */
+
+    ED2K_BODY_ADDRESS_DWORD = 10,
+    ED2K_FIELD_ADDRESS_DWORD_ADDRESS = 3, /* address */
+    ED2K_FIELD_ADDRESS_DWORD_DWORD = 5,
+
+    ED2K_BODY_HASH_ADDRESS_TAGS = 11,
+    ED2K_FIELD_HASH_ADDRESS_TAGS_ADDRESS = 4, /* address */
+    ED2K_FIELD_HASH_ADDRESS_TAGS_TAGS = 6,    /* list */
+
+    ED2K_BODY_RECORD = 12,
+    ED2K_FIELD_RECORD_CLIENT = 4, /* these three also in RECORD_ADDRESS and HELLO */
+    ED2K_FIELD_RECORD_PORT = 5,
+    ED2K_FIELD_RECORD_TAGS = 6, /* list */
+
+    ED2K_BODY_RECORDS = 13,
+    ED2K_FIELD_RECORDS = 3, /* list, also in RECORDS_FLAG */
+
+    ED2K_BODY_RECORDS_FLAG = 14,
+    ED2K_FIELD_RECORDS_FLAG = 6, /* the byte 00 or 01 */
+
+    ED2K_BODY_RECORD_ADDRESS = 15,
+    ED2K_FIELD_RECORD_ADDRESS = 9, /* address, also in HELLO */
+
+    ED2K_BODY_HELLO = 16,
+
+    ED2K_BODY_HASH_TEXT = 17,
+    ED2K_FIELD_HASH_TEXT = 4, /* text */
+
+    ED2K_BODY_HASHSET = 18,
+    ED2K_FIELD_HASHSET = 4, /* list */
+
+    ED2K_BODY_SENDING_PART = 19,
+    ED2K_FIELD_SENDING_PART_START = 4,
+    ED2K_FIELD_SENDING_PART_END = 5,
+    ED2K_FIELD_SENDING_PART_DATA = 6, /* text */
+
+    ED2K_BODY_REQUEST_PARTS = 20,
+    ED2K_FIELD_REQUEST_PARTS_STARTS = 4, /* three numbers */
+    ED2K_FIELD_REQUEST_PARTS_ENDS = 7,   /* three numbers */
+
+    ED2K_BODY_FILE_STATUS = 21,
+    ED2K_FIELD_FILE_STATUS_PARTS = 4,
+    ED2K_FIELD_FILE_STATUS_BITS = 5, /* the offset of the status bits: part p is bit p mod 8 of byte p / 8 */
+
+    ED2K_BODY_STATUS_REQUEST = 22,
+    ED2K_FIELD_STATUS_REQUEST_EXTENDED = 3, /* 0 plain or 1 extended */
+    ED2K_FIELD_STATUS_REQUEST_DWORD = 4,
+
+    ED2K_BODY_STATUS = 23,
+    ED2K_FIELD_STATUS_DWORD = 3, /* that of the request */
+    ED2K_FIELD_STATUS_USERS = 4,
+    ED2K_FIELD_STATUS_FILES = 5,
+
+    ED2K_BODY_EXTENDED_STATUS = 24,
+    ED2K_FIELD_EXTENDED_STATUS_BYTES = 3, /* two bytes, those of the request */
+    ED2K_FIELD_EXTENDED_STATUS_USERS = 5,
+    ED2K_FIELD_EXTENDED_STATUS_FILES = 6,
+    ED2K_FIELD_EXTENDED_STATUS_USERS_MAX = 7
 };
 
 /* Which hash lists a part.met has. One that opens with E0 has ED2K_HASHES_COUNTED, a counted list of part hashes. A lone list of one
@@ -97,21 +236,71 @@ enum {
     ED2K_HASHES_COUNTED = 4
 };
 
-/* One item at an offset; `fields` takes the offset behind it, then:
- *   tag            type (1 HASH, 2 String, 3 DWORD, 4 FLOAT), name: at, length; a HASH's or String's at and length, or a
- *                  DWORD's number or FLOAT's bits and 0
- *   address        ip, port
- *   record         hash, client, port; tags: at, end, count
- *   file entry     date, hash; part hashes: at, end, count; tags: at, end, count
- *   server entry   ip, port; tags: at, end, count
- *   query node     0 operator, 1 text, 2 text in a field, 3 limit; operator (0 and, 1 or, 2 and not); text: at, length; number;
- *                  bound (1 min, 2 max); name: at, length. An operator's two queries follow behind it. */
+/* One item at an offset; `fields` takes the offset behind it, then the item's values. */
 uint8_t ed2k_read_tag(const uint8_t *bytes, size_t length, size_t at, uint64_t *fields, size_t field_count);
 uint8_t ed2k_read_address(const uint8_t *bytes, size_t length, size_t at, uint64_t *fields, size_t field_count);
 uint8_t ed2k_read_record(const uint8_t *bytes, size_t length, size_t at, uint64_t *fields, size_t field_count);
 uint8_t ed2k_read_file_entry(const uint8_t *bytes, size_t length, size_t at, uint64_t *fields, size_t field_count);
 uint8_t ed2k_read_server_entry(const uint8_t *bytes, size_t length, size_t at, uint64_t *fields, size_t field_count);
 uint8_t ed2k_read_query_node(const uint8_t *bytes, size_t length, size_t at, uint64_t *fields, size_t field_count);
+
+/* The places in `fields` of items. */
+enum {
+    ED2K_ITEM_NEXT = 0, /* the offset behind any item */
+
+    ED2K_ITEM_TAG_TYPE = 1,  /* ED2K_TAG_.. */
+    ED2K_ITEM_TAG_NAME = 2,  /* text */
+    ED2K_ITEM_TAG_VALUE = 4, /* a HASH or String as a text; a DWORD or the bits of a FLOAT, then 0 */
+
+    ED2K_ITEM_ADDRESS = 1, /* address */
+
+    ED2K_ITEM_RECORD_HASH = 1,
+    ED2K_ITEM_RECORD_CLIENT = 2,
+    ED2K_ITEM_RECORD_PORT = 3,
+    ED2K_ITEM_RECORD_TAGS = 4, /* list */
+
+    ED2K_ITEM_FILE_DATE = 1,
+    ED2K_ITEM_FILE_HASH = 2,
+    ED2K_ITEM_FILE_PART_HASHES = 3, /* list */
+    ED2K_ITEM_FILE_TAGS = 6,        /* list */
+
+    ED2K_ITEM_SERVER_ADDRESS = 1, /* address */
+    ED2K_ITEM_SERVER_TAGS = 3,    /* list */
+
+    ED2K_ITEM_NODE_CASE = 1,     /* ED2K_NODE_..; what the case does not have is 0 */
+    ED2K_ITEM_NODE_OPERATOR = 2, /* ED2K_OPERATOR_.. */
+    ED2K_ITEM_NODE_TEXT = 3,     /* text */
+    ED2K_ITEM_NODE_NUMBER = 5,
+    ED2K_ITEM_NODE_BOUND = 6, /* ED2K_BOUND_.. */
+    ED2K_ITEM_NODE_NAME = 7   /* text */
+};
+
+/* The types of tags. */
+enum {
+    ED2K_TAG_HASH = 1,
+    ED2K_TAG_TEXT = 2,
+    ED2K_TAG_DWORD = 3,
+    ED2K_TAG_FLOAT = 4
+};
+
+/* The cases of query nodes. */
+enum {
+    ED2K_NODE_JOIN = 0,    /* an operator, whose two queries follow behind it */
+    ED2K_NODE_KEYWORD = 1, /* a text in the file's name */
+    ED2K_NODE_FIELD = 2,   /* a text that a tag equals */
+    ED2K_NODE_LIMIT = 3    /* a number, as a bound of a tag's */
+};
+
+enum {
+    ED2K_OPERATOR_AND = 0,
+    ED2K_OPERATOR_OR = 1,
+    ED2K_OPERATOR_AND_NOT = 2
+};
+
+enum {
+    ED2K_BOUND_MIN = 1,
+    ED2K_BOUND_MAX = 2
+};
 
 /* How many parts of 9,728,000 bytes and blocks of 486,400 bytes a file of this size has begun. */
 uint32_t ed2k_part_count(uint32_t size);
@@ -120,6 +309,13 @@ uint32_t ed2k_block_count(uint32_t size);
 /* A gap record is 130 numbers: size, how many gaps, then 64 pairs of start and end. Unused pairs are handed out as 0, and not judged
  * where a record is read. Fewer numbers are no lawful record (8); of a longer array only the first 130 are read or written. */
 #define ED2K_GAP_NUMBERS 130
+
+/* The places in a gap record. */
+enum {
+    ED2K_GAPS_SIZE = 0,
+    ED2K_GAPS_COUNT = 1,
+    ED2K_GAPS_FIRST = 2 /* start and end of the first gap; those of the next are behind them */
+};
 
 /* The gaps of a part.met: its own refusals, then 10 for an array of fewer numbers. */
 uint8_t ed2k_read_gaps(const uint8_t *file, size_t length, uint64_t *gaps, size_t gap_numbers);
@@ -152,10 +348,11 @@ uint8_t ed2k_truth(const uint8_t *query, size_t query_length, const uint8_t *tag
 uint8_t ed2k_write_keyword(const uint8_t *text, size_t text_length, uint8_t *output, size_t room, uint64_t *written);
 uint8_t ed2k_write_field(const uint8_t *text, size_t text_length, const uint8_t *name, size_t name_length, uint8_t *output,
                          size_t room, uint64_t *written);
-/* bound: 1 min, 2 max; another is refused first (5). */
+/* bound: ED2K_BOUND_..; another is refused first (5). */
 uint8_t ed2k_write_limit(uint32_t number, uint8_t bound, const uint8_t *name, size_t name_length, uint8_t *output, size_t room,
                          uint64_t *written);
-/* operation: 0 and, 1 or, 2 and not; another is refused first (5); then the refusals of the left query, of the right one, and 6 above depth 24. */
+/* operation: ED2K_OPERATOR_..; another is refused first (5); then the refusals of the left query, of the right one, and 6 above
+ * depth 24. */
 uint8_t ed2k_write_join(uint8_t operation, const uint8_t *left, size_t left_length, const uint8_t *right, size_t right_length,
                         uint8_t *output, size_t room, uint64_t *written);
 

@@ -21,7 +21,11 @@ pub enum Link {
 }
 
 /// What lent bytes are. The caller names it; bytes alone do not tell.
+///
+/// More kinds may come with later requests, so a `match` outside of this crate needs an arm `_`. A program meets a kind that
+/// it does not know only if it takes kinds from [`Kind::ALL`] or from text.
 #[derive(Clone, Copy, Debug, PartialEq, Eq, Hash)]
+#[non_exhaustive]
 #[repr(u8)]
 pub enum Kind {
     /// A packet of the server link.
@@ -44,7 +48,7 @@ pub enum Kind {
 
 impl Kind {
     /// All kinds.
-    pub const ALL: [Kind; 8] = [
+    pub const ALL: &'static [Kind] = &[
         Kind::ServerLink,
         Kind::ClientLink,
         Kind::Udp,
@@ -136,6 +140,6 @@ impl FromStr for Kind {
     /// The kind with this letter or word.
     fn from_str(text: &str) -> Result<Kind, UnknownKind> {
         let named = |kind: &Kind| text == kind.word() || text.chars().eq([kind.letter()]);
-        Kind::ALL.into_iter().find(named).ok_or(UnknownKind)
+        Kind::ALL.iter().copied().find(named).ok_or(UnknownKind)
     }
 }

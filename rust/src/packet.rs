@@ -39,7 +39,11 @@ impl<'a> Packet<'a> {
 }
 
 /// What a packet carries. Which case it is follows from link and opcode, and for two of the UDP opcodes from the bytes.
+///
+/// More cases may come with later requests, for opcodes that are refused today, so a `match` outside of this crate needs an
+/// arm `_`. A packet that lands there was accepted: a program that has no use for it drops it and reads on.
 #[derive(Clone, Debug)]
+#[non_exhaustive]
 pub enum Body<'a> {
     /// Nothing.
     Nothing,

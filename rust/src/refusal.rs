@@ -5,6 +5,10 @@ use std::fmt;
 
 /// Why bytes, a range, a record or a save are refused. Each has its number in the papers and in the reading program.
 ///
+/// More may come with later requests, each with a number above those here, so a `match` outside of this crate needs an arm
+/// `_`. What it gets is a refusal like the others: nothing was done, [`Refusal::number`] says which it is, and it prints
+/// what it means.
+///
 /// ```
 /// use ed2k::{Link, Refusal, read_packet};
 ///
@@ -17,6 +21,7 @@ use std::fmt;
 /// );
 /// ```
 #[derive(Clone, Copy, Debug, PartialEq, Eq, Hash, PartialOrd, Ord)]
+#[non_exhaustive]
 #[repr(u8)]
 pub enum Refusal {
     /// 1: the bytes end before the item being read ends.
@@ -44,8 +49,8 @@ pub enum Refusal {
 }
 
 impl Refusal {
-    /// All refusals, by their numbers.
-    pub const ALL: [Refusal; 11] = [
+    /// All refusals, by their numbers, which go up from 1 without a gap.
+    pub const ALL: &'static [Refusal] = &[
         Refusal::Short,
         Refusal::Opening,
         Refusal::Length,
@@ -59,14 +64,14 @@ impl Refusal {
         Refusal::Conflict,
     ];
 
-    /// The number that the papers give it, 1 to 11.
+    /// The number that the papers give it.
     pub fn number(self) -> u8 {
         self as u8
     }
 
-    /// The refusal with this number. `None` for 0, which is no refusal, and for every number above 11.
+    /// The refusal with this number. `None` for 0, which is no refusal, and for every number that none has.
     pub fn from_number(number: u8) -> Option<Refusal> {
-        Refusal::ALL.into_iter().find(|refusal| refusal.number() == number)
+        Refusal::ALL.iter().copied().find(|refusal| refusal.number() == number)
     }
 
     /// What it means, in words.

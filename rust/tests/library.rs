@@ -248,7 +248,7 @@ fn read_is_the_reading_of_each_kind() {
     assert!(matches!(ed2k::read(Kind::PartMet, &packets::part_met(0, 0, 9, &[])), Ok(Message::PartMet(_))));
     assert!(matches!(ed2k::read(Kind::Query, &packets::query()), Ok(Message::Query(_))));
     assert!(matches!(ed2k::read(Kind::Tags, &[0, 0, 0, 0]), Ok(Message::Tags(_))));
-    for kind in Kind::ALL {
+    for kind in Kind::ALL.iter().copied() {
         assert_eq!(ed2k::read(kind, b"").unwrap_err(), Refusal::Short);
         assert_eq!(ed2k::read(kind, &vec![0; kind.ceiling() + 1]).unwrap_err(), Refusal::Limit);
         assert_eq!(kind.word().parse(), Ok(kind));
@@ -489,10 +489,44 @@ fn parts_and_blocks_are_counted_as_in_the_papers() {
 
 #[test]
 fn refusals_have_their_numbers() {
-    for (place, refusal) in Refusal::ALL.into_iter().enumerate() {
+    for (place, refusal) in Refusal::ALL.iter().copied().enumerate() {
         assert_eq!(usize::from(refusal.number()), place + 1);
         assert_eq!(Refusal::from_number(refusal.number()), Some(refusal));
     }
     assert_eq!(Refusal::from_number(0), None);
     assert_eq!(Refusal::from_number(12), None);
+}
+
+/// Outside of the crate an arm `_` is asked for, and can be reached, though every case of today is named before it.
+#[test]
+#[deny(unreachable_patterns)]
+fn later_cases_need_an_arm_of_their_own() {
+    let met = |refusal| match refusal {
+        Refusal::Short | Refusal::Opening | Refusal::Length | Refusal::Kind | Refusal::Choice => "today",
+        Refusal::Limit | Refusal::Rest | Refusal::Range | Refusal::Size | Refusal::Room => "today",
+        Refusal::Conflict => "today",
+        _ => "later",
+    };
+    assert!(Refusal::ALL.iter().all(|refusal| met(*refusal) == "today"));
+    let met = |kind| match kind {
+        Kind::ServerLink | Kind::ClientLink | Kind::Udp | Kind::KnownMet | Kind::ServerMet => "today",
+        Kind::PartMet | Kind::Query | Kind::Tags => "today",
+        _ => "later",
+    };
+    assert!(Kind::ALL.iter().all(|kind| met(*kind) == "today"));
+    let met = |body: Body<'_>| match body {
+        Body::Nothing | Body::Query(_) | Body::Hash(_) | Body::Dword(_) | Body::TwoDwords(..) => "today",
+        Body::Text(_) | Body::TwoTexts(..) | Body::Address(_) | Body::Addresses(_) => "today",
+        Body::HashAddresses { .. } | Body::AddressDword { .. } | Body::HashAddressTags { .. } => "today",
+        Body::Record(_) | Body::Records(_) | Body::RecordsFlag { .. } | Body::RecordAddress { .. } => "today",
+        Body::Hello { .. } | Body::HashText { .. } | Body::Hashset { .. } | Body::SendingPart { .. } => {
+            "today"
+        }
+        Body::RequestParts { .. } | Body::FileStatus { .. } | Body::StatusRequest { .. } => "today",
+        Body::Status(_) | Body::ExtendedStatus { .. } => "today",
+        _ => "later",
+    };
+    for shape in 0..packets::packet_of_each_shape().len() {
+        with_shape(shape, |body| assert_eq!(met(body), "today"));
+    }
 }

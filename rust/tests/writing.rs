@@ -627,7 +627,7 @@ fn recomposed(message: Message<'_>) -> Result<Vec<u8>, Refusal> {
 #[test]
 fn the_crate_writes_what_it_reads() {
     let mut comparison = Comparison::new(57_000_000);
-    for (kind, number) in Kind::ALL.into_iter().zip(0..) {
+    for (kind, number) in Kind::ALL.iter().copied().zip(0..) {
         let mut accepted = 0;
         let mut check = |bytes: &[u8]| {
             if let Ok(message) = ed2k::read(kind, bytes) {

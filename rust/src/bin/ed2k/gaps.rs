@@ -8,15 +8,19 @@ use ed2k::{Gap, GapRecord, Kind, PART_SIZE, PartMet};
 
 use crate::arguments::Arguments;
 use crate::failure::Failure;
+use crate::json::Json;
 use crate::{Outcome, files, text};
 
 pub const HELP: &str = "\
-ed2k gaps FILE
+ed2k gaps [--json] FILE
 
 Shows what is missing of the model that the part.met FILE tells of: the model
 as a bar, how much is missing, and the missing ranges, part by part. FILE may
 be - for standard input. A range goes from its first byte up to the number
 behind 'to', which is not in it any more, as 'ed2k mark' takes it.
+
+With --json one object is printed for scripts, on one line; man ed2k lists its
+keys. 'number' is 0 for a file that is accepted, or the number of its refusal.
 
 Exit status: 0 shown, 1 the file is refused, 2 wrong usage or a file that
 cannot be read.
@@ -26,26 +30,48 @@ cannot be read.
 const CELLS: u64 = 74;
 
 pub fn run(words: Vec<OsString>, output: &mut dyn Write) -> Outcome {
-    let arguments = Arguments::sort(words, &[], &[], "ed2k gaps --help")?;
+    let arguments = Arguments::sort(words, &[], &["--json"], "ed2k gaps --help")?;
     let [name] = arguments.operands("one FILE")?;
     let bytes = files::read_input(Kind::PartMet, &name)?;
-    let refused = || Failure::refused(text::file_name(&name));
-    let met = ed2k::read_part_met(&bytes).map_err(refused())?;
-    let record = GapRecord::read(&bytes).map_err(refused())?;
-    summary(&met, &record, output)?;
+    let read = ed2k::read_part_met(&bytes).and_then(|met| Ok((met, GapRecord::read(&bytes)?)));
+    match read {
+        Ok((met, record)) if arguments.flag("--json") => Ok(Json::print(members(&met, &record), output)?),
+        Ok((met, record)) => show(&met, &record, output),
+        Err(refusal) if arguments.flag("--json") => Json::refused(text::input_name(&name), refusal, output),
+        Err(refusal) => Err(Failure::refused(text::input_name(&name))(refusal)),
+    }
+}
+
+fn show(met: &PartMet<'_>, record: &GapRecord, output: &mut dyn Write) -> Outcome {
+    summary(met, record, output)?;
     if record.size() > 0 {
-        bar(&record, Cells::of_output(), output)?;
+        bar(record, Cells::of_output(), output)?;
     }
     if record.missing() > 0 {
-        ranges(&met, &record, output)?;
+        ranges(met, record, output)?;
     }
     Ok(())
+}
+
+/// The keys are those of the manual page.
+fn members(met: &PartMet<'_>, record: &GapRecord) -> [(&'static str, Json); 7] {
+    let gap =
+        |gap: Gap| Json::Object(vec![("start", Json::number(gap.start)), ("end", Json::number(gap.end))]);
+    [
+        ("model", met.tags.file_name().map_or(Json::Null, Json::bytes)),
+        ("hash", Json::word(met.hash)),
+        ("size", Json::number(record.size())),
+        ("parts", Json::number(ed2k::part_count(met.size))),
+        ("there", Json::number(record.size() - record.missing())),
+        ("missing", Json::number(record.missing())),
+        ("gaps", Json::list(record.gaps().map(gap))),
+    ]
 }
 
 fn summary(met: &PartMet<'_>, record: &GapRecord, output: &mut dyn Write) -> Outcome {
     let (size, missing) = (record.size(), record.missing());
     let parts = text::count(ed2k::part_count(met.size) as usize, "part", "parts");
-    writeln!(output, "model    {}", model_name(met))?;
+    writeln!(output, "{}", text::folded(&format!("model    {}", model_name(met)), 9))?;
     writeln!(output, "size     {}, {parts}", text::bytes(size))?;
     writeln!(output, "there    {}, {}", text::bytes(size - missing), text::per_cent(size - missing, size))?;
     missing_line(record, output)

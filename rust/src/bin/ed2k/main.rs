@@ -6,6 +6,7 @@ mod arguments;
 mod failure;
 mod files;
 mod gaps;
+mod json;
 mod mark;
 mod output;
 mod read;
@@ -16,7 +17,7 @@ mod store;
 mod text;
 
 use std::env;
-use std::ffi::OsString;
+use std::ffi::{OsStr, OsString};
 use std::io::{self, Write};
 use std::process::ExitCode;
 
@@ -32,7 +33,7 @@ struct Subcommand {
     run: fn(Vec<OsString>, &mut dyn Write) -> Outcome,
 }
 
-const SUBCOMMANDS: [Subcommand; 6] = [
+static SUBCOMMANDS: [Subcommand; 6] = [
     Subcommand { name: "read", help: read::HELP, run: read::run },
     Subcommand { name: "show", help: show::HELP, run: show::run },
     Subcommand { name: "gaps", help: gaps::HELP, run: gaps::run },
@@ -48,10 +49,10 @@ ed2k: packets and met files of the eDonkey protocol, by proved code
   ed2k show KIND FILE                        every item, in words
   ed2k gaps FILE                             what is missing of a model
   ed2k mark FILE START END                   mark bytes of a model as arrived
-  ed2k search QUERY-FILE KNOWN-MET           the models that a query finds
+  ed2k search --name TEXT KNOWN-MET          the models that are looked for
   ed2k save --opened OLD --new NEW STORED    save, but never over another's save
 
-  ed2k SUBCOMMAND --help                     more about one of them
+  ed2k help SUBCOMMAND                       more about one of them
   ed2k --version
 
 KIND is a letter or a word:
@@ -71,7 +72,7 @@ fn main() -> ExitCode {
         Ok(()) => ExitCode::SUCCESS,
         Err(failure) => {
             // Nobody is left to tell if standard error is gone too.
-            let _ = write!(io::stderr(), "{failure}");
+            let _ = write!(io::stderr(), "{}", text::message(&failure.to_string()));
             failure.status()
         }
     }
@@ -79,25 +80,44 @@ fn main() -> ExitCode {
 
 fn run(mut words: Vec<OsString>, output: &mut dyn Write) -> Outcome {
     if words.is_empty() {
-        return Err(Failure::Usage("a subcommand is needed".into(), "ed2k --help"));
+        return Err(wrong("a subcommand is needed".into()));
     }
     let first = words.remove(0);
     match first.to_str() {
-        Some("--help" | "-h" | "help") => help(output),
+        Some("--help" | "-h") => help(output),
+        Some("help") => help_about(&words, output),
         Some("--version" | "-V") => Ok(writeln!(output, "ed2k {}", env!("CARGO_PKG_VERSION"))?),
-        name => match SUBCOMMANDS.iter().find(|subcommand| Some(subcommand.name) == name) {
-            Some(subcommand) if asks_for_help(&words) => Ok(output.write_all(subcommand.help.as_bytes())?),
-            Some(subcommand) => (subcommand.run)(words, output),
-            None => {
-                let problem = format!("there is no subcommand {}", text::file_name(&first));
-                Err(Failure::Usage(problem, "ed2k --help"))
+        _ => {
+            let subcommand = subcommand(&first)?;
+            if asks_for_help(&words) {
+                return Ok(output.write_all(subcommand.help.as_bytes())?);
             }
-        },
+            (subcommand.run)(words, output)
+        }
     }
+}
+
+fn wrong(problem: String) -> Failure {
+    Failure::Usage(problem, "ed2k --help")
+}
+
+fn subcommand(name: &OsStr) -> Result<&'static Subcommand, Failure> {
+    let named = SUBCOMMANDS.iter().find(|subcommand| name == subcommand.name);
+    named.ok_or_else(|| wrong(format!("there is no subcommand {}", text::file_name(name))))
 }
 
 fn asks_for_help(words: &[OsString]) -> bool {
     words.iter().take_while(|word| *word != "--").any(|word| word == "--help" || word == "-h")
+}
+
+/// `ed2k help`, with the name of a subcommand or without.
+fn help_about(words: &[OsString], output: &mut dyn Write) -> Outcome {
+    match words {
+        [] => help(output),
+        [name] if name == "--help" || name == "-h" => help(output),
+        [name] => Ok(output.write_all(subcommand(name)?.help.as_bytes())?),
+        _ => Err(wrong(format!("help is about one subcommand; {} given", words.len()))),
+    }
 }
 
 fn help(output: &mut dyn Write) -> Outcome {

@@ -37,7 +37,7 @@ pub fn run(words: Vec<OsString>, output: &mut dyn Write) -> Outcome {
     let bytes = files::read_input(kind, &name)?;
     match ed2k::read(kind, &bytes) {
         Ok(message) => Ok(writeln!(output, "accepted {} {}", first_number(&message), bytes.len())?),
-        Err(refusal) => refused(output, text::file_name(&name), refusal),
+        Err(refusal) => refused(output, text::input_name(&name), refusal),
     }
 }
 

@@ -101,7 +101,20 @@ pub fn file_name(name: &OsStr) -> String {
     format!("'{}'", plain(name.as_encoded_bytes()))
 }
 
-/// Bytes as hexadecimal digits; of a long run the first ones.
+/// The same where `-` is standard input.
+pub fn input_name(name: &OsStr) -> String {
+    if name == "-" { "standard input".into() } else { file_name(name) }
+}
+
+/// Bytes as hexadecimal digits, two for each.
+pub fn digits(bytes: &[u8]) -> String {
+    bytes.iter().fold(String::new(), |mut digits, byte| {
+        let _ = write!(digits, "{byte:02X}");
+        digits
+    })
+}
+
+/// Bytes as hexadecimal digits for people; of a long run the first ones.
 pub fn hex(bytes: &[u8]) -> String {
     let (first, more) = beginning(bytes, 12);
     let digits: Vec<String> = first.iter().map(|byte| format!("{byte:02X}")).collect();
@@ -122,13 +135,17 @@ fn beginning(bytes: &[u8], most: usize) -> (&[u8], &'static str) {
     }
 }
 
-/// Words within 80 columns: the first line begins with `label`, the others below what follows it.
+/// How many columns a line has at most.
+const COLUMNS: usize = 80;
+
+/// Words within 80 columns: the first line begins with `label`, the others below what follows it. A word that is longer, as
+/// the name of a file may be, stays whole.
 pub fn wrapped(label: &str, words: &str) -> String {
     let mut lines = vec![label.to_string()];
     let mut fresh = true;
     for word in words.split(' ') {
         let line = lines.last_mut().expect("there is always a line");
-        if !fresh && line.len() + 1 + word.len() > 80 {
+        if !fresh && line.chars().count() + 1 + word.chars().count() > COLUMNS {
             lines.push(format!("{}{word}", " ".repeat(label.len())));
         } else {
             line.push_str(if fresh { "" } else { " " });
@@ -137,6 +154,40 @@ pub fn wrapped(label: &str, words: &str) -> String {
         fresh = false;
     }
     lines.join("\n")
+}
+
+/// The lines of a message on standard error, each wrapped.
+pub fn message(lines: &str) -> String {
+    let label = "ed2k: ";
+    let wrapped = |line: &str| match line.strip_prefix(label) {
+        Some(words) => wrapped(label, words),
+        None => wrapped("", line),
+    };
+    lines.lines().map(|line| wrapped(line) + "\n").collect()
+}
+
+/// A line within 80 columns: what does not fit stands in lines below, behind `hang` spaces. It is cut before a space where
+/// one is far enough to the right, and no sign is lost: the pieces behind the spaces make up the line.
+pub fn folded(line: &str, hang: usize) -> String {
+    let (first, mut rest) = line.split_at(cut(line, COLUMNS, hang));
+    let mut lines = vec![first.to_string()];
+    while !rest.is_empty() {
+        let (piece, left) = rest.split_at(cut(rest, COLUMNS - hang, 0));
+        lines.push(format!("{}{piece}", " ".repeat(hang)));
+        rest = left;
+    }
+    lines.join("\n")
+}
+
+/// How many bytes of a text stand in a line of this room: all, or those before the last space behind the column `least`, or
+/// as many as the room has.
+fn cut(text: &str, room: usize, least: usize) -> usize {
+    let Some((full, _)) = text.char_indices().nth(room) else {
+        return text.len();
+    };
+    let before_space = |at: &usize| text[*at..].starts_with(' ') && !text[..*at].ends_with(' ');
+    let places = text.char_indices().map(|(at, _)| at).take(room + 1).skip(least + 1);
+    places.filter(before_space).last().unwrap_or(full)
 }
 
 #[cfg(test)]
@@ -188,5 +239,24 @@ mod tests {
         let lines = wrapped("   5  ", &"word ".repeat(40));
         assert!(lines.lines().all(|line| line.len() <= 80));
         assert!(lines.lines().skip(1).all(|line| line.starts_with("      ")));
+        let name = "n".repeat(100);
+        assert_eq!(
+            message(&format!("ed2k: '{name}' is gone\nso\n")),
+            format!("ed2k: '{name}'\n      is gone\nso\n")
+        );
+    }
+
+    #[test]
+    fn folded_lines_lose_no_sign() {
+        let long =
+            ["a".repeat(500), "größe ".repeat(50), " ".repeat(300), "x  y ".repeat(60), "short".into()];
+        for (text, hang) in long.iter().flat_map(|text| [(text, 0), (text, 35), (text, 60)]) {
+            let line = format!("{:hang$}{text}", "");
+            let folded = folded(&line, hang);
+            assert!(folded.lines().all(|line| line.chars().count() <= 80), "{folded}");
+            let pieces: String = folded.lines().map(|line| &line[hang..]).collect();
+            assert_eq!(pieces, *text);
+        }
+        assert_eq!(folded(&"word ".repeat(17), 4).lines().next(), Some(["word"; 16].join(" ").as_str()));
     }
 }

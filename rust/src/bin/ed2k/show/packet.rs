@@ -125,6 +125,7 @@ fn body(sheet: &mut Sheet<'_>, packet: &Packet<'_>, subject: Subject) -> io::Res
             population(sheet, *users, *files)?;
             sheet.item(4, "Nusersmax", format!("{} at most", users_of(*most)))
         }
+        _ => sheet.head("a body that this command has no words for"),
     }
 }
 

@@ -12,8 +12,7 @@ use crate::text;
 pub fn show(sheet: &mut Sheet<'_>, query: &Query<'_>) -> io::Result<()> {
     sheet.head(&format!("Search query of depth {}", query.depth()))?;
     for step in query.nodes() {
-        let indent = "  ".repeat(step.level);
-        sheet.phrase(step.byte_count, &format!("{indent}{}", phrase(&step.node)))?;
+        sheet.phrase(step.byte_count, 2 * step.level, &phrase(&step.node))?;
     }
     Ok(())
 }

@@ -7,6 +7,9 @@ use ed2k::{Address, Hash};
 
 use crate::text;
 
+/// How many columns an offset and the space behind it have.
+const OFFSET_COLUMNS: usize = 9;
+
 /// How many columns an item's name has.
 const NAME_COLUMNS: usize = 24;
 
@@ -23,22 +26,27 @@ impl<'o> Sheet<'o> {
         Ok(Sheet { output, at: 0, level: 0 })
     }
 
-    /// An item of so many bytes.
+    /// An item of so many bytes. A value that is too long for its line goes on below itself.
     pub fn item(&mut self, byte_count: usize, name: &str, value: impl Display) -> io::Result<()> {
         let columns = NAME_COLUMNS.saturating_sub(2 * self.level);
-        self.phrase(byte_count, &format!("{name:<columns$}  {value}"))
+        self.line(byte_count, &format!("{name:<columns$}  {value}"), OFFSET_COLUMNS + NAME_COLUMNS + 2)
     }
 
-    /// An item that is told in one phrase.
-    pub fn phrase(&mut self, byte_count: usize, phrase: &str) -> io::Result<()> {
-        writeln!(self.output, "{:>7}  {:indent$}{phrase}", self.at, "", indent = 2 * self.level)?;
+    /// An item that is told in one phrase, so far to the right.
+    pub fn phrase(&mut self, byte_count: usize, indent: usize, phrase: &str) -> io::Result<()> {
+        let below = OFFSET_COLUMNS + 2 * self.level + indent + 2;
+        self.line(byte_count, &format!("{:indent$}{phrase}", ""), below)
+    }
+
+    fn line(&mut self, byte_count: usize, words: &str, below: usize) -> io::Result<()> {
+        let line = format!("{:>7}  {:indent$}{words}", self.at, "", indent = 2 * self.level);
         self.at += byte_count;
-        Ok(())
+        writeln!(self.output, "{}", text::folded(&line, below))
     }
 
     /// The head of items that follow: it has no bytes of its own.
     pub fn head(&mut self, phrase: &str) -> io::Result<()> {
-        self.phrase(0, phrase)
+        self.phrase(0, 0, phrase)
     }
 
     /// Items that belong to the one before.
