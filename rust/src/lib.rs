@@ -7,7 +7,8 @@
 //! - [`read_packet`], [`read_known_met`], [`read_server_met`], [`read_part_met`], [`read_query`], [`read_tags`], or [`read`] for a
 //!   [`Kind`] that is known only when the program runs;
 //! - [`GapRecord`]: what is missing of a file, and marking what arrived; [`put_gaps`];
-//! - [`save`]: the new file, unless the stored one is not the one that was opened;
+//! - [`save`]: the new file, unless the stored one is not the one that was opened; [`disk::save`]: the same with a file on the
+//!   disk, from the lock to the renaming;
 //! - [`truth`]: whether a query holds on a tag list;
 //! - [`mod@write`]: writers of packets, met files, queries and tag lists.
 //!
@@ -22,6 +23,7 @@
 
 #![deny(missing_docs, unsafe_code)]
 
+pub mod disk;
 mod gaps;
 mod items;
 mod kind;

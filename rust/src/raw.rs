@@ -1,4 +1,5 @@
-//! The calls of the archive, as include/ed2k.h declares them, each behind a safe function. All `unsafe` of the crate is here.
+//! The calls of the archive, as include/ed2k.h declares them, each behind a safe function. All `unsafe` of the crate is here and in
+//! disk/system.rs, which has calls of Linux.
 //!
 //! Why each call is sound: a slice hands over a pointer that is never null and the number of its elements; the calls
 //! read and write nothing outside of them, keep no pointer, and have no other requirement. What is lent to be written is

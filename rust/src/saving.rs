@@ -9,6 +9,8 @@ use crate::refusal::Refusal;
 /// Refused with the reader's number for the new bytes; then as [`Refusal::Conflict`] if `stored` and `opened` differ
 /// anywhere. Two empty ones are equal: a first save.
 ///
+/// Nothing is stored by this: [`crate::disk::save`] does that with a file on the disk.
+///
 /// ```
 /// # let new = [&[0xE0, 0, 0, 0, 0][..], &[7; 16], &[0, 0], &[1, 0, 0, 0, 3, 1, 0, 2, 100, 0, 0, 0]].concat();
 /// assert_eq!(ed2k::save(b"", b"", &new)?, new);

@@ -14,7 +14,7 @@ pub enum Failure {
     Usage(String, &'static str),
     /// A file cannot be read or written. What was tried, what the system says, and more lines, if any.
     File(String, io::Error, String),
-    /// A file is not what it must be.
+    /// A file is not what it must be. Why, and more lines, if any.
     Unfit(String),
     /// What the command prints cannot be written. What the system says, and more lines, if any.
     Output(io::Error, String),
@@ -31,12 +31,14 @@ impl Failure {
         |error| Failure::File(tried.into(), error, String::new())
     }
 
-    /// The same failure with a line more, on what has become of the files.
+    /// The same failure with a line more, on what has become of the files or on what to do.
     pub fn and_say(mut self, line: String) -> Failure {
-        if let Failure::Refused(_, _, more) | Failure::File(_, _, more) | Failure::Output(_, more) = &mut self
-        {
-            more.push_str(&line);
-            more.push('\n');
+        match &mut self {
+            Failure::Refused(_, _, more) | Failure::File(_, _, more) | Failure::Output(_, more) => {
+                more.extend([&line, "\n"]);
+            }
+            Failure::Unfit(problem) => problem.extend(["\n", &line]),
+            Failure::Usage(..) => (),
         }
         self
     }

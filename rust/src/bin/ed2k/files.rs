@@ -1,10 +1,9 @@
 //! Reading files, never more of them than is needed to judge them.
 
 use std::ffi::OsStr;
-use std::fs::{File, Metadata};
+use std::fs::{self, File};
 use std::io::{self, ErrorKind, Read};
 use std::os::unix::fs::MetadataExt;
-use std::path::Path;
 
 use ed2k::Kind;
 
@@ -26,22 +25,24 @@ pub fn read_input(kind: Kind, name: &OsStr) -> Result<Vec<u8>, Failure> {
     read_up_to(kind.ceiling() + 1, &mut io::stdin().lock()).map_err(Failure::file("read standard input"))
 }
 
-/// A file from its beginning; one that is not there counts as empty.
-pub fn open_or_empty(path: &Path) -> io::Result<Box<dyn Read>> {
-    match File::open(path) {
-        Ok(file) => Ok(Box::new(file)),
-        Err(error) if error.kind() == ErrorKind::NotFound => Ok(Box::new(io::empty())),
-        Err(error) => Err(error),
+/// So many bytes of a file, or all if it has fewer; one that is not there counts as empty.
+pub fn read_or_empty(limit: usize, name: &OsStr) -> Result<Vec<u8>, Failure> {
+    match File::open(name).and_then(|mut file| read_up_to(limit, &mut file)) {
+        Err(error) if error.kind() == ErrorKind::NotFound => Ok(vec![]),
+        bytes => bytes.map_err(Failure::file(format!("read {}", text::file_name(name)))),
     }
 }
 
-/// Whether these are of one file, by whatever names it was found.
-pub fn same(one: &Metadata, other: &Metadata) -> bool {
-    (one.dev(), one.ino()) == (other.dev(), other.ino())
+/// Whether these are one file, by whatever names it is found.
+pub fn are_one(one: &OsStr, other: &OsStr) -> bool {
+    match (fs::metadata(one), fs::metadata(other)) {
+        (Ok(one), Ok(other)) => (one.dev(), one.ino()) == (other.dev(), other.ino()),
+        _ => false,
+    }
 }
 
 /// So many bytes, or all if there are fewer.
-pub fn read_up_to(limit: usize, source: &mut dyn Read) -> io::Result<Vec<u8>> {
+fn read_up_to(limit: usize, source: &mut dyn Read) -> io::Result<Vec<u8>> {
     let mut bytes = Vec::new();
     source.take(limit as u64).read_to_end(&mut bytes)?;
     Ok(bytes)

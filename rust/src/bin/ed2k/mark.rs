@@ -3,15 +3,16 @@
 use std::ffi::{OsStr, OsString};
 use std::io::Write;
 
+use ed2k::disk::Saved;
 use ed2k::{GapRecord, Kind, Refusal};
 
 use crate::arguments::Arguments;
 use crate::failure::Failure;
-use crate::store::Stored;
+use crate::store::{self, Store};
 use crate::{Outcome, files, gaps, text};
 
 pub const HELP: &str = "\
-ed2k mark [--dry-run] FILE START END
+ed2k mark [--dry-run] [--wait SECONDS] FILE START END
 
 Marks the bytes from START up to END, which is the first byte that is not
 meant, as arrived in the part.met FILE, and says what is still missing. Numbers
@@ -19,8 +20,10 @@ are taken as 'ed2k gaps' prints them (7,321,600) and without commas.
 
 FILE is changed: its gaps are written anew behind its other tags, and it is
 saved as 'ed2k save' does it, so that FILE is at any moment the old or the new
-file, whole. Marks made at the same time wait for each other and all count.
-With --dry-run FILE stays as it is and only the outcome is shown.
+file, whole. Marks made at the same time wait for each other and all count; one
+that waited SECONDS (10 unless given) is told who is saving FILE, and marks
+nothing. If all the bytes have arrived before, FILE stays as it is. With
+--dry-run FILE stays as it is in any case and only the outcome is shown.
 
 Exit status: 0 marked, 1 refused (8: not START < END <= size of the model, or
 damaged gaps; 6: more than 64 gaps would be left; or the file's own refusal),
@@ -28,18 +31,18 @@ damaged gaps; 6: more than 64 gaps would be left; or the file's own refusal),
 ";
 
 pub fn run(words: Vec<OsString>, output: &mut dyn Write) -> Outcome {
-    let arguments = Arguments::sort(words, &[], &["--dry-run"], "ed2k mark --help")?;
+    let arguments = Arguments::sort(words, &["--wait"], &["--dry-run"], "ed2k mark --help")?;
     let [name, start, end] = arguments.operands("FILE, START and END")?;
     let (start, end) = (arguments.number("START", &start)?, arguments.number("END", &end)?);
+    let store = Store { name: &name, wait: store::wait(&arguments)?, work: None };
     let mark = Mark { name: &name, start, end };
     if arguments.flag("--dry-run") {
         let marked = mark.on(&files::read(Kind::PartMet, &name)?)?;
         marked.report(output)?;
         Ok(writeln!(output, "not saved, as --dry-run asks")?)
     } else {
-        let marked = mark.saved()?;
-        let name = text::file_name(&name);
-        marked.tell(&name, output).map_err(|failure| failure.and_say(format!("{name} is saved.")))
+        let (marked, saved) = mark.saved(&store)?;
+        marked.tell(&store, saved, output)
     }
 }
 
@@ -82,28 +85,43 @@ impl Mark<'_> {
         Failure::Refused(what, refusal, more)
     }
 
-    /// Marks under the lock, from reading to renaming. The file must not have changed since it was read, by a program
-    /// that takes no lock.
-    fn saved(&self) -> Result<Marked, Failure> {
-        let stored = Stored::lock(self.name)?;
-        let opened = stored.read()?;
+    /// Marks under the lock, from reading to renaming. Where that changes nothing, nothing is saved: another window's save
+    /// would be refused for it. The file must not have changed since it was read, by a program that takes no lock.
+    fn saved(&self, store: &Store) -> Result<(Marked, Option<Saved>), Failure> {
+        let stored = store.lock()?;
+        let opened = stored.read().map_err(|error| store.failure(error))?;
         let marked = self.on(&opened)?;
-        let new =
-            ed2k::save(&stored.read()?, &opened, &marked.new).map_err(|refusal| self.refused(refusal))?;
-        stored.replace(&new)?;
-        Ok(marked)
+        if marked.arrived() == 0 {
+            return Ok((marked, None));
+        }
+        let saved = stored.save(&opened, &marked.new).map_err(|error| store.failure(error))?;
+        Ok((marked, Some(saved)))
     }
 }
 
 impl Marked {
-    fn tell(&self, name: &str, output: &mut dyn Write) -> Outcome {
-        self.report(output)?;
-        writeln!(output, "saved    {name}, {}", text::bytes(self.new.len() as u64))?;
-        Ok(output.flush()?)
+    /// How many bytes have arrived that were missing before.
+    fn arrived(&self) -> u64 {
+        self.before - self.record.missing()
+    }
+
+    fn tell(&self, store: &Store, saved: Option<Saved>, output: &mut dyn Write) -> Outcome {
+        let name = text::file_name(store.name);
+        let Some(saved) = saved else {
+            self.report(output)?;
+            return Ok(writeln!(output, "these bytes had arrived before: {name} is as it was")?);
+        };
+        let mut told = || -> Outcome {
+            self.report(output)?;
+            writeln!(output, "saved    {name}, {}", text::bytes(saved.length as u64))?;
+            store.tell_owner(saved, output)?;
+            Ok(output.flush()?)
+        };
+        told().map_err(|failure| failure.and_say(format!("{name} is saved.")))
     }
 
     fn report(&self, output: &mut dyn Write) -> Outcome {
-        writeln!(output, "arrived  {}", text::bytes(self.before - self.record.missing()))?;
+        writeln!(output, "arrived  {}", text::bytes(self.arrived()))?;
         gaps::missing_line(&self.record, output)
     }
 }

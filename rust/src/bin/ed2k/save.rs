@@ -2,18 +2,18 @@
 
 use std::ffi::{OsStr, OsString};
 use std::fs;
-use std::io::{self, Write};
-use std::path::Path;
+use std::io::Write;
 
-use ed2k::{Kind, Refusal};
+use ed2k::disk::{SaveError, Saved};
+use ed2k::{Kind, MET_CEILING, Refusal};
 
 use crate::arguments::Arguments;
 use crate::failure::Failure;
-use crate::store::{PIECE, Stored};
+use crate::store::{self, Store};
 use crate::{Outcome, files, text};
 
 pub const HELP: &str = "\
-ed2k save --opened OLD --new NEW STORED
+ed2k save [--wait SECONDS] --opened OLD --new NEW STORED
 
 Saves the part.met NEW over STORED, but only if STORED is still, byte for byte,
 the file that was opened, of which OLD is the copy. If somebody saved in the
@@ -21,92 +21,104 @@ meantime, nothing is changed and the save is refused as a conflict (11).
 
 A first save: where STORED is not there, it counts as empty, and so does OLD. So
 NEW is stored if neither is there (or OLD is empty), and it is a conflict if
-only one of them is.
+only one of them is. Neither OLD nor NEW may be STORED itself by another name.
 
 Saves of one file wait for each other by a lock on '.STORED.lock', an empty file
-beside STORED that is there during the save. The new file is written to
-'.STORED.saving' beside it, brought to the disk, and renamed to STORED, which
-keeps its permissions. However this is interrupted, STORED is the old or the new
+beside STORED that is there during the save; OLD and NEW are read before. Who
+waited SECONDS (10 unless given) is told who holds the lock, and nothing is
+saved.
+
+The new file is written to '.STORED.saving' beside it, brought to the disk, and
+renamed to STORED. However this is interrupted, STORED is the old or the new
 file, whole. What a killed save left beside it does no harm, and the next save
 removes it. A program that saves without this lock is not held off.
+
+STORED keeps its owner, group, permissions and extended attributes, and access
+control lists are among these. Who may not give files away becomes the owner of
+STORED, which stays with its group, so that its old owner is not locked out.
+Where that would not do, nothing is saved. Not kept are attributes that the
+system itself gives (security.*), and other hard links: these keep the old file.
 
 Exit status: 0 saved, 1 refused (NEW's own refusal, or 11), 2 wrong usage or a
 file that cannot be read or written.
 ";
 
 pub fn run(words: Vec<OsString>, output: &mut dyn Write) -> Outcome {
-    let arguments = Arguments::sort(words, &["--opened", "--new"], &[], "ed2k save --help")?;
+    let arguments = Arguments::sort(words, &["--opened", "--new", "--wait"], &[], "ed2k save --help")?;
     let [stored] = arguments.operands("STORED")?;
-    let save = Save { opened: arguments.value("--opened")?, new: arguments.value("--new")?, stored: &stored };
-    if save.compares_a_file_with_itself() {
-        let problem = "--opened is STORED itself: a conflict could not be seen; it takes a copy made when the file was opened";
-        return Err(arguments.wrong(problem.into()));
+    let (opened, new) = (arguments.value("--opened")?, arguments.value("--new")?);
+    if files::are_one(opened, &stored) {
+        return Err(arguments.wrong(OPENED_IS_STORED.into()));
     }
-    let saved = save.run()?;
-    let (stored, new) = (text::file_name(&stored), text::file_name(save.new));
-    let told = writeln!(output, "saved: {stored} is now {new}, {}", text::bytes(saved as u64));
-    told.and_then(|()| output.flush())
-        .map_err(|error| Failure::from(error).and_say(format!("{stored} is saved.")))
+    if files::are_one(new, &stored) {
+        return Err(arguments.wrong(NEW_IS_STORED.into()));
+    }
+    let store = Store { name: &stored, wait: store::wait(&arguments)?, work: Some(new) };
+    let save = Save { opened, new, store };
+    save.tell(save.run()?, output).map_err(|failure| {
+        let line = format!("{} is saved.", text::file_name(&stored));
+        failure.and_say(line)
+    })
 }
+
+const OPENED_IS_STORED: &str = "\
+--opened is STORED itself: no conflict could be seen
+It takes a copy that was made when the file was opened.";
+
+const NEW_IS_STORED: &str = "\
+--new is STORED itself: there would be nothing to save
+It takes a file of its own, with the work that is to be stored.";
 
 struct Save<'a> {
     opened: &'a OsStr,
     new: &'a OsStr,
-    stored: &'a OsStr,
+    store: Store<'a>,
 }
 
 impl Save<'_> {
-    fn compares_a_file_with_itself(&self) -> bool {
-        match (fs::metadata(self.opened), fs::metadata(self.stored)) {
-            (Ok(opened), Ok(stored)) => files::same(&opened, &stored),
-            _ => false,
-        }
-    }
-
-    /// How many bytes were saved.
-    fn run(&self) -> Result<usize, Failure> {
+    /// OLD and NEW are read before the lock is taken: they may be pipes, and who is waited for must not hold up others.
+    fn run(&self) -> Result<Saved, Failure> {
         let new = files::read(Kind::PartMet, self.new)?;
-        let stored = Stored::lock(self.stored)?;
-        let output = self.judged(&stored, &new)?;
-        stored.replace(&output)?;
-        Ok(output.len())
-    }
-
-    /// What is to be stored. The two files that are compared may be of any length, so they are lent piece by piece; every
-    /// part.met is shorter than a piece. They are equal if all their pieces are.
-    fn judged(&self, stored: &Stored, new: &[u8]) -> Result<Vec<u8>, Failure> {
-        let mut stored_file = stored.reader()?;
-        let mut opened_file =
-            files::open_or_empty(Path::new(self.opened)).map_err(|error| self.opened_failure(error))?;
-        loop {
-            let stored_piece = stored.piece(&mut stored_file)?;
-            let opened_piece =
-                files::read_up_to(PIECE, &mut opened_file).map_err(|error| self.opened_failure(error))?;
-            let output = ed2k::save(&stored_piece, &opened_piece, new)
-                .map_err(|refusal| self.refused(refusal, stored))?;
-            if stored_piece.len() < PIECE {
-                return Ok(output);
-            }
+        let room = self.room();
+        let opened = files::read_or_empty(room, self.opened)?;
+        if opened.len() == room {
+            // It is longer than STORED, and was not read to its end: that they differ is known.
+            let refusal = ed2k::save(b"", &opened, &new).expect_err("what was opened is not empty");
+            return Err(self.refused(refusal, fs::exists(self.store.name).unwrap_or(true)));
         }
+        let stored = self.store.lock()?;
+        stored.save(&opened, &new).map_err(|error| match error {
+            SaveError::Refused(refusal) => self.refused(refusal, stored.is_there()),
+            other => self.store.failure(other),
+        })
     }
 
-    fn opened_failure(&self, error: io::Error) -> Failure {
-        Failure::file(format!("read {}", text::file_name(self.opened)))(error)
+    /// More bytes than STORED has, and than any part.met.
+    fn room(&self) -> usize {
+        let length = fs::metadata(self.store.name).map_or(0, |stored| stored.len());
+        MET_CEILING.max(length as usize) + 1
     }
 
-    fn refused(&self, refusal: Refusal, stored: &Stored) -> Failure {
-        let (new, kept) = (text::file_name(self.new), text::file_name(self.stored));
+    fn tell(&self, saved: Saved, output: &mut dyn Write) -> Outcome {
+        let (stored, new) = (text::file_name(self.store.name), text::file_name(self.new));
+        writeln!(output, "saved: {stored} is now {new}, {}", text::bytes(saved.length as u64))?;
+        self.store.tell_owner(saved, output)?;
+        Ok(output.flush()?)
+    }
+
+    fn refused(&self, refusal: Refusal, stored_is_there: bool) -> Failure {
+        let (new, kept) = (text::file_name(self.new), text::file_name(self.store.name));
         if refusal != Refusal::Conflict {
             return Failure::Refused(new, refusal, format!("Nothing was saved: {kept} is as it was.\n"));
         }
-        Failure::Refused(format!("the save of {new}"), refusal, self.conflict(stored))
+        Failure::Refused(format!("the save of {new}"), refusal, self.conflict(stored_is_there))
     }
 
     /// A conflict in plain words.
-    fn conflict(&self, stored: &Stored) -> String {
+    fn conflict(&self, stored_is_there: bool) -> String {
         let (opened, new, kept) =
-            (text::file_name(self.opened), text::file_name(self.new), text::file_name(self.stored));
-        if !stored.is_there() {
+            (text::file_name(self.opened), text::file_name(self.new), text::file_name(self.store.name));
+        if !stored_is_there {
             return format!(
                 "{kept} is not there, but {opened}, the copy of what was opened, is not empty.\n\
                  Nothing was lost: nothing was written, and your work is still in {new}.\n\

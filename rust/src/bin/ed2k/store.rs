@@ -1,248 +1,135 @@
-//! A stored file that is replaced whole or not at all, by one process at a time.
+//! What `save` and `mark` do alike with a stored file: waiting for its lock, and what to say where the disk says no.
 
-use std::ffi::{OsStr, OsString};
-use std::fs::{self, File, OpenOptions, TryLockError};
-use std::io::{self, ErrorKind, Read, Write};
-use std::os::unix::ffi::OsStrExt;
-use std::os::unix::fs::{MetadataExt, fchown};
-use std::path::{Path, PathBuf};
+use std::ffi::OsStr;
+use std::io::{self, Write};
+use std::path::Path;
+use std::time::Duration;
 
-use ed2k::MET_CEILING;
+use ed2k::disk::{self, Holder, SaveError, Saved, Step, Stored, Unkept};
 
+use crate::arguments::Arguments;
 use crate::failure::Failure;
-use crate::{files, text};
+use crate::{Outcome, text};
 
-/// How much of a file is lent at a time: more than any part.met has.
-pub const PIECE: usize = MET_CEILING + 1;
+/// How long others' saves are waited for without a word.
+const SILENT: Duration = Duration::from_secs(1);
 
-/// A stored file, and the lock that no other save of it has as long as this value lives.
-pub struct Stored {
-    path: PathBuf,
-    folder: PathBuf,
-    new_path: PathBuf,
-    _lock: Lock,
+/// A stored file that is to be changed.
+pub struct Store<'a> {
+    /// Its name, as it was given.
+    pub name: &'a OsStr,
+    /// How long to wait for others' saves.
+    pub wait: Duration,
+    /// The file that has the person's work, if that is another one.
+    pub work: Option<&'a OsStr>,
 }
 
-impl Stored {
-    /// Waits for the lock of the file. Links are followed, so that all ways to one file have one lock.
-    pub fn lock(name: &OsStr) -> Result<Stored, Failure> {
-        let (folder, name) = place_of(Path::new(name))?;
-        regular(&folder.join(&name))?;
-        let lock_path = folder.join(hidden(&name, ".lock"));
-        let locked = Lock::take(lock_path.clone());
-        let lock = locked.map_err(Failure::file(tried("take the lock", &lock_path)))?;
-        let (path, new_path) = (folder.join(&name), folder.join(hidden(&name, ".saving")));
-        let stored = Stored { path, folder, new_path, _lock: lock };
-        stored.clean_up()?;
-        Ok(stored)
-    }
+/// How long to wait for others' saves: as long as --wait says, or as a person would.
+pub fn wait(arguments: &Arguments) -> Result<Duration, Failure> {
+    let Ok(word) = arguments.value("--wait") else {
+        return Ok(disk::WAIT);
+    };
+    let wrong = || {
+        arguments.wrong(format!("--wait is a number of seconds in decimal, not {}", text::file_name(word)))
+    };
+    word.to_str().and_then(text::number).map(Duration::from_secs).ok_or_else(wrong)
+}
 
-    /// Removes what a killed save left. It cannot be in use, as the lock is ours.
-    fn clean_up(&self) -> Result<(), Failure> {
-        match fs::remove_file(&self.new_path) {
-            Err(error) if error.kind() != ErrorKind::NotFound => {
-                Err(Failure::file(tried("remove", &self.new_path))(error))
+impl Store<'_> {
+    /// Takes the lock of the file. Who wonders why that takes long is told.
+    pub fn lock(&self) -> Result<Stored, Failure> {
+        let silent = SILENT.min(self.wait);
+        let locked = match Stored::lock(self.name, silent) {
+            Err(SaveError::Locked { holder }) if silent < self.wait => {
+                let _ = writeln!(io::stderr(), "ed2k: {}; waiting for it", self.held_by(holder));
+                Stored::lock(self.name, self.wait - silent)
             }
-            _ => Ok(()),
-        }
-    }
-
-    /// Whether there is such a file.
-    pub fn is_there(&self) -> bool {
-        self.path.exists()
-    }
-
-    /// The file from its beginning; one that is not there counts as empty.
-    pub fn reader(&self) -> Result<Box<dyn Read>, Failure> {
-        files::open_or_empty(&self.path).map_err(|error| self.unreadable(error))
-    }
-
-    /// The next bytes of the file, [`PIECE`] of them unless it ends before.
-    pub fn piece(&self, reader: &mut dyn Read) -> Result<Vec<u8>, Failure> {
-        files::read_up_to(PIECE, reader).map_err(|error| self.unreadable(error))
-    }
-
-    /// The file, which must be there; of one above the ceiling the first piece.
-    pub fn read(&self) -> Result<Vec<u8>, Failure> {
-        let mut file = File::open(&self.path).map_err(|error| self.unreadable(error))?;
-        self.piece(&mut file)
-    }
-
-    fn unreadable(&self, error: io::Error) -> Failure {
-        unreadable(&self.path, error)
-    }
-
-    /// Makes the bytes the file's contents: a new file beside it, brought to the disk, then renamed. Until the renaming
-    /// the file is the old one, from then on the new one.
-    pub fn replace(&self, bytes: &[u8]) -> Result<(), Failure> {
-        let old = self.replaceable()?;
-        let renamed = self.write_new(bytes, old.as_ref()).and_then(|()| {
-            fs::rename(&self.new_path, &self.path).map_err(Failure::file(tried("replace", &self.path)))
-        });
-        renamed.map_err(|failure| {
-            // The failure is what is reported; what cannot be removed now, the next save removes.
-            let _ = fs::remove_file(&self.new_path);
-            failure.and_say(format!(
-                "Nothing was lost: {} is as it was.",
-                text::file_name(self.path.as_os_str())
-            ))
-        })?;
-        let sync = || File::open(&self.folder)?.sync_all();
-        sync().map_err(Failure::file(format!(
-            "bring the folder of {} to the disk (the file is saved, but a power cut might undo it)",
-            text::file_name(self.path.as_os_str())
-        )))
-    }
-
-    /// The old file's permissions and owner, if it is there and may be written. Renaming would replace a file that may
-    /// not be written too, but who protects a file means to keep it.
-    fn replaceable(&self) -> Result<Option<fs::Metadata>, Failure> {
-        let Some(old) = regular(&self.path)? else {
-            return Ok(None);
+            other => other,
         };
-        if old.permissions().readonly() {
-            let name = text::file_name(self.path.as_os_str());
-            return Err(Failure::Unfit(format!("{name} is read-only: nothing was changed")));
-        }
-        let opened = OpenOptions::new().write(true).open(&self.path).and_then(|file| file.metadata());
-        opened.map(Some).map_err(Failure::file(tried("write", &self.path)))
+        locked.map_err(|error| self.failure(error))
     }
 
-    /// Writes the new file and brings it to the disk.
-    fn write_new(&self, bytes: &[u8], old: Option<&fs::Metadata>) -> Result<(), Failure> {
-        let write = || -> io::Result<()> {
-            let mut file = OpenOptions::new().write(true).create_new(true).open(&self.new_path)?;
-            if let Some(old) = old {
-                keep_owner(&file, old);
-                file.set_permissions(old.permissions())?;
+    fn held_by(&self, holder: Option<Holder>) -> String {
+        let name = text::file_name(self.name);
+        match holder {
+            Some(holder) => format!("{name} is being saved by {holder}"),
+            None => format!("{name} is being saved by a process that cannot be named"),
+        }
+    }
+
+    /// What has become of the files where nothing was saved, in a line each.
+    pub fn nothing_lost(&self) -> String {
+        let kept = format!("Nothing was lost: {} is as it was.", text::file_name(self.name));
+        match self.work {
+            Some(work) => format!("{kept}\nYour work is still in {}.", text::file_name(work)),
+            None => kept,
+        }
+    }
+
+    /// Says whose the file is, if it is another's than before.
+    pub fn tell_owner(&self, saved: Saved, output: &mut dyn Write) -> Outcome {
+        if !saved.owner_kept {
+            let name = text::file_name(self.name);
+            writeln!(output, "{name} belongs to you now; its group and permissions are as they were")?;
+        }
+        Ok(())
+    }
+
+    /// What happened, what was not lost, and what to do next.
+    pub fn failure(&self, error: SaveError) -> Failure {
+        let (name, kept) = (text::file_name(self.name), self.nothing_lost());
+        match error {
+            SaveError::Refused(refusal) => Failure::refused(name)(refusal).and_say(kept),
+            SaveError::Locked { holder } => {
+                Failure::Unfit(self.held_by(holder)).and_say(kept).and_say(self.locked_advice())
             }
-            file.write_all(bytes)?;
-            file.sync_all()
+            SaveError::NotAFile => Failure::Unfit(format!("{name} is not a file")),
+            SaveError::ReadOnly => Failure::Unfit(format!("{name} is read-only")).and_say(kept),
+            SaveError::Unkept(unkept) => {
+                Failure::Unfit(format!("{name} is not saved: somebody would be locked out of it"))
+                    .and_say(format!("In the new file {unkept}."))
+                    .and_say(kept)
+                    .and_say(unkept_advice(&unkept).into())
+            }
+            SaveError::Unsynced(error) => {
+                Failure::file(format!("bring the folder of {name} to the disk"))(error)
+                    .and_say(format!("{name} is saved, but a power cut might undo it."))
+            }
+            SaveError::System { step, path, error } => self.not_allowed(step, &path, error).and_say(kept),
+            _ => Failure::Unfit(format!("{name} cannot be saved: {error}")).and_say(kept),
+        }
+    }
+
+    fn locked_advice(&self) -> String {
+        let seconds = text::count(self.wait.as_secs() as usize, "second", "seconds");
+        format!(
+            "After {seconds} no longer waited for. Try again, or give --wait SECONDS.\n\
+             If that process hangs, end it: the lock is then free by itself."
+        )
+    }
+
+    fn not_allowed(&self, step: Step, path: &Path, error: io::Error) -> Failure {
+        let name = text::file_name(self.name);
+        let helping = text::file_name(path.file_name().unwrap_or_default());
+        let tried = match step {
+            Step::Find => format!("find {name}"),
+            Step::Lock => format!("take the lock {helping} beside {name}"),
+            Step::CleanUp => format!("remove {helping} beside {name}, which a killed save left"),
+            Step::Read => format!("read {name}"),
+            Step::Write => format!("write {helping} beside {name}"),
+            Step::Replace => format!("replace {name}"),
+            _ => format!("write {name}"),
         };
-        write().map_err(Failure::file(tried("write", &self.new_path)))
+        Failure::file(tried)(error)
     }
 }
 
-fn tried(what: &str, path: &Path) -> String {
-    format!("{what} {}", text::file_name(path.as_os_str()))
-}
-
-fn unreadable(path: &Path, error: io::Error) -> Failure {
-    Failure::file(tried("read", path))(error)
-}
-
-/// What the system knows of a file, if it is there; what is no file is left alone, and a pipe is not waited for.
-fn regular(path: &Path) -> Result<Option<fs::Metadata>, Failure> {
-    match fs::metadata(path) {
-        Err(error) if error.kind() == ErrorKind::NotFound => Ok(None),
-        Err(error) => Err(unreadable(path, error)),
-        Ok(found) if found.is_file() => Ok(Some(found)),
-        Ok(_) => Err(Failure::Unfit(format!("{} is not a file", text::file_name(path.as_os_str())))),
-    }
-}
-
-/// Who may not give files away leaves the new file his own, as any editor does.
-fn keep_owner(file: &File, old: &fs::Metadata) {
-    let _ = fchown(file, Some(old.uid()), Some(old.gid()));
-}
-
-/// The folder of a file, and its name there, with links followed; the file itself need not be there.
-fn place_of(path: &Path) -> Result<(PathBuf, OsString), Failure> {
-    let found = |error| Failure::file(tried("find", path))(error);
-    let real = match fs::canonicalize(path) {
-        Ok(real) => real,
-        Err(error) if error.kind() == ErrorKind::NotFound && !path.is_symlink() => missing_place(path)?,
-        Err(error) => return Err(found(error)),
-    };
-    match (real.parent(), real.file_name()) {
-        (Some(folder), Some(name)) => Ok((folder.to_path_buf(), name.to_os_string())),
-        _ => Err(Failure::Unfit(format!("{} is not a file", text::file_name(path.as_os_str())))),
-    }
-}
-
-fn missing_place(path: &Path) -> Result<PathBuf, Failure> {
-    let Some(name) = path.file_name() else {
-        return Err(Failure::Unfit(format!("{} is no file's name", text::file_name(path.as_os_str()))));
-    };
-    let folder = match path.parent() {
-        Some(folder) if !folder.as_os_str().is_empty() => folder,
-        _ => Path::new("."),
-    };
-    let folder = fs::canonicalize(folder).map_err(Failure::file(tried("find the folder of", path)))?;
-    Ok(folder.join(name))
-}
-
-/// How much of a file's name stands in the names of its helping files, so that these are not too long for the system.
-const NAME_BYTES: usize = 240;
-
-/// The name of a helping file beside a file. Files whose long names begin alike share the lock, and so take turns.
-fn hidden(name: &OsStr, ending: &str) -> OsString {
-    let mut hidden = OsString::from(".");
-    let bytes = name.as_bytes();
-    hidden.push(OsStr::from_bytes(&bytes[..bytes.len().min(NAME_BYTES)]));
-    hidden.push(ending);
-    hidden
-}
-
-/// A lock: an empty file that is there as long as this value lives, or until the next lock is taken if its process is
-/// killed.
-struct Lock {
-    path: PathBuf,
-    _file: File,
-}
-
-impl Lock {
-    /// Waits for the lock. Its last holder may have removed the file while we waited, and another process may have made
-    /// and locked a new one: only a lock on the file that is there now counts.
-    fn take(path: PathBuf) -> io::Result<Lock> {
-        let mut waiting = false;
-        loop {
-            let file = open_lock(&path)?;
-            match file.try_lock() {
-                Ok(()) => {}
-                Err(TryLockError::Error(error)) => return Err(error),
-                Err(TryLockError::WouldBlock) => {
-                    say_that_we_wait(&path, &mut waiting);
-                    file.lock()?;
-                }
-            }
-            if is_at(&file, &path)? {
-                return Ok(Lock { path, _file: file });
-            }
+fn unkept_advice(unkept: &Unkept) -> &'static str {
+    match unkept {
+        Unkept::OwnerAndGroup { .. } | Unkept::Owner { .. } => {
+            "Ask its owner to save it, or to give it a group that you are both in."
         }
+        Unkept::Group { .. } => "Give it a group that you are in (chgrp), then save again.",
+        Unkept::Attribute { .. } => "Ask its owner or an administrator to save it.",
     }
-}
-
-impl Drop for Lock {
-    /// Removes the file, then lets go of the lock as the file is closed. If it cannot be removed it does no harm.
-    fn drop(&mut self) {
-        let _ = fs::remove_file(&self.path);
-    }
-}
-
-/// Whether this file is the one at the path.
-fn is_at(file: &File, path: &Path) -> io::Result<bool> {
-    let ours = file.metadata()?;
-    match fs::metadata(path) {
-        Ok(there) => Ok(files::same(&there, &ours)),
-        Err(error) if error.kind() == ErrorKind::NotFound => Ok(false),
-        Err(error) => Err(error),
-    }
-}
-
-/// The lock of another owner may be unwritable; to lock it, reading is enough.
-fn open_lock(path: &Path) -> io::Result<File> {
-    match OpenOptions::new().write(true).create(true).truncate(false).open(path) {
-        Err(error) if error.kind() == ErrorKind::PermissionDenied && path.exists() => File::open(path),
-        other => other,
-    }
-}
-
-/// Says so once, for people who wonder.
-fn say_that_we_wait(path: &Path, said: &mut bool) {
-    if !*said {
-        let name = text::file_name(path.as_os_str());
-        let _ = writeln!(io::stderr(), "ed2k: another save holds {name}; waiting for it");
-    }
-    *said = true;
 }

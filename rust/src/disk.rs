@@ -1,0 +1,226 @@
+//! Saving a part.met to the disk: never over another's save, and whole or not at all.
+//!
+//! An editor keeps the bytes that it opened. When its work is to be stored, [`save`] does all of this:
+//!
+//! 1. It takes the lock of the file, an empty file `.NAME.lock` beside it that is there during the save. Every user who may
+//!    write the folder can take it. Whoever holds it too long is named ([`SaveError::Locked`]).
+//! 2. It reads the stored file and has the proved code judge the save ([`crate::save`]): the new bytes must be a part.met, and
+//!    the stored ones those that were opened, else it is a conflict. A file that is not there counts as empty.
+//! 3. It makes a new file `.NAME.saving` beside it, and gives it the owner, group, permissions and extended attributes of the
+//!    old one, before a byte is written. Where the owner cannot be kept, the group is, so that the owner is not locked out;
+//!    where that would not do, nothing is saved ([`SaveError::Unkept`]).
+//! 4. It writes the bytes, brings them to the disk, renames the new file to the stored one, and brings the folder to the disk.
+//!
+//! However this is interrupted, the stored file is the old or the new one, whole. What a killed save left beside it does no
+//! harm, and the next save removes it. A program that saves without the lock is not held off. Other hard links to the stored
+//! file keep the old one.
+//!
+//! ```
+//! use ed2k::{Refusal, disk};
+//! # let folder = std::env::temp_dir().join(format!("ed2k disk {}", std::process::id()));
+//! # std::fs::create_dir(&folder)?;
+//! # let path = folder.join("001.part.met");
+//! # let part_met = |date: u8| {
+//! #     [&[0xE0, date, 0, 0, 0][..], &[7; 16], &[0, 0], &[1, 0, 0, 0, 3, 1, 0, 2, 100, 0, 0, 0]].concat()
+//! # };
+//! # let [old, mine, theirs] = [1, 2, 3].map(part_met);
+//! # std::fs::write(&path, &old)?;
+//!
+//! // Two windows opened one file. The first one saves:
+//! let opened = std::fs::read(&path)?;
+//! disk::save(&path, &opened, &theirs, disk::WAIT)?;
+//!
+//! // The second one is told, and nothing is lost:
+//! match disk::save(&path, &opened, &mine, disk::WAIT) {
+//!     Err(disk::SaveError::Refused(Refusal::Conflict)) => assert_eq!(std::fs::read(&path)?, theirs),
+//!     other => panic!("{other:?}"),
+//! }
+//! # std::fs::remove_dir_all(&folder)?;
+//! # Ok::<(), Box<dyn std::error::Error>>(())
+//! ```
+//!
+//! To change a file by itself, as `ed2k mark` does, [`Stored`] holds the lock from the reading to the saving.
+
+mod error;
+mod keeping;
+mod lock;
+mod place;
+#[allow(unsafe_code)]
+mod system;
+mod users;
+
+use std::fs::{self, File, OpenOptions};
+use std::io::{self, ErrorKind, Read, Write};
+use std::os::unix::fs::OpenOptionsExt;
+use std::path::{Path, PathBuf};
+use std::time::Duration;
+
+use crate::kind::MET_CEILING;
+
+pub use error::{SaveError, Step};
+pub use keeping::Unkept;
+pub use lock::Holder;
+
+use keeping::{NotGiven, keep};
+use lock::{Lock, NotTaken};
+use place::{Place, regular};
+
+/// How long to wait for another's save where a person waits too. A save takes some thousandths of a second.
+pub const WAIT: Duration = Duration::from_secs(10);
+
+/// Saves the new bytes over the stored file, if that is still the one that was opened; waits at most so long for saves of
+/// others. A file that is not there counts as empty, so that nothing opened makes a first save.
+///
+/// All that [`Stored::lock`] and [`Stored::save`] do and refuse.
+pub fn save(path: impl AsRef<Path>, opened: &[u8], new: &[u8], wait: Duration) -> Result<Saved, SaveError> {
+    Stored::lock(path, wait)?.save(opened, new)
+}
+
+/// What has been saved.
+#[derive(Clone, Copy, Debug, PartialEq, Eq)]
+pub struct Saved {
+    /// How many bytes the stored file has now.
+    pub length: usize,
+    /// Whether its owner is the same as before. If not, it is the user who saved; group and permissions are the same.
+    pub owner_kept: bool,
+}
+
+/// A stored file, and its lock, which no other save has as long as this value lives.
+///
+/// ```
+/// use ed2k::disk::{Stored, WAIT};
+/// use ed2k::{GapRecord, put_gaps};
+/// # let folder = std::env::temp_dir().join(format!("ed2k stored {}", std::process::id()));
+/// # std::fs::create_dir(&folder)?;
+/// # let path = folder.join("001.part.met");
+/// # let file = [&[0xE0, 0, 0, 0, 0][..], &[7; 16], &[0, 0], &[1, 0, 0, 0, 3, 1, 0, 2, 100, 0, 0, 0]].concat();
+/// # std::fs::write(&path, put_gaps(&file, &GapRecord::all_missing(100)?)?)?;
+///
+/// let stored = Stored::lock(&path, WAIT)?;
+/// let opened = stored.read()?;
+/// let mut record = GapRecord::read(&opened)?;
+/// record.mark(40, 60)?;
+/// stored.save(&opened, &put_gaps(&opened, &record)?)?;
+/// drop(stored);
+///
+/// assert_eq!(GapRecord::read(&std::fs::read(&path)?)?.missing(), 80);
+/// # std::fs::remove_dir_all(&folder)?;
+/// # Ok::<(), Box<dyn std::error::Error>>(())
+/// ```
+#[derive(Debug)]
+pub struct Stored {
+    path: PathBuf,
+    folder: PathBuf,
+    new_path: PathBuf,
+    _lock: Lock,
+}
+
+impl Stored {
+    /// Takes the lock of the file, and waits at most so long for it. Links are followed, so that all ways to one file have
+    /// one lock. What a killed save left is removed.
+    ///
+    /// [`SaveError::Locked`] if another has the lock all the time, [`SaveError::NotAFile`] for a folder, a pipe or a device.
+    pub fn lock(path: impl AsRef<Path>, wait: Duration) -> Result<Stored, SaveError> {
+        let place = Place::of(path.as_ref())?;
+        let path = place.path();
+        regular(&path)?;
+        let lock_path = place.hidden(".lock");
+        let lock = Lock::take(lock_path.clone(), wait).map_err(|problem| match problem {
+            NotTaken::Held(holder) => SaveError::Locked { holder },
+            NotTaken::System(error) => Step::Lock.failed(&lock_path, error),
+        })?;
+        let new_path = place.hidden(".saving");
+        // It cannot be in use, as the lock is ours.
+        match fs::remove_file(&new_path) {
+            Err(error) if error.kind() != ErrorKind::NotFound => Err(Step::CleanUp.failed(&new_path, error)),
+            _ => Ok(Stored { path, folder: place.folder, new_path, _lock: lock }),
+        }
+    }
+
+    /// Where the file is, with links followed.
+    pub fn path(&self) -> &Path {
+        &self.path
+    }
+
+    /// Whether there is such a file.
+    pub fn is_there(&self) -> bool {
+        self.path.exists()
+    }
+
+    /// The file's bytes; of a file above [`MET_CEILING`] one byte more than that, for which it is refused whatever follows.
+    /// A file that is not there is an error here.
+    pub fn read(&self) -> Result<Vec<u8>, SaveError> {
+        let read = File::open(&self.path).and_then(|file| beginning(file, MET_CEILING + 1));
+        read.map_err(|error| self.unreadable(error))
+    }
+
+    fn unreadable(&self, error: io::Error) -> SaveError {
+        Step::Read.failed(&self.path, error)
+    }
+
+    /// Saves the new bytes, if the stored ones are those that were opened.
+    ///
+    /// [`SaveError::Refused`] as [`crate::save`] refuses; [`SaveError::ReadOnly`] for a file that may not be written;
+    /// [`SaveError::Unkept`] where somebody would be locked out. After these, and after all others but
+    /// [`SaveError::Unsynced`], the stored file is as it was.
+    pub fn save(&self, opened: &[u8], new: &[u8]) -> Result<Saved, SaveError> {
+        // A byte more than was opened is enough to see that they differ.
+        let stored = match File::open(&self.path) {
+            Ok(file) => beginning(file, opened.len() + 1),
+            Err(error) if error.kind() == ErrorKind::NotFound => Ok(vec![]),
+            Err(error) => Err(error),
+        };
+        let stored = stored.map_err(|error| self.unreadable(error))?;
+        self.replace(&crate::save(&stored, opened, new)?)
+    }
+
+    /// Makes the bytes the file's contents: until the renaming the file is the old one, from then on the new one.
+    fn replace(&self, bytes: &[u8]) -> Result<Saved, SaveError> {
+        let old = self.replaceable()?;
+        let renamed = self.write_new(bytes, old.as_ref()).and_then(|owner_kept| {
+            let renamed = fs::rename(&self.new_path, &self.path);
+            renamed.map_err(|error| Step::Replace.failed(&self.path, error)).map(|()| owner_kept)
+        });
+        let owner_kept = renamed.inspect_err(|_| {
+            // The failure is what is reported; what cannot be removed now, the next save removes.
+            let _ = fs::remove_file(&self.new_path);
+        })?;
+        let synced = File::open(&self.folder).and_then(|folder| folder.sync_all());
+        synced.map_err(SaveError::Unsynced).map(|()| Saved { length: bytes.len(), owner_kept })
+    }
+
+    /// The old file, if it is there and may be written. Renaming would replace a file that may not be written too, but who
+    /// protects a file means to keep it.
+    fn replaceable(&self) -> Result<Option<File>, SaveError> {
+        let Some(old) = regular(&self.path)? else {
+            return Ok(None);
+        };
+        if old.permissions().readonly() {
+            return Err(SaveError::ReadOnly);
+        }
+        let opened = OpenOptions::new().read(true).write(true).open(&self.path);
+        opened.map(Some).map_err(|error| Step::Open.failed(&self.path, error))
+    }
+
+    /// Writes the new file and brings it to the disk; whether it has the old one's owner. Nobody else can read it before it
+    /// has the old one's permissions.
+    fn write_new(&self, bytes: &[u8], old: Option<&File>) -> Result<bool, SaveError> {
+        let failed = |error| Step::Write.failed(&self.new_path, error);
+        let mode = if old.is_some() { 0o600 } else { 0o666 };
+        let made = OpenOptions::new().read(true).write(true).create_new(true).mode(mode).open(&self.new_path);
+        let mut new = made.map_err(failed)?;
+        let owner_kept = old.map_or(Ok(true), |old| keep(old, &new)).map_err(|problem| match problem {
+            NotGiven::Unkept(unkept) => SaveError::Unkept(unkept),
+            NotGiven::System(error) => failed(error),
+        })?;
+        new.write_all(bytes).and_then(|()| new.sync_all()).map_err(failed)?;
+        Ok(owner_kept)
+    }
+}
+
+/// So many bytes from the front, or all if there are fewer.
+fn beginning(file: File, limit: usize) -> io::Result<Vec<u8>> {
+    let mut bytes = Vec::new();
+    file.take(limit as u64).read_to_end(&mut bytes)?;
+    Ok(bytes)
+}
