@@ -92,6 +92,8 @@ fn wrong_usage_gives_2_and_says_where_help_is() {
         &[][..],
         &["unheard-of"],
         &["--unheard-of"],
+        &["help", "unheard-of"],
+        &["help", "read", "show"],
         &["read"],
         &["read", "s"],
         &["read", "s", "file", "file"],
@@ -100,6 +102,9 @@ fn wrong_usage_gives_2_and_says_where_help_is() {
         &["show", "", "file"],
         &["gaps"],
         &["gaps", "--unheard-of", "file"],
+        &["gaps", "--unheard-of=file", "file"],
+        &["gaps", "--json=yes", "file"],
+        &["mark", "--dry-run=", "file", "1", "2"],
         &["mark", "file", "1"],
         &["mark", "file", "one", "2"],
         &["mark", "file", "-1", "2"],
@@ -109,6 +114,7 @@ fn wrong_usage_gives_2_and_says_where_help_is() {
         &["save", "--opened", "file", "stored"],
         &["save", "--opened", "file", "--new"],
         &["save", "--opened", "file", "--opened", "file", "--new", "file", "stored"],
+        &["save", "--opened=file", "--opened", "file", "--new", "file", "stored"],
     ] {
         let run = studio.run(words).expect(2);
         assert!(run.stderr.contains("For help: ed2k "), "{words:?}: {}", run.stderr);
@@ -117,26 +123,102 @@ fn wrong_usage_gives_2_and_says_where_help_is() {
     assert_eq!(studio.names(), ["file"]);
 }
 
+const SUBCOMMANDS: [&str; 6] = ["read", "show", "gaps", "mark", "search", "save"];
+
+/// The first line that is too long.
+fn long_line(printed: &str) -> Option<&str> {
+    printed.lines().find(|line| line.chars().count() > 80)
+}
+
 #[test]
 fn every_subcommand_has_help_within_80_columns() {
     let studio = Studio::new();
-    for words in [
-        &["--help"][..],
-        &["read", "--help"],
-        &["show", "--help"],
-        &["gaps", "--help"],
-        &["mark", "--help"],
-        &["search", "--help"],
-        &["save", "--help"],
-        &["save", "--opened", "a", "-h"],
-    ] {
+    let all = SUBCOMMANDS.map(|name| vec![name, "--help"]);
+    for words in all.iter().map(|words| &words[..]).chain([&["--help"][..], &["save", "--opened", "a", "-h"]])
+    {
         let run = studio.run(words).expect(0);
         assert!(run.stdout.contains("Exit status: 0"), "{}", run.stdout);
-        let long = run.stdout.lines().find(|line| line.chars().count() > 80);
-        assert_eq!(long, None);
+        assert_eq!(long_line(&run.stdout), None);
         assert_eq!(run.stderr, "");
     }
+    let overview = studio.run(&["--help"]).expect(0).stdout;
+    for name in SUBCOMMANDS {
+        assert!(overview.contains(&format!("  ed2k {name} ")), "{name}");
+    }
     assert!(studio.run(&["--version"]).expect(0).stdout.starts_with("ed2k "));
+}
+
+#[test]
+fn help_about_a_subcommand_is_its_help() {
+    let studio = Studio::new();
+    for name in SUBCOMMANDS {
+        let help = studio.run(&["help", name]).expect(0).stdout;
+        assert_eq!(help, studio.run(&[name, "--help"]).expect(0).stdout);
+        assert!(help.starts_with(&format!("ed2k {name} ")), "{help}");
+    }
+    let overview = studio.run(&["--help"]).expect(0).stdout;
+    for words in [&["help"][..], &["-h"], &["help", "--help"]] {
+        assert_eq!(studio.run(words).expect(0).stdout, overview);
+    }
+}
+
+#[test]
+fn a_value_may_stand_behind_a_sign() {
+    let studio = Studio::new();
+    let (old, new) = (packets::part_met(1, 0, 100, &[]), packets::part_met(2, 0, 100, &[]));
+    studio.file("old=1", &old);
+    studio.file("stored", &old);
+    studio.file("new", &new);
+    studio.run(&["save", "--opened=old=1", "--new=new", "stored"]).expect(0);
+    assert_eq!(studio.bytes("stored"), new);
+    studio.file("--new=stored", &old);
+    let run = studio.run(&["read", "p", "--", "--new=stored"]).expect(0);
+    assert_eq!(run.stdout, format!("accepted 224 {}\n", old.len()));
+    studio.file("a=b", &old);
+    studio.run(&["read", "p", "a=b"]).expect(0);
+    assert!(
+        studio.run(&["save", "--opened=", "--new=", "stored"]).expect(2).stderr.contains("cannot read ''")
+    );
+}
+
+/// What people read is within 80 columns, however long the texts of a file are.
+#[test]
+fn what_is_printed_is_within_80_columns() {
+    let studio = Studio::new();
+    let long =
+        [vec![b'x'; 700], b" y".repeat(300), "größe ".repeat(90).into_bytes(), vec![0xFF; 200]].concat();
+    let tags = packets::list(&[
+        packets::text_tag(&[0x01], &long),
+        packets::text_tag(&[b'n'; 255], b"short"),
+        packets::dword_tag(&[0x02], 100),
+    ]);
+    studio.file("tags", &tags);
+    studio.file("part.met", &[&[0xE0, 0, 0, 0, 0][..], &packets::HASH, &[0, 0], &tags].concat());
+    let deep = [[0u8, 1].repeat(23), packets::keyword(&long).repeat(24)].concat();
+    studio.file("query", &deep);
+    let bits = [packets::HASH.to_vec(), packets::word(800), vec![0b0101_0101; 100]].concat();
+    studio.file("status", &packets::packet(ed2k::Link::Client, 0x50, &bits));
+    for words in [
+        &["show", "t", "tags"][..],
+        &["show", "p", "part.met"],
+        &["gaps", "part.met"],
+        &["show", "q", "query"],
+        &["show", "c", "status"],
+    ] {
+        let shown = studio.run(words).expect(0).stdout;
+        assert_eq!(long_line(&shown), None, "{words:?}");
+        assert!(shown.lines().count() > 15, "{shown}");
+    }
+    for (file, kind) in [("tags", "p"), ("tags", "k"), ("status", "t"), ("query", "c"), ("status", "s")] {
+        assert_eq!(long_line(&studio.run(&["show", kind, file]).expect(1).stderr), None);
+    }
+    for words in [
+        &["read", "x", "tags"][..],
+        &["search", "tags"],
+        &["save", "--opened", "tags", "--new", "tags", "tags"],
+    ] {
+        assert_eq!(long_line(&studio.run(words).expect(2).stderr), None);
+    }
 }
 
 #[test]
