@@ -1,11 +1,13 @@
 //! `mark`.
 
 use std::ffi::OsStr;
+use std::fs;
+use std::os::unix::fs::MetadataExt;
 
 use ed2k::GapRecord;
 
 use crate::packets;
-use crate::studio::{Studio, finish, full_output, wait};
+use crate::studio::{PATIENT, Studio, finish, full_output, wait};
 
 #[test]
 fn mark_saves_the_new_gaps_and_a_dry_run_does_not() {
@@ -62,12 +64,43 @@ fn a_refused_mark_changes_nothing() {
     assert_eq!(studio.names(), ["file"]);
 }
 
+/// The gaps of this file would be written anew behind its other tags: that must not happen for nothing.
+#[test]
+fn a_mark_of_bytes_that_have_arrived_leaves_the_file_as_it_is() {
+    let studio = Studio::new();
+    let tags = [
+        packets::dword_tag(b"\x09700", 40),
+        packets::dword_tag(b"\x0A700", 60),
+        packets::dword_tag(&[0x02], 100),
+    ];
+    let file = [&[0xE0, 9, 0, 0, 0][..], &packets::HASH, &[0, 0], &packets::list(&tags)].concat();
+    let path = studio.file("file", &file);
+    studio.file("opened", &file);
+    let number = fs::metadata(&path).unwrap().ino();
+    for (start, end) in [("0", "40"), ("60", "61"), ("99", "100")] {
+        let run = studio.run(&["mark", "file", start, end]).expect(0);
+        assert_eq!(
+            run.stdout,
+            "arrived  0 bytes\nmissing  20 bytes, 20.0 %, in 1 gap\n\
+             these bytes had arrived before: 'file' is as it was\n"
+        );
+        assert_eq!((studio.bytes("file"), fs::metadata(&path).unwrap().ino()), (file.clone(), number));
+    }
+    studio.file("new", &packets::part_met(9, 0, 100, &[(40, 50)]));
+    studio.run(&["save", "--opened", "opened", "--new", "new", "file"]).expect(0);
+    studio.run(&["mark", "file", "39", "41"]).expect(0);
+    assert_eq!(studio.bytes("file"), packets::part_met(9, 0, 100, &[(41, 50)]));
+}
+
 #[test]
 fn marks_made_at_the_same_time_all_count() {
     const MARKS: u64 = 24;
     let studio = Studio::new();
     studio.file("file", &packets::part_met(9, 0, 2 * MARKS as u32, &[(0, 2 * MARKS as u32)]));
-    let mark = |n: u64| studio.spawn(&["mark", "file", &(2 * n).to_string(), &(2 * n + 1).to_string()]);
+    let mark = |n: u64| {
+        let (start, end) = ((2 * n).to_string(), (2 * n + 1).to_string());
+        studio.spawn(&["mark", "--wait", PATIENT, "file", &start, &end])
+    };
     let marks: Vec<_> = (0..MARKS).map(mark).collect();
     for child in marks {
         wait(child).expect(0);

@@ -1,9 +1,14 @@
 //! `save`: when it is accepted, and what it leaves in the folder.
 
+#[path = "../support/attributes.rs"]
+mod attributes;
+mod locking;
+mod sharing;
+
 use std::ffi::OsStr;
 use std::fs;
 use std::os::unix::fs::{MetadataExt, PermissionsExt, symlink};
-use std::process::{Command, Stdio};
+use std::process::Command;
 
 use crate::packets;
 use crate::studio::{COMMAND, Run, Studio, finish, full_output, samples};
@@ -86,16 +91,27 @@ fn save_judges_the_new_file_first() {
 }
 
 #[test]
-fn save_will_not_compare_a_file_with_itself() {
+fn neither_the_opened_nor_the_new_file_is_the_stored_one() {
     let studio = Studio::new();
-    studio.file("stored", &packets::part_met(1, 0, 100, &[]));
+    let stored = packets::part_met(1, 0, 100, &[]);
+    studio.file("stored", &stored);
+    studio.file("old", &stored);
     studio.file("new", &packets::part_met(2, 0, 100, &[]));
     fs::hard_link(studio.path("stored"), studio.path("second name")).unwrap();
     symlink("stored", studio.path("link")).unwrap();
-    for opened in ["./stored", "second name", "link"] {
-        let run = studio.run(&["save", "--opened", opened, "--new", "new", "stored"]).expect(2);
-        assert!(run.stderr.contains("STORED itself"), "{}", run.stderr);
+    let number = fs::metadata(studio.path("stored")).unwrap().ino();
+    for itself in ["stored", "./stored", "../studio/stored", "second name", "link"] {
+        let run = studio.run(&["save", "--opened", itself, "--new", "new", "stored"]).expect(2);
+        assert!(run.stderr.contains("--opened is STORED itself"), "{}", run.stderr);
+        let run = studio.run(&["save", "--opened", "old", "--new", itself, "stored"]).expect(2);
+        assert!(run.stderr.contains("--new is STORED itself"), "{}", run.stderr);
+        assert!(run.stderr.ends_with("\nFor help: ed2k save --help\n"), "{}", run.stderr);
     }
+    studio.run(&["save", "--opened", "old", "--new", "stored", "link"]).expect(2);
+    assert_eq!(
+        (studio.bytes("stored"), fs::metadata(studio.path("stored")).unwrap().ino()),
+        (stored, number)
+    );
 }
 
 #[test]
@@ -115,6 +131,21 @@ fn files_of_any_length_are_compared_to_their_end() {
         studio.run(&["save", "--opened", "old", "--new", "new", "stored"]).expect(0);
         assert_eq!(studio.bytes("stored"), new);
     }
+}
+
+#[test]
+fn of_an_opened_file_no_more_is_read_than_is_needed() {
+    let studio = Studio::new();
+    let new = packets::part_met(2, 0, 100, &[]);
+    studio.file("new", &new);
+    for stored in ["stored", "not there"] {
+        studio.file("stored", b"anything");
+        let run = studio.run(&["save", "--opened", "/dev/zero", "--new", "new", stored]).expect(1);
+        assert!(run.stderr.contains("refused 11: "), "{}", run.stderr);
+        let run = studio.run(&["save", "--opened", "/dev/zero", "--new", "stored", "new"]).expect(1);
+        assert!(run.stderr.contains("'stored' is refused 2: "), "{}", run.stderr);
+    }
+    assert_eq!((studio.bytes("stored"), studio.bytes("new")), (b"anything".to_vec(), new));
 }
 
 #[test]
@@ -174,31 +205,12 @@ fn read_only_files_and_folders_are_left_alone() {
     assert_eq!(studio.bytes("stored"), old);
 }
 
-#[test]
-fn a_file_of_another_owner_is_left_alone() {
-    let studio = Studio::new();
-    let (old, new) = (packets::part_met(1, 0, 100, &[]), packets::part_met(2, 0, 100, &[]));
-    studio.file("stored", &old);
-    studio.file("old", &old);
-    studio.file("new", &new);
-    if fs::metadata(&studio.folder).unwrap().uid() != 0 {
-        println!("skipped: only root can act as two owners");
-        return;
-    }
-    fs::set_permissions(&studio.folder, fs::Permissions::from_mode(0o777)).unwrap();
-    let run = finish(studio.bound_command(&["save", "--opened", "old", "--new", "new", "stored"])).expect(2);
-    assert!(run.stderr.contains("Permission denied"), "{}", run.stderr);
-    assert_eq!(studio.bytes("stored"), old);
-    finish(studio.bound_command(&["save", "--opened", "none", "--new", "new", "first"])).expect(0);
-    studio.run(&["save", "--opened", "new", "--new", "old", "first"]).expect(0);
-    assert_eq!(fs::metadata(studio.path("first")).unwrap().uid(), 65_534);
-}
-
 /// A save of a larger file fails while it writes; the stored one must be as it was, and nothing left beside it.
 fn assert_failed_write(studio: &Studio, run: Run, old: &[u8], beside: &[String]) {
     let run = run.expect(2);
     assert!(run.stderr.contains("cannot write"), "{}", run.stderr);
-    assert!(run.stderr.ends_with("disk/stored' is as it was.\n"), "{}", run.stderr);
+    let kept = "Nothing was lost: 'disk/stored' is as it was.\nYour work is still in 'new'.\n";
+    assert!(run.stderr.ends_with(kept), "{}", run.stderr);
     assert_eq!(studio.bytes("disk/stored"), old);
     let names: Vec<String> = fs::read_dir(studio.path("disk"))
         .unwrap()
@@ -208,15 +220,14 @@ fn assert_failed_write(studio: &Studio, run: Run, old: &[u8], beside: &[String])
 }
 
 #[test]
+#[cfg_attr(not(as_root), ignore = "only root can mount a small disk")]
 fn a_full_disk_leaves_the_old_file() {
     let studio = Studio::new();
     fs::create_dir(studio.path("disk")).unwrap();
     let mut mount = Command::new("mount");
-    mount.args(["-t", "tmpfs", "-o", "size=64k", "tmpfs"]).arg(studio.path("disk")).stderr(Stdio::null());
-    if !mount.status().is_ok_and(|status| status.success()) {
-        println!("skipped: a small disk cannot be mounted here");
-        return;
-    }
+    mount.args(["-t", "tmpfs", "-o", "size=64k", "tmpfs"]).arg(studio.path("disk"));
+    let mounted = mount.status().is_ok_and(|status| status.success());
+    assert!(mounted, "a small disk must be mounted, which only root can do");
     let (old, new) = (packets::part_met(1, 1500, 100, &[]), packets::part_met(2, 3500, 100, &[]));
     studio.file("disk/stored", &old);
     studio.file("old", &old);

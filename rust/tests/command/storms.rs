@@ -9,7 +9,7 @@ use std::thread;
 use std::time::{Duration, Instant};
 
 use crate::packets;
-use crate::studio::{Studio, wait};
+use crate::studio::{PATIENT, Studio, wait};
 
 /// A part.met of nearly a megabyte, so that half of one would be seen.
 fn large(date: u32) -> Vec<u8> {
@@ -60,8 +60,10 @@ fn of_a_storm_of_saves_from_one_opened_copy_one_is_accepted() {
     let whole: HashSet<Vec<u8>> = new.iter().cloned().chain([old]).collect();
     let mut winners = Vec::new();
     let looks = watched(&studio, &whole, || {
-        let start =
-            |n| studio.spawn(&["save", "--opened", "opened copy", "--new", &format!("new {n}"), "stored"]);
+        let start = |n| {
+            let new = format!("new {n}");
+            studio.spawn(&["save", "--wait", PATIENT, "--opened", "opened copy", "--new", &new, "stored"])
+        };
         let saves: Vec<_> = (0..new.len()).map(start).collect();
         for (n, save) in saves.into_iter().enumerate() {
             let run = wait(save);

@@ -3,13 +3,15 @@
 use std::env;
 use std::ffi::OsStr;
 use std::fs::{self, File};
-use std::os::unix::fs::MetadataExt;
-use std::os::unix::process::CommandExt;
+use std::os::unix::fs::{MetadataExt, PermissionsExt};
 use std::path::{Path, PathBuf};
 use std::process::{self, Child, Command, Stdio};
 use std::sync::atomic::{AtomicU32, Ordering};
 
 pub const COMMAND: &str = env!("CARGO_BIN_EXE_ed2k");
+
+/// For how many seconds a save waits for others where many meet on a machine that may be busy.
+pub const PATIENT: &str = "300";
 
 /// What a run of the command ended with.
 pub struct Run {
@@ -29,16 +31,32 @@ impl Run {
 
 /// A folder of its own, with a space in its name, that is removed in the end.
 pub struct Studio {
+    room: PathBuf,
     pub folder: PathBuf,
 }
+
+/// Somebody at a window: a user, and the groups that he is in, his own first.
+#[derive(Clone, Copy)]
+pub struct Person {
+    pub user: u32,
+    pub groups: &'static [u32],
+}
+
+/// Whom a test that permissions bind acts as.
+pub const NOBODY: Person = Person { user: 65_534, groups: &[65_534] };
 
 impl Studio {
     pub fn new() -> Studio {
         static NUMBER: AtomicU32 = AtomicU32::new(0);
         let number = NUMBER.fetch_add(1, Ordering::Relaxed);
-        let folder = env::temp_dir().join(format!("ed2k test {} {number}", process::id()));
-        fs::create_dir(&folder).expect("a folder for the test");
-        Studio { folder }
+        let room = env::temp_dir().join(format!("ed2k test {} {number}", process::id()));
+        let folder = room.join("studio");
+        fs::create_dir_all(&folder).expect("a folder for the test");
+        for path in [&room, &folder] {
+            fs::set_permissions(path, fs::Permissions::from_mode(0o755))
+                .expect("a folder that others can reach");
+        }
+        Studio { room, folder }
     }
 
     pub fn path(&self, name: &str) -> PathBuf {
@@ -84,30 +102,50 @@ impl Studio {
         names
     }
 
-    /// A command that permissions bind: the tests may run as root, who would be bound by none, and then it runs as nobody,
-    /// from a copy that nobody can reach.
+    /// A command that permissions bind: the tests may run as root, who would be bound by none, and then it runs as nobody.
     pub fn bound_command(&self, words: &[&str]) -> Command {
-        let owner = fs::metadata(&self.folder).expect("the folder is there").uid();
-        if owner != 0 {
-            let words: Vec<&OsStr> = words.iter().map(OsStr::new).collect();
-            return self.command(&words);
+        if is_root() {
+            return self.command_of(NOBODY, 0o022, words);
         }
-        let copy = self.path("the command");
+        let words: Vec<&OsStr> = words.iter().map(OsStr::new).collect();
+        self.command(&words)
+    }
+
+    /// The command as this person calls it, with this umask.
+    pub fn command_of(&self, person: Person, umask: u32, words: &[&str]) -> Command {
+        assert!(is_root(), "only root can act as several users: run this test as root");
+        let groups: Vec<String> = person.groups.iter().map(u32::to_string).collect();
+        let mut command = Command::new("setpriv");
+        command.arg(format!("--reuid={}", person.user)).arg(format!("--regid={}", groups[0]));
+        match groups[1..].join(",").as_str() {
+            "" => command.arg("--clear-groups"),
+            more => command.arg(format!("--groups={more}")),
+        };
+        command.args(["sh", "-c", &format!("umask {umask:04o}; exec \"$@\""), "sh"]);
+        command.arg(self.copy_of_the_command()).args(words).current_dir(&self.folder).stdin(Stdio::null());
+        command
+    }
+
+    /// Where everybody can reach it. Another process copies: a file that this one has open for writing could not be run, and
+    /// a child started by another test meanwhile would hold it open.
+    fn copy_of_the_command(&self) -> PathBuf {
+        let copy = self.room.join("ed2k");
         if !copy.exists() {
-            // By another process: a file that this one has open for writing could not be run, and a child started by
-            // another test meanwhile would hold it open.
             let copied = Command::new("cp").args([OsStr::new(COMMAND), copy.as_os_str()]).status();
             assert!(copied.expect("cp runs").success());
         }
-        let mut command = Command::new(copy);
-        command.args(words).current_dir(&self.folder).stdin(Stdio::null()).uid(65_534).gid(65_534);
-        command
+        copy
     }
+}
+
+/// Whether the tests may act as anybody.
+pub fn is_root() -> bool {
+    fs::metadata("/proc/self").expect("a process has a user").uid() == 0
 }
 
 impl Drop for Studio {
     fn drop(&mut self) {
-        let _ = fs::remove_dir_all(&self.folder);
+        let _ = fs::remove_dir_all(&self.room);
     }
 }
 

@@ -83,19 +83,20 @@ impl Store<'_> {
             SaveError::Locked { holder } => {
                 Failure::Unfit(self.held_by(holder)).and_say(kept).and_say(self.locked_advice())
             }
-            SaveError::NotAFile => Failure::Unfit(format!("{name} is not a file")),
+            SaveError::NotAFile => Failure::Unfit(format!("{name} is not a file")).and_say(kept),
             SaveError::ReadOnly => Failure::Unfit(format!("{name} is read-only")).and_say(kept),
             SaveError::Unkept(unkept) => {
-                Failure::Unfit(format!("{name} is not saved: somebody would be locked out of it"))
+                let (harm, advice) = of_unkept(&unkept);
+                Failure::Unfit(format!("{name} is not saved: {harm}"))
                     .and_say(format!("In the new file {unkept}."))
                     .and_say(kept)
-                    .and_say(unkept_advice(&unkept).into())
+                    .and_say(advice.into())
             }
             SaveError::Unsynced(error) => {
                 Failure::file(format!("bring the folder of {name} to the disk"))(error)
                     .and_say(format!("{name} is saved, but a power cut might undo it."))
             }
-            SaveError::System { step, path, error } => self.not_allowed(step, &path, error).and_say(kept),
+            SaveError::System { step, path, error } => self.not_allowed(step, &path, error),
             _ => Failure::Unfit(format!("{name} cannot be saved: {error}")).and_say(kept),
         }
     }
@@ -103,13 +104,14 @@ impl Store<'_> {
     fn locked_advice(&self) -> String {
         let seconds = text::count(self.wait.as_secs() as usize, "second", "seconds");
         format!(
-            "After {seconds} no longer waited for. Try again, or give --wait SECONDS.\n\
+            "Waited {seconds} for it. Try again, or wait longer with --wait SECONDS.\n\
              If that process hangs, end it: the lock is then free by itself."
         )
     }
 
     fn not_allowed(&self, step: Step, path: &Path, error: io::Error) -> Failure {
         let name = text::file_name(self.name);
+        let lock_is_there = step == Step::Lock && path.symlink_metadata().is_ok();
         let helping = text::file_name(path.file_name().unwrap_or_default());
         let tried = match step {
             Step::Find => format!("find {name}"),
@@ -120,16 +122,28 @@ impl Store<'_> {
             Step::Replace => format!("replace {name}"),
             _ => format!("write {name}"),
         };
-        Failure::file(tried)(error)
+        let failure = Failure::file(tried)(error).and_say(self.nothing_lost());
+        if lock_is_there {
+            return failure
+                .and_say(format!("If no save of {name} is running, remove {helping} and try again."));
+        }
+        failure
     }
 }
 
-fn unkept_advice(unkept: &Unkept) -> &'static str {
+/// What the save would do, and what to do instead.
+fn of_unkept(unkept: &Unkept) -> (&'static str, &'static str) {
     match unkept {
-        Unkept::OwnerAndGroup { .. } | Unkept::Owner { .. } => {
-            "Ask its owner to save it, or to give it a group that you are both in."
+        Unkept::OwnerAndGroup { .. } | Unkept::Owner { .. } => (
+            "its owner would be locked out of it",
+            "Ask its owner to save it, or to give it a group that you are both in.",
+        ),
+        Unkept::Group { .. } => (
+            "its group would be locked out of it",
+            "Give it a group that you are in (chgrp), then save again.",
+        ),
+        Unkept::Attribute { .. } => {
+            ("it would lose an attribute", "Ask its owner or an administrator to save it.")
         }
-        Unkept::Group { .. } => "Give it a group that you are in (chgrp), then save again.",
-        Unkept::Attribute { .. } => "Ask its owner or an administrator to save it.",
     }
 }

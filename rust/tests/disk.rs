@@ -1,0 +1,215 @@
+//! Saving to the disk by the crate itself, as an editor does it.
+
+#[path = "support/packets.rs"]
+#[allow(dead_code)]
+mod packets;
+
+use std::fs::{self, Permissions};
+use std::io::{BufRead, BufReader, Read};
+use std::os::unix::fs::{MetadataExt, PermissionsExt};
+use std::path::{Path, PathBuf};
+use std::process::{self, Child, Command, Stdio};
+use std::sync::atomic::{AtomicU32, Ordering};
+use std::time::{Duration, Instant};
+use std::{env, thread};
+
+use ed2k::disk::{self, Holder, SaveError, Step, Stored, WAIT};
+use ed2k::{GapRecord, Refusal, put_gaps};
+
+/// Where many saves meet on a machine that may be busy.
+const PATIENT: Duration = Duration::from_secs(300);
+
+/// A folder of its own that everybody may write, and that is removed in the end.
+struct Folder(PathBuf);
+
+impl Folder {
+    fn new() -> Folder {
+        static NUMBER: AtomicU32 = AtomicU32::new(0);
+        let number = NUMBER.fetch_add(1, Ordering::Relaxed);
+        let folder = env::temp_dir().join(format!("ed2k disk test {} {number}", process::id()));
+        fs::create_dir(&folder).expect("a folder for the test");
+        fs::set_permissions(&folder, Permissions::from_mode(0o777)).unwrap();
+        Folder(folder)
+    }
+
+    fn path(&self, name: &str) -> PathBuf {
+        self.0.join(name)
+    }
+
+    fn names(&self) -> Vec<String> {
+        let entries = fs::read_dir(&self.0).unwrap();
+        let mut names: Vec<String> =
+            entries.map(|entry| entry.unwrap().file_name().into_string().unwrap()).collect();
+        names.sort();
+        names
+    }
+}
+
+impl Drop for Folder {
+    fn drop(&mut self) {
+        let _ = fs::remove_dir_all(&self.0);
+    }
+}
+
+fn part_met(date: u32) -> Vec<u8> {
+    packets::part_met(date, 0, 100, &[(0, 50)])
+}
+
+#[test]
+fn a_first_save_a_second_one_and_a_conflict() {
+    let folder = Folder::new();
+    let path = folder.path("stored");
+    let [old, mine, theirs] = [1, 2, 3].map(part_met);
+    let saved = disk::save(&path, b"", &old, WAIT).unwrap();
+    assert_eq!((saved.length, saved.owner_kept), (old.len(), true));
+    assert_eq!(disk::save(&path, &old, &theirs, WAIT).unwrap().length, theirs.len());
+    for opened in [&old[..], b"", &theirs[1..], &[&theirs[..], b"1"].concat()] {
+        let refused = disk::save(&path, opened, &mine, WAIT).unwrap_err();
+        assert!(matches!(refused, SaveError::Refused(Refusal::Conflict)), "{refused}");
+    }
+    let refused = disk::save(&path, &old, b"no part.met", WAIT).unwrap_err();
+    assert!(matches!(refused, SaveError::Refused(Refusal::Opening)), "{refused}");
+    assert_eq!((fs::read(&path).unwrap(), folder.names()), (theirs, vec!["stored".to_string()]));
+}
+
+#[test]
+fn a_lock_is_there_as_long_as_it_is_held_and_names_its_holder() {
+    let folder = Folder::new();
+    let path = folder.path("stored");
+    fs::write(&path, part_met(1)).unwrap();
+    let stored = Stored::lock(&path, WAIT).unwrap();
+    assert_eq!(stored.path(), fs::canonicalize(&path).unwrap());
+    assert_eq!(folder.names(), [".stored.lock", "stored"]);
+    let refused = disk::save(&path, &part_met(1), &part_met(2), Duration::from_millis(200)).unwrap_err();
+    let SaveError::Locked { holder } = refused else { panic!("{refused}") };
+    let user = fs::metadata("/proc/self").unwrap().uid();
+    assert_eq!(holder, Some(Holder { process: process::id(), user: Some(user) }));
+    let words = refused.to_string();
+    assert!(
+        words.starts_with(&format!("the file is being saved by process {} of user ", process::id())),
+        "{words}"
+    );
+    stored.save(&part_met(1), &part_met(2)).unwrap();
+    assert_eq!(stored.read().unwrap(), part_met(2));
+    drop(stored);
+    assert_eq!(folder.names(), ["stored"]);
+    disk::save(&path, &part_met(2), &part_met(3), Duration::ZERO).unwrap();
+}
+
+#[test]
+fn who_waits_gets_the_lock_when_it_is_let_go() {
+    let folder = Folder::new();
+    let path = folder.path("stored");
+    let stored = Stored::lock(&path, WAIT).unwrap();
+    thread::scope(|scope| {
+        let waiting = scope.spawn(|| disk::save(&path, b"", &part_met(1), PATIENT));
+        thread::sleep(Duration::from_millis(300));
+        assert!(!waiting.is_finished() && !stored.is_there());
+        drop(stored);
+        waiting.join().unwrap().unwrap();
+    });
+    assert_eq!(fs::read(&path).unwrap(), part_met(1));
+}
+
+#[test]
+fn what_the_system_does_not_allow_is_told_by_its_step() {
+    let folder = Folder::new();
+    let path = folder.path("stored");
+    let step = |refused: Result<_, SaveError>| match refused.map(|_: disk::Saved| ()) {
+        Err(SaveError::System { step, .. }) => step,
+        other => panic!("{other:?}"),
+    };
+    let save = |path: &Path| disk::save(path, b"", &part_met(1), Duration::ZERO);
+    assert_eq!(step(save(&folder.path("no folder/stored"))), Step::Find);
+    fs::create_dir(folder.path(".stored.saving")).unwrap();
+    assert_eq!(step(save(&path)), Step::CleanUp);
+    fs::rename(folder.path(".stored.saving"), folder.path(".stored.lock")).unwrap();
+    assert_eq!(step(save(&path)), Step::Lock);
+    fs::remove_dir(folder.path(".stored.lock")).unwrap();
+    let unread = Stored::lock(&path, WAIT).unwrap().read();
+    assert!(matches!(unread, Err(SaveError::System { step: Step::Read, .. })), "{unread:?}");
+    assert!(matches!(save(&folder.0), Err(SaveError::NotAFile)));
+    fs::write(&path, b"").unwrap();
+    fs::set_permissions(&path, Permissions::from_mode(0o444)).unwrap();
+    assert!(matches!(save(&path), Err(SaveError::ReadOnly)));
+    assert_eq!((fs::read(&path).unwrap(), folder.names()), (vec![], vec!["stored".to_string()]));
+}
+
+/// Threads of one program take turns as programs do.
+#[test]
+fn marks_of_many_threads_all_count() {
+    const THREADS: u64 = 8;
+    const MARKS: u64 = 12;
+    let folder = Folder::new();
+    let path = folder.path("stored");
+    let size = 2 * THREADS as u32;
+    fs::write(&path, packets::part_met(1, 0, size, &[(0, size)])).unwrap();
+    let mark = |n: u64| -> Result<(), Box<dyn std::error::Error>> {
+        let stored = Stored::lock(&path, PATIENT)?;
+        let opened = stored.read()?;
+        let mut record = GapRecord::read(&opened)?;
+        record.mark(2 * n, 2 * n + 1)?;
+        stored.save(&opened, &put_gaps(&opened, &record)?)?;
+        Ok(())
+    };
+    thread::scope(|scope| {
+        for n in 0..THREADS {
+            scope.spawn(move || (0..MARKS).for_each(|_| mark(n).unwrap()));
+        }
+    });
+    assert_eq!(GapRecord::read(&fs::read(&path).unwrap()).unwrap().missing(), THREADS);
+    assert_eq!(folder.names(), ["stored"]);
+}
+
+/// Holds the lock of the file that HELD names, until its standard input ends. Run by the test below as another user.
+#[test]
+#[ignore = "part of a_lock_is_open_to_every_user, which runs it as another user"]
+fn hold() {
+    let path = env::var_os("HELD").expect("HELD names a file");
+    let stored = Stored::lock(&path, WAIT).unwrap();
+    println!("\nheld");
+    std::io::stdin().read_to_end(&mut vec![]).unwrap();
+    drop(stored);
+}
+
+/// The same test program as another user, who shares nothing by default, and what it prints.
+fn holder(user: u32, program: &Path, path: &Path) -> (Child, impl Sized) {
+    let mut command = Command::new("setpriv");
+    command.args([format!("--reuid={user}"), format!("--regid={user}"), "--clear-groups".into()]);
+    command.args(["sh", "-c", "umask 0077; exec \"$@\"", "sh"]).arg(program);
+    command.args(["--ignored", "--exact", "hold", "--nocapture"]).env("HELD", path);
+    let mut child = command.stdin(Stdio::piped()).stdout(Stdio::piped()).spawn().expect("setpriv runs");
+    let mut lines = BufReader::new(child.stdout.take().unwrap()).lines();
+    assert!(lines.any(|line| line.unwrap() == "held"), "only root can act as several users");
+    (child, lines)
+}
+
+#[test]
+#[cfg_attr(not(as_root), ignore = "only root can act as several users")]
+fn a_lock_is_open_to_every_user() {
+    let folder = Folder::new();
+    let (path, program) = (folder.path("stored"), folder.path("program"));
+    let copied = Command::new("cp").arg(env::current_exe().unwrap()).arg(&program).status();
+    assert!(copied.expect("cp runs").success());
+    let (mut anna, _printed) = holder(5_001, &program, &path);
+    let lock = fs::metadata(folder.path(".stored.lock")).unwrap();
+    assert_eq!((lock.uid(), lock.mode() & 0o7777, lock.len()), (5_001, 0o666, 0));
+    let refused = Stored::lock(&path, Duration::ZERO).unwrap_err();
+    let SaveError::Locked { holder: Some(named) } = refused else { panic!("{refused}") };
+    assert_eq!(named, Holder { process: anna.id(), user: Some(5_001) });
+    assert_eq!(named.to_string(), format!("process {} of user 5001", anna.id()));
+
+    // Killed, Anna leaves her lock behind, and Ben takes it.
+    anna.kill().unwrap();
+    anna.wait().unwrap();
+    assert_eq!(folder.names(), [".stored.lock", "program"]);
+    let started = Instant::now();
+    let (mut ben, _printed) = holder(5_002, &program, &path);
+    assert!(started.elapsed() < WAIT);
+    let refused = Stored::lock(&path, Duration::ZERO).unwrap_err();
+    let SaveError::Locked { holder: Some(named) } = refused else { panic!("{refused}") };
+    assert_eq!(named, Holder { process: ben.id(), user: Some(5_002) });
+    drop(ben.stdin.take());
+    assert!(ben.wait().unwrap().success());
+    assert_eq!(folder.names(), ["program"]);
+}
