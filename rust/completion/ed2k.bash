@@ -23,7 +23,7 @@ _ed2k() {
         return
         ;;
     --name | --min | --max)
-        compopt +o default 2> /dev/null # no file is meant
+        compopt +o default 2> /dev/null || : # no file is meant
         return
         ;;
     --opened | --new)
@@ -37,7 +37,7 @@ _ed2k() {
         case ${COMP_WORDS[place]} in
         --) options=no ;;
         --*) ;;
-        *) ((operands++)) ;;
+        *) operands=$((operands + 1)) ;;
         esac
     done
 

@@ -123,7 +123,7 @@ fn help_about(words: &[OsString], output: &mut dyn Write) -> Outcome {
 fn help(output: &mut dyn Write) -> Outcome {
     output.write_all(HELP.as_bytes())?;
     for refusal in ed2k::Refusal::ALL {
-        writeln!(output, "{}", text::wrapped(&format!("{:>4}  ", refusal.number()), refusal.meaning()))?;
+        writeln!(output, "{}", text::wrapped(&format!("{:>4}  ", refusal.number()), refusal.meaning(), 6))?;
     }
     Ok(())
 }

@@ -138,15 +138,15 @@ fn beginning(bytes: &[u8], most: usize) -> (&[u8], &'static str) {
 /// How many columns a line has at most.
 const COLUMNS: usize = 80;
 
-/// Words within 80 columns: the first line begins with `label`, the others below what follows it. A word that is longer, as
-/// the name of a file may be, stays whole.
-pub fn wrapped(label: &str, words: &str) -> String {
+/// Words within 80 columns: the first line begins with `label`, the others with `hang` spaces. A word that is longer, as the
+/// name of a file may be, stays whole.
+pub fn wrapped(label: &str, words: &str, hang: usize) -> String {
     let mut lines = vec![label.to_string()];
     let mut fresh = true;
     for word in words.split(' ') {
         let line = lines.last_mut().expect("there is always a line");
         if !fresh && line.chars().count() + 1 + word.chars().count() > COLUMNS {
-            lines.push(format!("{}{word}", " ".repeat(label.len())));
+            lines.push(format!("{}{word}", " ".repeat(hang)));
         } else {
             line.push_str(if fresh { "" } else { " " });
             line.push_str(word);
@@ -156,14 +156,9 @@ pub fn wrapped(label: &str, words: &str) -> String {
     lines.join("\n")
 }
 
-/// The lines of a message on standard error, each wrapped.
+/// The lines of a message on standard error, each wrapped. A line that begins with a space goes on with the one before.
 pub fn message(lines: &str) -> String {
-    let label = "ed2k: ";
-    let wrapped = |line: &str| match line.strip_prefix(label) {
-        Some(words) => wrapped(label, words),
-        None => wrapped("", line),
-    };
-    lines.lines().map(|line| wrapped(line) + "\n").collect()
+    lines.lines().map(|line| wrapped("", line, 2) + "\n").collect()
 }
 
 /// A line within 80 columns: what does not fit stands in lines below, behind `hang` spaces. It is cut before a space where
@@ -236,14 +231,12 @@ mod tests {
 
     #[test]
     fn wrapped_lines_have_at_most_80_columns() {
-        let lines = wrapped("   5  ", &"word ".repeat(40));
+        let lines = wrapped("   5  ", &"word ".repeat(40), 6);
         assert!(lines.lines().all(|line| line.len() <= 80));
         assert!(lines.lines().skip(1).all(|line| line.starts_with("      ")));
         let name = "n".repeat(100);
-        assert_eq!(
-            message(&format!("ed2k: '{name}' is gone\nso\n")),
-            format!("ed2k: '{name}'\n      is gone\nso\n")
-        );
+        let told = message(&format!("ed2k: '{name}' is gone\nso\n"));
+        assert_eq!(told, format!("ed2k:\n  '{name}'\n  is gone\nso\n"));
     }
 
     #[test]
