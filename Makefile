@@ -1,7 +1,7 @@
 # make            the proved archive and the command
 # make test       what the gate runs, but for its last step, `rt ci`
 # make install    archive, header, ed2k.pc, command, manual page and bash completion under PREFIX (with DESTDIR before it)
-# make uninstall  removes them
+# make uninstall  takes them away again
 # make clean      removes what was built, but not what was proved
 #
 # The archive is made by the Rattle kit (`rt`), as rust/build.rs asks for it. With ED2K_ARCHIVE=FILE that archive is taken.
@@ -9,7 +9,11 @@
 PREFIX = /usr/local
 DESTDIR =
 
-# cargo takes a relative folder from where it is run, which is rust/.
+# cargo is run in rust/.
+ifneq ($(ED2K_ARCHIVE),)
+override ED2K_ARCHIVE := $(abspath $(ED2K_ARCHIVE))
+export ED2K_ARCHIVE
+endif
 BUILT := $(if $(filter /%,$(CARGO_TARGET_DIR)),$(CARGO_TARGET_DIR),rust/$(or $(CARGO_TARGET_DIR),target))
 COMMAND := $(BUILT)/release/ed2k
 ARCHIVE := $(or $(ED2K_ARCHIVE),target/staticlib/libed2k.a)

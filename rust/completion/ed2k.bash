@@ -22,7 +22,7 @@ _ed2k() {
         COMPREPLY=($(compgen -W 'Audio Video Image Pro Doc Col' -- "$current"))
         return
         ;;
-    --name | --min | --max)
+    --name | --min | --max | --wait)
         compopt +o default 2> /dev/null || : # no file is meant
         return
         ;;
@@ -45,9 +45,9 @@ _ed2k() {
         local offered='--help'
         case ${COMP_WORDS[1]} in
         show | gaps) offered+=' --json' ;;
-        mark) offered+=' --dry-run' ;;
+        mark) offered+=' --dry-run --wait' ;;
         search) offered+=' --name --type --min --max' ;;
-        save) offered+=' --opened --new' ;;
+        save) offered+=' --wait --opened --new' ;;
         esac
         COMPREPLY=($(compgen -W "$offered" -- "$current"))
         return

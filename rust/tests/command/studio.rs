@@ -17,6 +17,7 @@ pub const PATIENT: &str = "300";
 pub struct Run {
     pub status: i32,
     pub stdout: String,
+    /// Lines that were wrapped are whole here.
     pub stderr: String,
 }
 
@@ -165,7 +166,7 @@ fn ended(output: process::Output) -> Run {
     Run {
         status: output.status.code().expect("the command was not killed"),
         stdout: text(output.stdout),
-        stderr: text(output.stderr),
+        stderr: text(output.stderr).replace("\n  ", " "),
     }
 }
 

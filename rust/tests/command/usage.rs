@@ -209,16 +209,50 @@ fn what_is_printed_is_within_80_columns() {
         assert_eq!(long_line(&shown), None, "{words:?}");
         assert!(shown.lines().count() > 15, "{shown}");
     }
-    for (file, kind) in [("tags", "p"), ("tags", "k"), ("status", "t"), ("query", "c"), ("status", "s")] {
-        assert_eq!(long_line(&studio.run(&["show", kind, file]).expect(1).stderr), None);
-    }
+    let overlong = "a name of a file that is not there ".repeat(9);
     for words in [
-        &["read", "x", "tags"][..],
+        &["show", "p", "tags"][..],
+        &["show", "k", "tags"],
+        &["show", "s", "status"],
+        &["read", "x", "tags"],
+        &["read", "s", &overlong],
         &["search", "tags"],
-        &["save", "--opened", "tags", "--new", "tags", "tags"],
+        &["save", "--opened", "tags", "--new", "part.met", "part.met"],
+        &["save", "--opened", "tags", "--new", "query", &overlong],
+        &["mark", "part.met", "100", "200"],
     ] {
-        assert_eq!(long_line(&studio.run(words).expect(2).stderr), None);
+        let told = studio.command(&words.iter().map(OsStr::new).collect::<Vec<_>>()).output().unwrap();
+        let told = String::from_utf8(told.stderr).unwrap();
+        assert!(told.starts_with("ed2k: "), "{told}");
+        assert_eq!(long_line(&told), None, "{words:?}");
     }
+}
+
+#[test]
+fn new_may_be_standard_input() {
+    let studio = Studio::new();
+    let (old, new) = (packets::part_met(1, 0, 100, &[]), packets::part_met(2, 0, 100, &[]));
+    studio.file("old", &old);
+    studio.file("new", &new);
+    studio.file("damaged", &new[..9]);
+    let save = |opened: &str, input: &str| {
+        let mut command = studio.command(&["save", "--opened", opened, "--new=-", "stored"].map(OsStr::new));
+        command.stdin(fs::File::open(studio.path(input)).unwrap());
+        finish(command)
+    };
+    assert_eq!(
+        save("none", "old").expect(0).stdout,
+        format!("saved: 'stored' is now standard input, {} bytes\n", old.len())
+    );
+    save("old", "new").expect(0);
+    assert_eq!(studio.bytes("stored"), new);
+    let run = save("old", "old").expect(1);
+    assert!(run.stderr.contains("the save of standard input is refused 11"), "{}", run.stderr);
+    assert!(run.stderr.contains("your work is still with who sent it"), "{}", run.stderr);
+    let run = save("new", "damaged").expect(1);
+    assert!(run.stderr.contains("standard input is refused 1"), "{}", run.stderr);
+    assert_eq!(studio.bytes("stored"), new);
+    assert_eq!(studio.names(), ["damaged", "new", "old", "stored"]);
 }
 
 #[test]

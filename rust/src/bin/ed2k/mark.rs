@@ -109,11 +109,13 @@ impl Marked {
         let name = text::file_name(store.name);
         let Some(saved) = saved else {
             self.report(output)?;
-            return Ok(writeln!(output, "these bytes had arrived before: {name} is as it was")?);
+            let line = format!("these bytes had arrived before: {name} is as it was");
+            return Ok(write!(output, "{}", text::message(&line))?);
         };
         let mut told = || -> Outcome {
             self.report(output)?;
-            writeln!(output, "saved    {name}, {}", text::bytes(saved.length as u64))?;
+            let line = format!("saved    {name}, {}", text::bytes(saved.length as u64));
+            write!(output, "{}", text::message(&line))?;
             store.tell_owner(saved, output)?;
             Ok(output.flush()?)
         };

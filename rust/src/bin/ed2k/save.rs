@@ -22,6 +22,7 @@ meantime, nothing is changed and the save is refused as a conflict (11).
 A first save: where STORED is not there, it counts as empty, and so does OLD. So
 NEW is stored if neither is there (or OLD is empty), and it is a conflict if
 only one of them is. Neither OLD nor NEW may be STORED itself by another name.
+NEW may be - for standard input.
 
 Saves of one file wait for each other by a lock on '.STORED.lock', an empty file
 beside STORED that is there during the save; OLD and NEW are read before. Who
@@ -50,10 +51,10 @@ pub fn run(words: Vec<OsString>, output: &mut dyn Write) -> Outcome {
     if files::are_one(opened, &stored) {
         return Err(arguments.wrong(OPENED_IS_STORED.into()));
     }
-    if files::are_one(new, &stored) {
+    if new != "-" && files::are_one(new, &stored) {
         return Err(arguments.wrong(NEW_IS_STORED.into()));
     }
-    let store = Store { name: &stored, wait: store::wait(&arguments)?, work: Some(new) };
+    let store = Store { name: &stored, wait: store::wait(&arguments)?, work: (new != "-").then_some(new) };
     let save = Save { opened, new, store };
     save.tell(save.run()?, output).map_err(|failure| {
         let line = format!("{} is saved.", text::file_name(&stored));
@@ -78,7 +79,7 @@ struct Save<'a> {
 impl Save<'_> {
     /// OLD and NEW are read before the lock is taken: they may be pipes, and who is waited for must not hold up others.
     fn run(&self) -> Result<Saved, Failure> {
-        let new = files::read(Kind::PartMet, self.new)?;
+        let new = files::read_input(Kind::PartMet, self.new)?;
         let room = self.room();
         let opened = files::read_or_empty(room, self.opened)?;
         if opened.len() == room {
@@ -100,28 +101,37 @@ impl Save<'_> {
     }
 
     fn tell(&self, saved: Saved, output: &mut dyn Write) -> Outcome {
-        let (stored, new) = (text::file_name(self.store.name), text::file_name(self.new));
-        writeln!(output, "saved: {stored} is now {new}, {}", text::bytes(saved.length as u64))?;
+        let (stored, new) = (text::file_name(self.store.name), text::input_name(self.new));
+        let line = format!("saved: {stored} is now {new}, {}", text::bytes(saved.length as u64));
+        write!(output, "{}", text::message(&line))?;
         self.store.tell_owner(saved, output)?;
         Ok(output.flush()?)
     }
 
     fn refused(&self, refusal: Refusal, stored_is_there: bool) -> Failure {
-        let (new, kept) = (text::file_name(self.new), text::file_name(self.store.name));
+        let (new, kept) = (text::input_name(self.new), text::file_name(self.store.name));
         if refusal != Refusal::Conflict {
             return Failure::Refused(new, refusal, format!("Nothing was saved: {kept} is as it was.\n"));
         }
         Failure::Refused(format!("the save of {new}"), refusal, self.conflict(stored_is_there))
     }
 
+    /// Where the person's work is. What came by standard input is nowhere else that we know of.
+    fn work(&self) -> String {
+        match self.store.work {
+            Some(new) => format!("your work is still in {}", text::file_name(new)),
+            None => "your work is still with who sent it to standard input".into(),
+        }
+    }
+
     /// A conflict in plain words.
     fn conflict(&self, stored_is_there: bool) -> String {
-        let (opened, new, kept) =
-            (text::file_name(self.opened), text::file_name(self.new), text::file_name(self.store.name));
+        let (opened, work, kept) =
+            (text::file_name(self.opened), self.work(), text::file_name(self.store.name));
         if !stored_is_there {
             return format!(
                 "{kept} is not there, but {opened}, the copy of what was opened, is not empty.\n\
-                 Nothing was lost: nothing was written, and your work is still in {new}.\n\
+                 Nothing was lost: nothing was written, and {work}.\n\
                  For a first save, --opened names a file that is empty or not there.\n"
             );
         }
@@ -132,7 +142,7 @@ impl Save<'_> {
         };
         format!(
             "{happened}\n\
-             Nothing was lost: {kept} is untouched, and your work is still in {new}.\n\
+             Nothing was lost: {kept} is untouched, and {work}.\n\
              To keep both, open {kept} again, make your change there, and save that.\n"
         )
     }

@@ -41,7 +41,8 @@ impl Store<'_> {
         let silent = SILENT.min(self.wait);
         let locked = match Stored::lock(self.name, silent) {
             Err(SaveError::Locked { holder }) if silent < self.wait => {
-                let _ = writeln!(io::stderr(), "ed2k: {}; waiting for it", self.held_by(holder));
+                let line = format!("ed2k: {}; waiting for it", self.held_by(holder));
+                let _ = write!(io::stderr(), "{}", text::message(&line));
                 Stored::lock(self.name, self.wait - silent)
             }
             other => other,
@@ -70,7 +71,8 @@ impl Store<'_> {
     pub fn tell_owner(&self, saved: Saved, output: &mut dyn Write) -> Outcome {
         if !saved.owner_kept {
             let name = text::file_name(self.name);
-            writeln!(output, "{name} belongs to you now; its group and permissions are as they were")?;
+            let line = format!("{name} belongs to you now; its group and permissions are as they were");
+            write!(output, "{}", text::message(&line))?;
         }
         Ok(())
     }

@@ -156,7 +156,7 @@ pub fn wrapped(label: &str, words: &str, hang: usize) -> String {
     lines.join("\n")
 }
 
-/// The lines of a message on standard error, each wrapped. A line that begins with a space goes on with the one before.
+/// The lines of a message to people, each wrapped. A line that begins with a space goes on with the one before.
 pub fn message(lines: &str) -> String {
     lines.lines().map(|line| wrapped("", line, 2) + "\n").collect()
 }
