@@ -15,9 +15,9 @@ static void read_status(void)
     uint64_t fields[ED2K_FIELDS] = {0};
     uint8_t number = ed2k_read(ED2K_SERVER_LINK, packet, sizeof packet, fields, ED2K_FIELDS);
     printf("server status: number %u, opcode 0x%02" PRIX64 ", shape %" PRIu64 ", users %" PRIu64 ", files %" PRIu64 "\n", number,
-           fields[1], fields[2], fields[3], fields[4]);
+           fields[ED2K_FIELD_OPCODE], fields[ED2K_FIELD_SHAPE], fields[ED2K_FIELD_TWO_DWORDS], fields[ED2K_FIELD_TWO_DWORDS + 1]);
     number = ed2k_read(ED2K_SERVER_LINK, packet, sizeof packet - 1, fields, ED2K_FIELDS);
-    printf("one byte less: number %u\n", number);
+    printf("one byte less: number %u, %s\n", number, ed2k_meaning(number));
 }
 
 /* The query "last" AND (size at least 1000), in `query`; how many bytes it has. */
@@ -26,10 +26,10 @@ static size_t compose_query(uint8_t *query, size_t room)
     uint8_t keyword[64], limit[64];
     uint64_t keyword_length = 0, limit_length = 0, length = 0;
     uint8_t number = ed2k_write_keyword(TEXT("last"), keyword, sizeof keyword, &keyword_length);
-    if (number == 0)
-        number = ed2k_write_limit(1000, 1, TEXT("\x02"), limit, sizeof limit, &limit_length);
-    if (number == 0)
-        number = ed2k_write_join(0, keyword, keyword_length, limit, limit_length, query, room, &length);
+    if (number == ED2K_ACCEPTED)
+        number = ed2k_write_limit(1000, ED2K_BOUND_MIN, TEXT("\x02"), limit, sizeof limit, &limit_length);
+    if (number == ED2K_ACCEPTED)
+        number = ed2k_write_join(ED2K_OPERATOR_AND, keyword, keyword_length, limit, limit_length, query, room, &length);
     printf("query: number %u, %" PRIu64 " bytes\n", number, length);
     return length;
 }
@@ -40,9 +40,9 @@ static size_t compose_two_tags(const char *name, uint32_t size, uint8_t *tags, s
     uint64_t name_length = 0, size_length = 0;
     const uint8_t *text = (const uint8_t *)name;
     uint8_t number = ed2k_write_text_tag(TEXT("\x01"), text, strlen(name), tags, room, &name_length);
-    if (number == 0)
+    if (number == ED2K_ACCEPTED)
         number = ed2k_write_dword_tag(TEXT("\x02"), size, tags + name_length, room - name_length, &size_length);
-    return number == 0 ? name_length + size_length : 0;
+    return number == ED2K_ACCEPTED ? name_length + size_length : 0;
 }
 
 /* A tag list of a name and a size, in `list`; how many bytes it has. */
@@ -56,19 +56,27 @@ static size_t compose_tags(uint8_t *list, size_t room)
     return length;
 }
 
-/* The tags of a list that was read, of which `place` holds the offset, the end and the count. */
-static void print_tags(const uint8_t *bytes, size_t length, const uint64_t *place)
+/* The tags of a list that was read. */
+static void print_tags(const uint8_t *bytes, size_t length, const uint64_t *list)
 {
-    size_t at = place[0];
-    for (uint64_t left = place[2]; left > 0; left--) {
+    size_t at = list[ED2K_LIST_AT];
+    for (uint64_t left = list[ED2K_LIST_COUNT]; left > 0; left--) {
         uint64_t tag[ED2K_FIELDS];
-        if (ed2k_read_tag(bytes, length, at, tag, ED2K_FIELDS) != 0)
+        if (ed2k_read_tag(bytes, length, at, tag, ED2K_FIELDS) != ED2K_ACCEPTED)
             return;
-        if (tag[1] == 2)
-            printf("  tag %02X: \"%.*s\"\n", bytes[tag[2]], (int)tag[5], (const char *)bytes + tag[4]);
-        if (tag[1] == 3)
-            printf("  tag %02X: %" PRIu64 "\n", bytes[tag[2]], tag[4]);
-        at = tag[0];
+        const uint64_t *value = tag + ED2K_ITEM_TAG_VALUE;
+        printf("  tag %02X: ", bytes[tag[ED2K_ITEM_TAG_NAME]]);
+        switch (tag[ED2K_ITEM_TAG_TYPE]) {
+        case ED2K_TAG_TEXT:
+            printf("\"%.*s\"\n", (int)value[ED2K_TEXT_LENGTH], (const char *)bytes + value[ED2K_TEXT_AT]);
+            break;
+        case ED2K_TAG_DWORD:
+            printf("%" PRIu64 "\n", *value);
+            break;
+        default:
+            printf("of another type\n");
+        }
+        at = tag[ED2K_ITEM_NEXT];
     }
 }
 
@@ -78,8 +86,8 @@ static void search(void)
     size_t query_length = compose_query(query, sizeof query);
     size_t list_length = compose_tags(list, sizeof list);
     uint64_t fields[ED2K_FIELDS];
-    if (ed2k_read(ED2K_LONE_TAGS, list, list_length, fields, ED2K_FIELDS) == 0)
-        print_tags(list, list_length, fields);
+    if (ed2k_read(ED2K_LONE_TAGS, list, list_length, fields, ED2K_FIELDS) == ED2K_ACCEPTED)
+        print_tags(list, list_length, fields + ED2K_FIELD_LONE_TAGS);
     uint8_t truth = 0;
     uint8_t number = ed2k_truth(query, query_length, list, list_length, &truth);
     printf("query on tag list: number %u, truth %u\n", number, truth);
@@ -118,16 +126,17 @@ static void offer(void)
     uint8_t packet[256];
     uint64_t fields[ED2K_FIELDS];
     size_t length = compose_offer(packet, sizeof packet);
-    if (ed2k_read(ED2K_SERVER_LINK, packet, length, fields, ED2K_FIELDS) != 0)
+    if (ed2k_read(ED2K_SERVER_LINK, packet, length, fields, ED2K_FIELDS) != ED2K_ACCEPTED)
         return;
-    size_t at = fields[3];
-    for (uint64_t left = fields[5]; left > 0; left--) {
+    const uint64_t *records = fields + ED2K_FIELD_RECORDS;
+    size_t at = records[ED2K_LIST_AT];
+    for (uint64_t left = records[ED2K_LIST_COUNT]; left > 0; left--) {
         uint64_t record[ED2K_FIELDS];
-        if (ed2k_read_record(packet, length, at, record, ED2K_FIELDS) != 0)
+        if (ed2k_read_record(packet, length, at, record, ED2K_FIELDS) != ED2K_ACCEPTED)
             return;
-        printf("file %02X.., port %" PRIu64 "\n", packet[record[1]], record[3]);
-        print_tags(packet, length, record + 4);
-        at = record[0];
+        printf("file %02X.., port %" PRIu64 "\n", packet[record[ED2K_ITEM_RECORD_HASH]], record[ED2K_ITEM_RECORD_PORT]);
+        print_tags(packet, length, record + ED2K_ITEM_RECORD_TAGS);
+        at = record[ED2K_ITEM_NEXT];
     }
 }
 
@@ -139,8 +148,9 @@ static void mark(void)
     printf("all missing: number %u\n", number);
     number = ed2k_mark(gaps, ED2K_GAP_NUMBERS, 200, 500, &missing);
     printf("mark 200 up to 500: number %u, missing %" PRIu64 "\n", number, missing);
-    for (uint64_t i = 0; i < gaps[1]; i++)
-        printf("  gap %" PRIu64 " up to %" PRIu64 "\n", gaps[2 + 2 * i], gaps[3 + 2 * i]);
+    const uint64_t *gap = gaps + ED2K_GAPS_FIRST;
+    for (uint64_t left = gaps[ED2K_GAPS_COUNT]; left > 0; left--, gap += 2)
+        printf("  gap %" PRIu64 " up to %" PRIu64 "\n", gap[0], gap[1]);
     number = ed2k_mark(gaps, ED2K_GAP_NUMBERS, 900, 1001, &missing);
     printf("mark 900 up to 1001: number %u, missing %" PRIu64 "\n", number, missing);
 }
