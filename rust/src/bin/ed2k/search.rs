@@ -19,8 +19,8 @@ line, in the order of the file. A model without a name is shown by its hash.
 How many were found is written to standard error.
 
   --name TEXT   TEXT occurs in the name, with the same capitals and spaces
-  --type TYPE   the type is TYPE: Audio, Video, Image, Pro, Doc or Col, or
-                another that a client wrote
+  --type TYPE   the type is TYPE, as Audio, Video, Image, Pro, Doc or Col; a
+                model without a type in the file is not found
   --min SIZE    the model has at least SIZE bytes
   --max SIZE    the model has at most SIZE bytes
 
