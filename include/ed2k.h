@@ -337,7 +337,8 @@ uint8_t ed2k_mark(uint64_t *gaps, size_t gap_numbers, uint64_t start, uint64_t e
 uint8_t ed2k_put_gaps(const uint8_t *file, size_t length, const uint64_t *gaps, size_t gap_numbers, uint8_t *output,
                       size_t room, uint64_t *written);
 
-/* Saves a part.met: the reader's number for `saved`; 11 if `stored` is not, byte for byte, the `opened` file; 10. */
+/* Saves a part.met: the reader's number for `saved`; 11 if `stored` is not, byte for byte, the `opened` file; 10.
+ * No file is touched: examples/saving.c does this with one on the disk, from the lock to the renaming. */
 uint8_t ed2k_save(const uint8_t *stored, size_t stored_length, const uint8_t *opened, size_t opened_length, const uint8_t *saved,
                   size_t saved_length, uint8_t *output, size_t room, uint64_t *written);
 

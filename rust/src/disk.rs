@@ -39,7 +39,8 @@
 //! # Ok::<(), Box<dyn std::error::Error>>(())
 //! ```
 //!
-//! To change a file by itself, as `ed2k mark` does, [`Stored`] holds the lock from the reading to the saving.
+//! To change a file by itself, as `ed2k mark` does, [`Stored`] holds the lock from the reading to the saving. All of this is for
+//! Linux, as the archive is.
 
 mod error;
 mod keeping;

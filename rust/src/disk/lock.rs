@@ -168,11 +168,14 @@ fn holder(lock: &Metadata) -> Option<Holder> {
     Some(Holder { process, user: users::of_process(process) })
 }
 
-/// The process of a line of /proc/locks whose file fits: `1: FLOCK  ADVISORY  WRITE 834 fe:00:1310 0 EOF`.
+/// The process of a line of /proc/locks whose file fits: `1: FLOCK  ADVISORY  WRITE 834 fe:00:1310 0 EOF`. One that this
+/// part of the machine does not see has the number 0.
 fn process_of(line: &str, fits: &dyn Fn(&str) -> bool) -> Option<u32> {
     let words: Vec<&str> = line.split_whitespace().collect();
     match words[..] {
-        [_, "FLOCK", _, _, process, at, ..] if fits(at) => process.parse().ok(),
+        [_, "FLOCK", _, _, process, at, ..] if fits(at) => {
+            process.parse().ok().filter(|process| *process != 0)
+        }
         _ => None,
     }
 }

@@ -30,6 +30,7 @@ unsafe extern "C" {
 const AT_FDCWD: c_int = -100;
 const AT_SYMLINK_FOLLOW: c_int = 0x400;
 
+const ENOSYS: i32 = 38;
 const ENODATA: i32 = 61;
 const EOPNOTSUPP: i32 = 95;
 
@@ -46,7 +47,7 @@ pub(super) fn attribute_names(file: &File) -> io::Result<Vec<CString>> {
             let each = names[..length].split_inclusive(|byte| *byte == 0);
             Ok(each.filter_map(|name| CStr::from_bytes_with_nul(name).ok()).map(CString::from).collect())
         }
-        Err(error) if error.raw_os_error() == Some(EOPNOTSUPP) => Ok(vec![]),
+        Err(error) if matches!(error.raw_os_error(), Some(EOPNOTSUPP | ENOSYS)) => Ok(vec![]),
         Err(error) => Err(error),
     }
 }
