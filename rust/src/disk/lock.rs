@@ -61,8 +61,7 @@ pub(super) struct Lock {
 }
 
 impl Lock {
-    /// Takes the lock, and waits at most so long for it. Its last holder may have removed the file while we waited, and
-    /// another process may have made and locked a new one: only a lock on the file that is there now counts.
+    /// Takes the lock, and waits at most so long for it.
     pub(super) fn take(path: PathBuf, wait: Duration) -> Result<Lock, NotTaken> {
         let end = Instant::now().checked_add(wait);
         let mut pause = Duration::from_millis(1);
@@ -73,11 +72,10 @@ impl Lock {
                     None => continue,
                 }
             };
-            match file.try_lock() {
-                Ok(()) if is_at(&file, &path)? => return Ok(Lock { path, _file: file }),
-                Ok(()) => continue,
-                Err(TryLockError::Error(error)) => return Err(error.into()),
-                Err(TryLockError::WouldBlock) => (),
+            match lock(&file, &path)? {
+                Locked::Ours => return Ok(Lock { path, _file: file }),
+                Locked::InVain => continue,
+                Locked::Others => (),
             }
             let left = end.map_or(PAUSE, |end| end.saturating_duration_since(Instant::now()));
             if left.is_zero() {
@@ -148,6 +146,25 @@ fn open_to_all(file: &File) -> io::Result<()> {
     file.set_permissions(Permissions::from_mode(0o666))
 }
 
+/// Whose lock a file is.
+#[derive(Debug, PartialEq)]
+enum Locked {
+    Ours,
+    Others,
+    InVain,
+}
+
+/// Locks the file, if no other has it. Its last holder may have removed it since we opened it, and another may have made and
+/// locked a new one: only a lock on the file that is there now counts.
+fn lock(file: &File, path: &Path) -> io::Result<Locked> {
+    match file.try_lock() {
+        Ok(()) if is_at(file, path)? => Ok(Locked::Ours),
+        Ok(()) => Ok(Locked::InVain),
+        Err(TryLockError::WouldBlock) => Ok(Locked::Others),
+        Err(TryLockError::Error(error)) => Err(error),
+    }
+}
+
 /// Whether this file is the one at the path.
 fn is_at(file: &File, path: &Path) -> io::Result<bool> {
     let ours = file.metadata()?;
@@ -186,4 +203,67 @@ fn place(file: &Metadata) -> String {
     let major = (disk >> 8 & 0xFFF) | (disk >> 32 & !0xFFF);
     let minor = (disk & 0xFF) | (disk >> 12 & !0xFF);
     format!("{major:02x}:{minor:02x}:{}", file.ino())
+}
+
+#[cfg(test)]
+mod tests {
+    use std::env;
+    use std::process;
+    use std::sync::atomic::{AtomicBool, AtomicU32, Ordering};
+
+    use super::*;
+
+    #[test]
+    fn one_at_a_time_has_the_lock() {
+        const THREADS: u32 = 8;
+        const TURNS: u32 = 300;
+        let path = env::temp_dir().join(format!(".ed2k {}.lock", process::id()));
+        let (taken, turns) = (AtomicBool::new(false), AtomicU32::new(0));
+        let turn = || {
+            let Ok(lock) = Lock::take(path.clone(), Duration::from_secs(300)) else {
+                panic!("the lock is not taken")
+            };
+            assert!(!taken.swap(true, Ordering::SeqCst), "two have the lock");
+            turns.fetch_add(1, Ordering::SeqCst);
+            thread::yield_now();
+            taken.store(false, Ordering::SeqCst);
+            drop(lock);
+        };
+        thread::scope(|scope| {
+            for _ in 0..THREADS {
+                scope.spawn(|| (0..TURNS).for_each(|_| turn()));
+            }
+        });
+        assert_eq!(turns.into_inner(), THREADS * TURNS);
+        assert!(!path.exists());
+    }
+
+    #[test]
+    fn only_a_lock_on_the_file_that_is_there_counts() {
+        let path = env::temp_dir().join(format!(".ed2k there {}.lock", process::id()));
+        let first = Lock::take(path.clone(), Duration::ZERO).ok().expect("nobody else has it");
+        let [one, other] = [(); 2].map(|()| open(&path).unwrap().expect("it is there"));
+        assert_eq!(lock(&one, &path).unwrap(), Locked::Others);
+        drop(first);
+        assert_eq!(lock(&one, &path).unwrap(), Locked::InVain);
+        drop(one);
+        let second = Lock::take(path.clone(), Duration::ZERO).ok().expect("nobody else has it");
+        assert_eq!(lock(&other, &path).unwrap(), Locked::InVain);
+        assert_eq!(lock(&open(&path).unwrap().expect("it is there"), &path).unwrap(), Locked::Others);
+        drop(second);
+        File::create(&path).unwrap();
+        let left = open(&path).unwrap().expect("as a killed save leaves it");
+        assert_eq!(lock(&left, &path).unwrap(), Locked::Ours);
+        fs::remove_file(&path).unwrap();
+    }
+
+    #[test]
+    fn the_holder_is_found_by_its_line() {
+        let line = "12: FLOCK  ADVISORY  WRITE 834 fe:00:1310 0 EOF";
+        assert_eq!(process_of(line, &|at| at == "fe:00:1310"), Some(834));
+        assert_eq!(process_of(line, &|at| at == "fe:00:131"), None);
+        assert_eq!(process_of(&line.replace("834", "0"), &|_| true), None);
+        assert_eq!(process_of(&line.replace("FLOCK", "POSIX"), &|_| true), None);
+        assert_eq!(process_of("", &|_| true), None);
+    }
 }
