@@ -141,7 +141,7 @@ fn of_unkept(unkept: &Unkept) -> (&'static str, &'static str) {
             "Ask its owner to save it, or to give it a group that you are both in.",
         ),
         Unkept::Group { .. } => (
-            "its group would be locked out of it",
+            "what its group may do with it would change",
             "Give it a group that you are in (chgrp), then save again.",
         ),
         Unkept::Attribute { .. } => {
