@@ -24,20 +24,20 @@ static void read_status(void)
 static size_t compose_query(uint8_t *query, size_t room)
 {
     uint8_t keyword[64], limit[64];
-    uint64_t keyword_length = 0, limit_length = 0, length = 0;
+    size_t keyword_length, limit_length, length = 0;
     uint8_t number = ed2k_write_keyword(TEXT("last"), keyword, sizeof keyword, &keyword_length);
     if (number == ED2K_ACCEPTED)
         number = ed2k_write_limit(1000, ED2K_BOUND_MIN, TEXT("\x02"), limit, sizeof limit, &limit_length);
     if (number == ED2K_ACCEPTED)
         number = ed2k_write_join(ED2K_OPERATOR_AND, keyword, keyword_length, limit, limit_length, query, room, &length);
-    printf("query: number %u, %" PRIu64 " bytes\n", number, length);
+    printf("query: number %u, %zu bytes\n", number, length);
     return length;
 }
 
 /* The tags of a name and a size, one behind the other in `tags`; how many bytes they have. */
 static size_t compose_two_tags(const char *name, uint32_t size, uint8_t *tags, size_t room)
 {
-    uint64_t name_length = 0, size_length = 0;
+    size_t name_length, size_length;
     const uint8_t *text = (const uint8_t *)name;
     uint8_t number = ed2k_write_text_tag(TEXT("\x01"), text, strlen(name), tags, room, &name_length);
     if (number == ED2K_ACCEPTED)
@@ -49,10 +49,10 @@ static size_t compose_two_tags(const char *name, uint32_t size, uint8_t *tags, s
 static size_t compose_tags(uint8_t *list, size_t room)
 {
     uint8_t tags[128];
-    uint64_t length = 0;
+    size_t length;
     size_t tags_length = compose_two_tags("a shoe last", 4096, tags, sizeof tags);
     uint8_t number = ed2k_write_tag_list(tags, tags_length, 0, 2, list, room, &length);
-    printf("tag list: number %u, %" PRIu64 " bytes\n", number, length);
+    printf("tag list: number %u, %zu bytes\n", number, length);
     return length;
 }
 
@@ -88,7 +88,7 @@ static void search(void)
     uint64_t fields[ED2K_FIELDS];
     if (ed2k_read(ED2K_LONE_TAGS, list, list_length, fields, ED2K_FIELDS) == ED2K_ACCEPTED)
         print_tags(list, list_length, fields + ED2K_FIELD_LONE_TAGS);
-    uint8_t truth = 0;
+    uint8_t truth;
     uint8_t number = ed2k_truth(query, query_length, list, list_length, &truth);
     printf("query on tag list: number %u, truth %u\n", number, truth);
 }
@@ -97,10 +97,10 @@ static void search(void)
 static size_t compose_record(uint8_t first, const char *name, uint32_t size, uint8_t *record, size_t room)
 {
     uint8_t bytes[16 + 128] = {first};
-    uint64_t length = 0;
+    size_t length;
     size_t tags_length = compose_two_tags(name, size, bytes + 16, sizeof bytes - 16);
     uint8_t number = ed2k_write_record(bytes, 16 + tags_length, 0, 0, 4662, 16, 2, record, room, &length);
-    printf("record: number %u, %" PRIu64 " bytes\n", number, length);
+    printf("record: number %u, %zu bytes\n", number, length);
     return length;
 }
 
@@ -111,13 +111,13 @@ static size_t compose_offer(uint8_t *packet, size_t room)
     size_t first = compose_record(0xaa, "left last.stl", 5000, records, sizeof records);
     size_t both = first + compose_record(0xbb, "right last.stl", 6000, records + first, sizeof records - first);
     const uint64_t fields[ED2K_FIELDS] = {0xe3, 0x15, ED2K_BODY_RECORDS, 0, both, 2};
-    uint64_t length = 0;
+    size_t length;
     uint8_t number = ed2k_write(ED2K_SERVER_LINK, records, both, fields, ED2K_FIELDS, packet, room, &length);
-    printf("offer: number %u, %" PRIu64 " bytes\n", number, length);
+    printf("offer: number %u, %zu bytes\n", number, length);
     const uint64_t three[ED2K_FIELDS] = {0xe3, 0x15, ED2K_BODY_RECORDS, 0, both, 3};
-    uint64_t none = 0;
+    size_t none;
     number = ed2k_write(ED2K_SERVER_LINK, records, both, three, ED2K_FIELDS, packet, room, &none);
-    printf("offer of three: number %u, %" PRIu64 " bytes\n", number, none);
+    printf("offer of three: number %u, %zu bytes\n", number, none);
     return length;
 }
 
@@ -143,7 +143,7 @@ static void offer(void)
 static void mark(void)
 {
     uint64_t gaps[ED2K_GAP_NUMBERS];
-    uint64_t missing = 0;
+    uint64_t missing;
     uint8_t number = ed2k_all_missing(1000, gaps, ED2K_GAP_NUMBERS);
     printf("all missing: number %u\n", number);
     number = ed2k_mark(gaps, ED2K_GAP_NUMBERS, 200, 500, &missing);

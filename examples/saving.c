@@ -9,7 +9,6 @@
 #define _DEFAULT_SOURCE
 #include <errno.h>
 #include <fcntl.h>
-#include <inttypes.h>
 #include <limits.h>
 #include <stdio.h>
 #include <stdlib.h>
@@ -186,7 +185,7 @@ static int save(const struct place *place, const uint8_t *opened, size_t opened_
     ssize_t stored_length = read_file(place->stored, stored);
     if (stored_length < 0)
         return failed("read the stored file");
-    uint64_t length = 0;
+    size_t length;
     uint8_t number =
         ed2k_save(stored, (size_t)stored_length, opened, opened_length, new, new_length, output, sizeof output, &length);
     if (number != 0) {
@@ -195,7 +194,7 @@ static int save(const struct place *place, const uint8_t *opened, size_t opened_
     }
     if (replace(place, output, length) != 0)
         return failed("save the new file");
-    printf("saved %" PRIu64 " bytes\n", length);
+    printf("saved %zu bytes\n", length);
     return 0;
 }
 

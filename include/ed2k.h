@@ -1,9 +1,9 @@
 /*
  * ed2k: packets, queries and met files of the eDonkey protocol, read, written, marked and saved by proved code.
  *
- * Every call answers with a number: ED2K_ACCEPTED, or why it refuses (ED2K_REFUSED_.. below). A refused call changes nothing that it was
- * lent, and an accepted one nothing behind what it puts there. Any bytes, offsets and numbers may be given: they are judged by the call.
- * No call keeps a pointer, allocates, or has state.
+ * Every call answers with a number: ED2K_ACCEPTED, or why it refuses (ED2K_REFUSED_.. below). A refused call leaves the arrays and
+ * the output that it was lent as they were, and 0 in `written`, `missing` and `truth`; an accepted one changes nothing after what it
+ * puts there. Any bytes, offsets and numbers may be given: they are checked by the call. No call keeps a pointer, allocates, or has state.
  *
  * A slice is a pointer and how many elements it has. Where it has none, the pointer may be NULL or any other: it is not followed. Else it
  * points to so many elements and is aligned for them. A pointer to a single number, as `written`, `missing` and `truth`, is never NULL.
@@ -323,56 +323,57 @@ uint8_t ed2k_read_gaps(const uint8_t *file, size_t length, uint64_t *gaps, size_
 /* The record of a file of this size of which every byte is missing. 8 for a size above 4,294,967,295, then 10. */
 uint8_t ed2k_all_missing(uint64_t size, uint64_t *gaps, size_t gap_numbers);
 
-/* How many bytes a lawful record has missing, else 8. */
+/* How many bytes a lawful record has missing, in `missing`; else 8, and 0 there. */
 uint8_t ed2k_count_missing(const uint64_t *gaps, size_t gap_numbers, uint64_t *missing);
 
 /* Marks the bytes from start up to end as arrived; `missing` takes how many are left. 8 for a range or record that breaks its
- * rules, 6 for more than 64 gaps afterwards. */
+ * rules, 6 for more than 64 gaps afterwards: then the record stays as it was, and `missing` takes 0. */
 uint8_t ed2k_mark(uint64_t *gaps, size_t gap_numbers, uint64_t start, uint64_t end, uint64_t *missing);
 
-/* The calls that write take the output, and `written` takes how many bytes were written at its front; what is behind them stays.
- * Room is asked for last (10). */
+/* The calls that write take the output, and `written` takes how many bytes were written at its front; what is behind them stays. A
+ * refused one leaves the output as it was, and 0 in `written`. Room is asked for last (10). */
 
 /* The part.met `file` with the gaps of the record: the file's own number; 8; 6 above the byte ceiling; 10. */
 uint8_t ed2k_put_gaps(const uint8_t *file, size_t length, const uint64_t *gaps, size_t gap_numbers, uint8_t *output,
-                      size_t room, uint64_t *written);
+                      size_t room, size_t *written);
 
 /* Saves a part.met: the reader's number for `saved`; 11 if `stored` is not, byte for byte, the `opened` file; 10.
  * No file is touched: examples/saving.c does this with one on the disk, from the lock to the renaming. */
 uint8_t ed2k_save(const uint8_t *stored, size_t stored_length, const uint8_t *opened, size_t opened_length, const uint8_t *saved,
-                  size_t saved_length, uint8_t *output, size_t room, uint64_t *written);
+                  size_t saved_length, uint8_t *output, size_t room, size_t *written);
 
-/* Whether a lone query holds on a lone tag list: `truth` takes 0 or 1. The query's refusals come before the list's. */
+/* Whether a lone query holds on a lone tag list: `truth` takes 0 or 1, and 0 where the call refuses. The query's refusals come before
+ * the list's. */
 uint8_t ed2k_truth(const uint8_t *query, size_t query_length, const uint8_t *tags, size_t tags_length, uint8_t *truth);
 
 /* A lone query from its pieces: 6 for a text above 65,535 bytes or too many bytes, 5 and 6 for a name of 0 or above 255 bytes. */
-uint8_t ed2k_write_keyword(const uint8_t *text, size_t text_length, uint8_t *output, size_t room, uint64_t *written);
+uint8_t ed2k_write_keyword(const uint8_t *text, size_t text_length, uint8_t *output, size_t room, size_t *written);
 uint8_t ed2k_write_field(const uint8_t *text, size_t text_length, const uint8_t *name, size_t name_length, uint8_t *output,
-                         size_t room, uint64_t *written);
+                         size_t room, size_t *written);
 /* bound: ED2K_BOUND_..; another is refused first (5). */
 uint8_t ed2k_write_limit(uint32_t number, uint8_t bound, const uint8_t *name, size_t name_length, uint8_t *output, size_t room,
-                         uint64_t *written);
+                         size_t *written);
 /* operation: ED2K_OPERATOR_..; another is refused first (5); then the refusals of the left query, of the right one, and 6 above
  * depth 24. */
 uint8_t ed2k_write_join(uint8_t operation, const uint8_t *left, size_t left_length, const uint8_t *right, size_t right_length,
-                        uint8_t *output, size_t room, uint64_t *written);
+                        uint8_t *output, size_t room, size_t *written);
 
 /* Single tags, to compose a list: 6 for a name or text that its count cannot hold, 5 for an empty name, 6 above 255 bytes. */
 uint8_t ed2k_write_text_tag(const uint8_t *name, size_t name_length, const uint8_t *text, size_t text_length, uint8_t *output,
-                            size_t room, uint64_t *written);
+                            size_t room, size_t *written);
 uint8_t ed2k_write_dword_tag(const uint8_t *name, size_t name_length, uint32_t number, uint8_t *output, size_t room,
-                             uint64_t *written);
+                             size_t *written);
 uint8_t ed2k_write_float_tag(const uint8_t *name, size_t name_length, uint32_t bits, uint8_t *output, size_t room,
-                             uint64_t *written);
+                             size_t *written);
 /* The hash is the first 16 bytes of `hash`; fewer are refused (1). */
 uint8_t ed2k_write_hash_tag(const uint8_t *name, size_t name_length, const uint8_t *hash, size_t hash_length, uint8_t *output,
-                            size_t room, uint64_t *written);
+                            size_t room, size_t *written);
 /* A lone tag list of the `count` tags that lie at the offset `at` of `bytes`; a place where they do not lie has the refusal of its
  * own reading. */
 uint8_t ed2k_write_tag_list(const uint8_t *bytes, size_t length, size_t at, uint32_t count, uint8_t *output, size_t room,
-                            uint64_t *written);
+                            size_t *written);
 /* The lone query that lies at the offset `at` of `bytes`. */
-uint8_t ed2k_write_query(const uint8_t *bytes, size_t length, size_t at, uint8_t *output, size_t room, uint64_t *written);
+uint8_t ed2k_write_query(const uint8_t *bytes, size_t length, size_t at, uint8_t *output, size_t room, size_t *written);
 
 /*
  * A whole packet, file, query or tag list from its numbers, which are those that ed2k_read hands out for its kind; places are offsets in
@@ -380,29 +381,29 @@ uint8_t ed2k_write_query(const uint8_t *bytes, size_t length, size_t at, uint8_t
  * the size of a part.met, which its tags tell. In this order:
  *   4   the kind is none of those above
  *   5   the first 16 numbers, or fewer where so many are not lent, are those of no message of the kind: a number above what its field
- *       holds (32 bits for the count of a list, 16 for that of status bits), one that the message does not use and that is not 0, an
- *       unlisted shape, form or hash lists, a part.met that opens with neither E0 nor E1, an E0 without ED2K_HASHES_COUNTED or an E1
- *       with it
+ *       holds (32 bits for the count of a list; a length, and the number of parts of a status, may be any), one that the message does
+ *       not use and that is not 0, an unlisted shape, form or hash lists, a part.met that opens with neither E0 nor E1, an E0 without
+ *       ED2K_HASHES_COUNTED or an E1 with it
  *   4   the link lists the opcode with another shape
  *   ..  a place does not hold what it should: the number of its own reading, the first at fault in the order of the bytes written
- *   6   a text above 65,535 bytes, more than 255 addresses, more than 65,535 hashes behind a count
+ *   6   a text above 65,535 bytes, more than 255 addresses, more than 65,535 hashes behind a count, more than 65,535 status bits
  *   5   the bytes would be another message: a status request of the other form, or hash lists of a part.met that is read otherwise
  *   ..  the number that ed2k_read has for the bytes
  *   10
  */
 uint8_t ed2k_write(uint8_t kind, const uint8_t *bytes, size_t length, const uint64_t *fields, size_t field_count, uint8_t *output,
-                   size_t room, uint64_t *written);
+                   size_t room, size_t *written);
 
 /* Single entries, to compose a list of them. Places are offsets in `bytes`; one that does not hold what it should has the number of its
  * own reading, the first in the order of the bytes written. An entry by itself has no byte ceiling; 10 comes last. */
-uint8_t ed2k_write_address(uint32_t ip, uint16_t port, uint8_t *output, size_t room, uint64_t *written);
+uint8_t ed2k_write_address(uint32_t ip, uint16_t port, uint8_t *output, size_t room, size_t *written);
 uint8_t ed2k_write_record(const uint8_t *bytes, size_t length, size_t hash, uint32_t client, uint16_t port, size_t tags_at,
-                          uint32_t tag_count, uint8_t *output, size_t room, uint64_t *written);
+                          uint32_t tag_count, uint8_t *output, size_t room, size_t *written);
 /* 6 for more than 65,535 part hashes, behind the places. */
 uint8_t ed2k_write_file_entry(const uint8_t *bytes, size_t length, uint32_t date, size_t hash, size_t hashes_at, uint32_t hash_count,
-                              size_t tags_at, uint32_t tag_count, uint8_t *output, size_t room, uint64_t *written);
+                              size_t tags_at, uint32_t tag_count, uint8_t *output, size_t room, size_t *written);
 uint8_t ed2k_write_server_entry(const uint8_t *bytes, size_t length, uint32_t ip, uint16_t port, size_t tags_at, uint32_t tag_count,
-                                uint8_t *output, size_t room, uint64_t *written);
+                                uint8_t *output, size_t room, size_t *written);
 
 #ifdef __cplusplus
 }

@@ -40,27 +40,27 @@ unsafe extern "C" {
     fn ed2k_count_missing(gaps: *const u64, gap_numbers: usize, missing: *mut u64) -> u8;
     fn ed2k_mark(gaps: *mut u64, gap_numbers: usize, start: u64, end: u64, missing: *mut u64) -> u8;
 
-    fn ed2k_put_gaps(file: *const u8, length: usize, gaps: *const u64, gap_numbers: usize, output: *mut u8, room: usize, written: *mut u64) -> u8;
-    fn ed2k_save(stored: *const u8, stored_length: usize, opened: *const u8, opened_length: usize, saved: *const u8, saved_length: usize, output: *mut u8, room: usize, written: *mut u64) -> u8;
+    fn ed2k_put_gaps(file: *const u8, length: usize, gaps: *const u64, gap_numbers: usize, output: *mut u8, room: usize, written: *mut usize) -> u8;
+    fn ed2k_save(stored: *const u8, stored_length: usize, opened: *const u8, opened_length: usize, saved: *const u8, saved_length: usize, output: *mut u8, room: usize, written: *mut usize) -> u8;
 
     fn ed2k_truth(query: *const u8, query_length: usize, tags: *const u8, tags_length: usize, truth: *mut u8) -> u8;
 
-    fn ed2k_write_keyword(text: *const u8, text_length: usize, output: *mut u8, room: usize, written: *mut u64) -> u8;
-    fn ed2k_write_field(text: *const u8, text_length: usize, name: *const u8, name_length: usize, output: *mut u8, room: usize, written: *mut u64) -> u8;
-    fn ed2k_write_limit(number: u32, bound: u8, name: *const u8, name_length: usize, output: *mut u8, room: usize, written: *mut u64) -> u8;
-    fn ed2k_write_join(operation: u8, left: *const u8, left_length: usize, right: *const u8, right_length: usize, output: *mut u8, room: usize, written: *mut u64) -> u8;
-    fn ed2k_write_text_tag(name: *const u8, name_length: usize, text: *const u8, text_length: usize, output: *mut u8, room: usize, written: *mut u64) -> u8;
-    fn ed2k_write_dword_tag(name: *const u8, name_length: usize, number: u32, output: *mut u8, room: usize, written: *mut u64) -> u8;
-    fn ed2k_write_float_tag(name: *const u8, name_length: usize, bits: u32, output: *mut u8, room: usize, written: *mut u64) -> u8;
-    fn ed2k_write_hash_tag(name: *const u8, name_length: usize, hash: *const u8, hash_length: usize, output: *mut u8, room: usize, written: *mut u64) -> u8;
-    fn ed2k_write_tag_list(bytes: *const u8, length: usize, at: usize, count: u32, output: *mut u8, room: usize, written: *mut u64) -> u8;
-    fn ed2k_write_query(bytes: *const u8, length: usize, at: usize, output: *mut u8, room: usize, written: *mut u64) -> u8;
+    fn ed2k_write_keyword(text: *const u8, text_length: usize, output: *mut u8, room: usize, written: *mut usize) -> u8;
+    fn ed2k_write_field(text: *const u8, text_length: usize, name: *const u8, name_length: usize, output: *mut u8, room: usize, written: *mut usize) -> u8;
+    fn ed2k_write_limit(number: u32, bound: u8, name: *const u8, name_length: usize, output: *mut u8, room: usize, written: *mut usize) -> u8;
+    fn ed2k_write_join(operation: u8, left: *const u8, left_length: usize, right: *const u8, right_length: usize, output: *mut u8, room: usize, written: *mut usize) -> u8;
+    fn ed2k_write_text_tag(name: *const u8, name_length: usize, text: *const u8, text_length: usize, output: *mut u8, room: usize, written: *mut usize) -> u8;
+    fn ed2k_write_dword_tag(name: *const u8, name_length: usize, number: u32, output: *mut u8, room: usize, written: *mut usize) -> u8;
+    fn ed2k_write_float_tag(name: *const u8, name_length: usize, bits: u32, output: *mut u8, room: usize, written: *mut usize) -> u8;
+    fn ed2k_write_hash_tag(name: *const u8, name_length: usize, hash: *const u8, hash_length: usize, output: *mut u8, room: usize, written: *mut usize) -> u8;
+    fn ed2k_write_tag_list(bytes: *const u8, length: usize, at: usize, count: u32, output: *mut u8, room: usize, written: *mut usize) -> u8;
+    fn ed2k_write_query(bytes: *const u8, length: usize, at: usize, output: *mut u8, room: usize, written: *mut usize) -> u8;
 
-    fn ed2k_write(kind: u8, bytes: *const u8, length: usize, fields: *const u64, field_count: usize, output: *mut u8, room: usize, written: *mut u64) -> u8;
-    fn ed2k_write_address(ip: u32, port: u16, output: *mut u8, room: usize, written: *mut u64) -> u8;
-    fn ed2k_write_record(bytes: *const u8, length: usize, hash: usize, client: u32, port: u16, tags_at: usize, tag_count: u32, output: *mut u8, room: usize, written: *mut u64) -> u8;
-    fn ed2k_write_file_entry(bytes: *const u8, length: usize, date: u32, hash: usize, hashes_at: usize, hash_count: u32, tags_at: usize, tag_count: u32, output: *mut u8, room: usize, written: *mut u64) -> u8;
-    fn ed2k_write_server_entry(bytes: *const u8, length: usize, ip: u32, port: u16, tags_at: usize, tag_count: u32, output: *mut u8, room: usize, written: *mut u64) -> u8;
+    fn ed2k_write(kind: u8, bytes: *const u8, length: usize, fields: *const u64, field_count: usize, output: *mut u8, room: usize, written: *mut usize) -> u8;
+    fn ed2k_write_address(ip: u32, port: u16, output: *mut u8, room: usize, written: *mut usize) -> u8;
+    fn ed2k_write_record(bytes: *const u8, length: usize, hash: usize, client: u32, port: u16, tags_at: usize, tag_count: u32, output: *mut u8, room: usize, written: *mut usize) -> u8;
+    fn ed2k_write_file_entry(bytes: *const u8, length: usize, date: u32, hash: usize, hashes_at: usize, hash_count: u32, tags_at: usize, tag_count: u32, output: *mut u8, room: usize, written: *mut usize) -> u8;
+    fn ed2k_write_server_entry(bytes: *const u8, length: usize, ip: u32, port: u16, tags_at: usize, tag_count: u32, output: *mut u8, room: usize, written: *mut usize) -> u8;
 }
 
 /// The items that are read one by one.
@@ -105,20 +105,18 @@ fn answer<T>(number: u8, accepted: T) -> Result<T, Refusal> {
     }
 }
 
-/// Runs a call that leaves a number behind when it accepts.
+/// Runs a call that leaves a number behind.
 fn number_of<T: Default>(call: impl FnOnce(&mut T) -> u8) -> Result<T, Refusal> {
     let mut value = T::default();
     let number = call(&mut value);
     answer(number, value)
 }
 
-/// A call that writes into the output, given what comes before the output: how many bytes were written. The archive is for machines
-/// on which a usize has 64 bits.
+/// A call that writes into the output, given what comes before the output: how many bytes were written.
 macro_rules! written {
     ($call:ident($($before:expr),*) -> $output:ident) => {
         // SAFETY: lent slices, and a reference to the number that is left behind; places and other numbers may be any.
         number_of(|written| unsafe { $call($($before,)* $output.as_mut_ptr(), $output.len(), written) })
-            .map(|written: u64| written as usize)
     };
 }
 

@@ -69,7 +69,7 @@ fn whole_messages() {
         let mut fields = vec![0; FIELDS];
         accepted(&format!("kind {kind}"), || (ARCHIVE.read)(kind, &bytes, &mut fields));
         let write =
-            |output: &mut [u8], written: &mut u64| (ARCHIVE.write)(kind, &bytes, &fields, output, written);
+            |output: &mut [u8], written: &mut usize| (ARCHIVE.write)(kind, &bytes, &fields, output, written);
         writes(&format!("write of kind {kind}"), write);
     }
 }
@@ -99,7 +99,7 @@ fn entries_written() {
     let source = [tags, vec![7; 16 * 65_535]].concat();
     let hashes = (source.len() - 16 * 65_535, 65_535);
     let mut output = vec![0; 2 * source.len()];
-    let mut writes = |name: &str, call: &(dyn Fn(&mut [u8], &mut u64) -> u8 + Sync)| {
+    let mut writes = |name: &str, call: &(dyn Fn(&mut [u8], &mut usize) -> u8 + Sync)| {
         let mut written = 0;
         accepted(name, || call(&mut output, &mut written));
         assert!(written > 0, "{name} wrote something");
@@ -170,7 +170,7 @@ fn gaps() {
 }
 
 /// A call that is lent room for 1 MiB.
-fn writes(name: &str, call: impl FnOnce(&mut [u8], &mut u64) -> u8 + Send) {
+fn writes(name: &str, call: impl FnOnce(&mut [u8], &mut usize) -> u8 + Send) {
     let (mut output, mut written) = (vec![0; MET_CEILING], 0);
     accepted(name, || call(&mut output, &mut written));
     assert!(written > 0, "{name} wrote something");

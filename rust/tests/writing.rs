@@ -274,7 +274,7 @@ fn wide_body(random: &mut Random, layout: &str, fields: &mut Vec<u64>) {
                 fields.extend([9, 9 + length - less.min(length), place, length]);
             }
             'X' => fields.extend((0..6).map(|_| u64::from(random.dword()))),
-            'S' => fields.extend([random.pick(&[0, 9, 65_535]), place]),
+            'S' => fields.extend([random.pick(&[0, 9, 65_535, 65_536, 1 << 20, 1 << 33, u64::MAX]), place]),
             'E' => fields.extend([random.pick(&[0, 1]), random.pick(&[7, 0x5AAA_0000, 0x5AAA_FFFF])]),
             'U' => fields.extend((0..3).map(|_| u64::from(random.dword()))),
             _ => unreachable!("no item has this letter"),
@@ -526,6 +526,19 @@ fn every_form_of_a_status_request() {
         }
     }
     comparison.assert_seen(NAMES[2], &[0, 5, 10]);
+}
+
+/// More status bits than their WORD can count, which lie in the source.
+#[test]
+fn status_bits_above_their_count() {
+    let mut comparison = Comparison::new(58_000_000);
+    let source = [0; 16 + 8_193];
+    for parts in [65_536, 65_537, 65_544] {
+        let mut fields = vec![0xE3, 0x50, 21, 0, parts, 16];
+        fields.resize(plain::FIELDS, 0);
+        compare_write(&mut comparison, plain::CLIENT_LINK, &source, &fields);
+    }
+    comparison.assert_seen(NAMES[1], &[6]);
 }
 
 /// A list in the source: that of a tag list that lies there, or another.

@@ -9,6 +9,7 @@ ghost use Rattle.format.specs.Messages.{addressBody, addressesBody, hashAddress
 ghost use Rattle.format.specs.Messages.{recordBody, recordsBody, recordsFlagBody, recordAddressBody, helloBody};
 ghost use Rattle.format.specs.Messages.{hashStringBody, hashsetBody, sendingPartBody, requestPartsBody, fileStatusBody};
 ghost use Rattle.format.specs.Messages.{statusRequestBody, statusBody};
+ghost use Rattle.format.specs.Bits.{packedBytes};
 ghost use Rattle.format.specs.PacketOrder.{decodeRange, decodeTriple, decodeRanges, decodeBits, formOf, decodeExtendedStatus, decodeFlag, decodeBody};
 ghost use Rattle.wire.specs.Meaning.{byteMeaning};
 ghost use Rattle.bodies.specs.Meaning.{shapeOf, bodyMeaning, BodyStepPlaced};
@@ -90,10 +91,10 @@ pub struct RequestParts {
     pub ends: Triple,
 }
 
-// 50: part p is held if bit p % 8 of the byte at `bits` + p / 8 is set.
+// 50: part p is held if bit p % 8 of the byte at `bits` + p / 8 is set. A writer may be given more parts than a WORD can count.
 pub struct FileStatus {
     pub hash: usize,
-    pub parts: u16,
+    pub parts: usize,
     pub bits: usize,
 }
 
@@ -380,19 +381,26 @@ fn read_request_parts(s: &[u8], c: Cursor) -> BodyStep
 // 50
 
 // 2 to the power k, for the bits of a byte.
-fn power(k: u16) -> u16
+fn power(k: usize) -> usize
     requires { ⌜ k < 8 ⌝ }
     ensures { λ r. ⌜ r ≡ 2 ^ k ⌝ }
 {
     1 << k
 }
 
+// How many bytes the bits of n parts take.
+fn packed_bytes(n: usize) -> usize
+    ensures { λ r. ⌜ r ≡ packedBytes n ⌝ }
+{
+    n / 8 + (n % 8 + 7) / 8
+}
+
 // The bits of n parts. All their bytes must be there before the unused bits of the last one are judged.
-pub fn read_bits(s: &[u8], c: Cursor, n: u16) -> BitsStep
+pub fn read_bits(s: &[u8], c: Cursor, n: usize) -> BitsStep
     ensures { λ r. ⌜ bitsMeaning n (now (s .entry)) r ≡ decodeBits n (now (s .entry)) (c .at) ⌝ }
     ensures inside { λ r. ⌜ BitsStepInside n (now (s .entry)) r ⌝ }
 {
-    let size = (n as usize + 7) / 8;
+    let size = packed_bytes(n);
     let p = c.run(s, size);
     let PlaceStep::Got(_, next) = p else {
         return BitsStep::Refused(p.fault());
@@ -401,9 +409,9 @@ pub fn read_bits(s: &[u8], c: Cursor, n: u16) -> BitsStep
     if used == 0 {
         return BitsStep::Got(c.at, next);
     }
-    let last = c.at + n as usize / 8;
+    let last = c.at + n / 8;
     let byte = s[last];
-    if (byte as u16) < power(used) {
+    if (byte as usize) < power(used) {
         return BitsStep::Got(c.at, next);
     }
     BitsStep::Refused(Fault {
@@ -422,9 +430,10 @@ fn read_file_status(s: &[u8], c: Cursor) -> BodyStep
         return BodyStep::Refused(h.fault());
     };
     let w = after_hash.word(s);
-    let WordStep::Got(parts, after_count) = w else {
+    let WordStep::Got(count, after_count) = w else {
         return BodyStep::Refused(w.fault());
     };
+    let parts = count as usize;
     let b = read_bits(s, after_count, parts);
     let BitsStep::Got(bits, next) = b else {
         return BodyStep::Refused(b.fault());

@@ -121,15 +121,18 @@ fn text_extent(src: &[u8], t: Place) -> Extent
     Extent::Sized(2 + len, 0)
 }
 
-// The bits of so many parts.
-fn bits_extent(src: &[u8], at: usize, parts: u16) -> Extent
+// The bits of so many parts, which a WORD counts.
+fn bits_extent(src: &[u8], at: usize, parts: usize) -> Extent
     ensures { λ r. ⌜ Extends (ends (decodeBits parts (now (src .entry)) at)) (Word parts) (packedBytes parts) NoEnd 65537 r ⌝ }
 {
     let b = bodies::read_bits(src, Cursor { at }, parts);
     let BitsStep::Got(_, _) = b else {
         return Extent::Absent(b.fault().number());
     };
-    let size = (parts as usize + 7) / 8;
+    if 65535 < parts {
+        return Extent::TooLong;
+    }
+    let size = (parts + 7) / 8;
     Extent::Sized(size, 0)
 }
 

@@ -38,7 +38,7 @@ use Rattle.format.specs.RoundTrip.{IsThere}
 use Rattle.writing.proofs.Pieces.{length-string}
 use Rattle.writing.proofs.There.{both-first, both-last, run-size, valid-hash}
 use Rattle.bodychecking.specs.Bodies.{bytesOf}
-use Rattle.bodychecking.proofs.Extents.{held-size}
+use Rattle.bodychecking.proofs.Extents.{held-size, held-word}
 use Rattle.bodychecking.proofs.Places.{Listed, addresses-listed, hashes-listed, query-listed, records-listed, tags-listed}
 use Rattle.bodywriting.specs.Putting.{ListRun, Puts, Puttable, Run, listBytes}
 
@@ -142,13 +142,14 @@ module _ (s : List ℕ) (hb : Bytes s) {end : ℕ} {out : List ℕ} where
       (a, omega (arith, simp (length-append, length-littleEndian) at (p .room), a))
 
   pub file-status-asks : {m : FileStatus} → Puttable s (Body.FileStatus m) end out →
-      Run s (m .hash) 16 × Run s (m .bits) (packedBytes (m .parts)) × (18 + packedBytes (m .parts) ≤ length out)
+      Run s (m .hash) 16 × Run s (m .bits) (packedBytes (m .parts)) × (m .parts < 65536) × (18 + packedBytes (m .parts) ≤ length out)
   unfolding encodeFileStatus
   file-status-asks {m} p =
       let o = ends (decodeBits (m .parts) s (m .bits)) in
       let a = hash-run s hb (m .hash) (both-first (hashThere s (m .hash)) o (p .there)) in
       let b = bits-packed s hb (m .parts) (m .bits) (both-last (hashThere s (m .hash)) o (p .there)) in
-      (a, b .0, omega (arith, simp (length-append, length-littleEndian) at (p .room), a, held-size (m .parts) s (m .bits)))
+      let few = held-word (m .parts) s (m .bits) (p .fit) in
+      (a, b .0, few, omega (arith, simp (length-append, length-littleEndian) at (p .room), a, held-size (m .parts) s (m .bits)))
 
   pub file-status-bytes : {m : FileStatus} → Puttable s (Body.FileStatus m) end out →
       (hashAt s (m .hash) ++ word (m .parts)) ++ bytesAt s (m .bits) (packedBytes (m .parts)) ≡ bytesOf (bodyIn s (Body.FileStatus m))

@@ -283,16 +283,16 @@ fn put_request_parts(src: &[u8], p: RequestParts, out: &mut [u8]) -> usize
 }
 
 fn put_file_status(src: &[u8], p: FileStatus, out: &mut [u8]) -> usize
-    requires { ⌜ Run (now src) (p .hash) 16 × Run (now src) (p .bits) (packedBytes (p .parts)) × (18 + packedBytes (p .parts) ≤ length (now out)) ⌝ }
+    requires { ⌜ Run (now src) (p .hash) 16 × Run (now src) (p .bits) (packedBytes (p .parts)) × (p .parts < 65536) × (18 + packedBytes (p .parts) ≤ length (now out)) ⌝ }
     ensures { λ r. ⌜ Puts ((hashAt (now (src .entry)) (p .hash) ++ word (p .parts)) ++ bytesAt (now (src .entry)) (p .bits) (packedBytes (p .parts))) ((16 + 2) + packedBytes (p .parts))
         (now (out .entry)) (now (out .exit)) r ⌝ }
 {
     let hash = p.hash;
     let bits = p.bits;
     let parts = p.parts;
-    let n = (parts as usize + 7) / 8;
+    let n = (parts + 7) / 8;
     let first = put_run(src, hash, 16, out);
-    put::put_word(&mut out[first..], parts);
+    put::put_word(&mut out[first..], parts as u16);
     let at = first + 2;
     let wrote = put_run(src, bits, n, &mut out[at..]);
     at + wrote

@@ -7,19 +7,14 @@ use mathlib.Core.List.{List, [], _∷_, _++_}
 use lib.ListN.{length, getD, drop, set, replicate, length-append, length-replicate, drop-of-length-le}
 use lib.Seq.{append-snoc, drop-cons, getD-drop, set-at}
 use borrow.Rule.Slice.PartMut.{midOf, putMid}
-use lib.Dec.{eqb}
-use Rattle.format.specs.Tables.{pick}
 use Rattle.format.specs.Writing.{overwritten}
 use Rattle.put.proofs.Loops.{WrittenSoFar, piece-room, written-next, written-all}
 use Rattle.gaps.specs.declared.Gap.{Gap}
 use Rattle.gaps.specs.declared.GapRecord.{GapRecord}
-use Rattle.gaps.specs.declared.Marked.{Marked}
-use Rattle.gaps.specs.declared.MarkAnswer.{MarkAnswer}
 use Rattle.gaps.specs.Records.{place}
 use Rattle.gaps.proofs.Records.{placeAt}
-use Rattle.marking.specs.Numbers.{MarksNumbers, pairNumbers, pairsIn}
+use Rattle.marking.specs.Numbers.{pairNumbers, pairsIn}
 use Rattle.marking.proofs.Numbers.{length-numbers, length-pairs}
-use Rattle.ed2k.specs.Gaps.{Marks}
 
 -- Reading
 
@@ -90,11 +85,3 @@ module _ (g : GapRecord) (old : List ℕ) (fits : 128 ≤ length old) (out : Lis
           places = w .places;
           written = written-next (pairNumbers (g .gaps)) old r out wrote _ (placeAt g i .start ∷ placeAt g i .end ∷ []) _ (w .written) next new q;
         }
-
--- Marking: what is left of the answer once the count is handed out.
-pub marks-told : (m : Marked) (a : MarkAnswer) (old new : List ℕ) → MarksNumbers m a old new → (n k l : ℕ) → n ≡ a .number →
-    l ≡ pick (eqb (a .number) 0) (a .missing) k → Marks m n old new k l
-marks-told m a old new h n k l e q =
-    let t : a .number ≡ m .number = ap (λ b. b .number) (h .told) in
-    let u : a .missing ≡ m .missing = ap (λ b. b .missing) (h .told) in
-    record { told = e ∙ t; gaps = h .numbers; missing = q ∙ rw (t, u) refl }

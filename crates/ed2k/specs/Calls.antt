@@ -5,7 +5,7 @@ use mathlib.Core.Bool.{cond}
 use mathlib.Core.Option.{Option, none, some}
 use mathlib.Core.List.{List, [], _∷_}
 use lib.ListN.{length, take}
-use lib.Dec.{leb, eqb}
+use lib.Dec.{leb}
 use Rattle.format.specs.Tables.{pick}
 use Rattle.format.specs.Messages as messages
 use Rattle.format.specs.Messages.{serverLink, clientLink, udpLink, knownMet, serverMet, partMet, loneQuery, loneTags}
@@ -164,11 +164,9 @@ nodeRead (NodeStep.Refused f) old = numbered (faultNumber f) old
 abbrev pub NodeRead : List ℕ → ℕ → List ℕ → Numbered → Type 0
 NodeRead s at old r = (a : NodeStep) × (nodeMeaning s a ≡ decodeNode s at) × NodeStepInside s a × (r ≡ nodeRead a old)
 
--- Writing: the number, the output afterwards, and the length where bytes were written; a refusal leaves it as it was.
-pub record Leaves (w : Written) (number : ℕ) (output : List ℕ) (old new : ℕ) : Type 0 where
-  pub told : number ≡ w .number
-  pub holds : output ≡ w .output
-  pub length : new ≡ pick (eqb (w .number) 0) (w .length) old
+-- Writing: what a call leaves is a write of the format, and so has length 0 where it refuses.
+abbrev pub leaves : (number length : ℕ) → (output : List ℕ) → Written
+leaves number length output = record { number = number; length = length; output = output }
 
 -- A message that is told by its numbers: the first 16 given ones are those of the message, which is written; or they are no message's, and
 -- the call refuses (5) before all else.
@@ -231,17 +229,13 @@ abbrev pub WriteOf : Option messages.Kind → List ℕ → List ℕ → List ℕ
 WriteOf none s given output w = w ≡ unwritten 4 output
 WriteOf (some k) s given output w = KindWrites k s given output w
 
--- What a call leaves whose write is one of these.
-abbrev pub LeftBy : (Written → Type 0) → (number : ℕ) → (output : List ℕ) → (old new : ℕ) → Type 0
-LeftBy Writes number output old new = (w : Written) × Writes w × Leaves w number output old new
-
 -- A list that is told by its place and count alone: its end is not looked at by any writer.
 abbrev pub itemsFrom : ℕ → ℕ → Items
 itemsFrom at count = record { at = at; end = at; count = count }
 
--- The truth of a query: the number, and 0 or 1.
-abbrev pub truthByte : TruthReply → ℕ → ℕ
-truthByte t old = pick (eqb (t .number) 0) (cond (t .holds) 1 0) old
+-- The truth of a query, 0 or 1: 0 where it is refused.
+abbrev pub truthByte : TruthReply → ℕ
+truthByte t = cond (t .holds) 1 0
 
 -- A bound or an operator that is none of the list: 5, before all else.
 abbrev pub chosen : {K : Type 0} → Option K → (K → Written) → List ℕ → Written

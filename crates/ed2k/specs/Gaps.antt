@@ -8,7 +8,7 @@ use Rattle.format.specs.Tables.{pick}
 use Rattle.format.specs.Gaps.{sizeLimit}
 use Rattle.format.specs.Writing.{overwritten}
 use Rattle.gaps.specs.declared.GapRecord.{GapRecord}
-use Rattle.gaps.specs.declared.Marked.{Marked}
+use Rattle.gaps.specs.declared.MarkAnswer.{MarkAnswer}
 use Rattle.gaps.specs.Records.{allMissing, lawfulRecord, missingCount}
 use Rattle.marking.specs.Numbers.{numbersOf}
 use Rattle.met.specs.declared.GapsAnswer.{GapsAnswer}
@@ -24,13 +24,11 @@ gapsRead a old = pick (eqb (a .number) 0) (recordOut (a .gaps) old) (numbered (a
 abbrev pub allMissingOut : ℕ → List ℕ → Numbered
 allMissingOut size old = pick (leb size sizeLimit) (recordOut (allMissing size) old) (numbered 8 old)
 
--- The bytes that a record misses: the number, and the count afterwards.
-pub record Counts (g : GapRecord) (number old new : ℕ) : Type 0 where
+-- The bytes that a record misses: the number, and the count, which is 0 for a record that is not lawful.
+pub record Counts (g : GapRecord) (number count : ℕ) : Type 0 where
   pub told : number ≡ pick (lawfulRecord sizeLimit g) 0 8
-  pub missing : new ≡ pick (lawfulRecord sizeLimit g) (missingCount sizeLimit g) old
+  pub missing : count ≡ missingCount sizeLimit g
 
--- A marking: the number, the numbers afterwards, and how many bytes are left.
-pub record Marks (m : Marked) (number : ℕ) (old new : List ℕ) (oldMissing newMissing : ℕ) : Type 0 where
-  pub told : number ≡ m .number
-  pub gaps : new ≡ pick (eqb (m .number) 0) (overwritten (numbersOf (m .after)) old) old
-  pub missing : newMissing ≡ pick (eqb (m .number) 0) (m .missing) oldMissing
+-- What a marking hands out beside the record: its number, and how many bytes are left, 0 where it is refused.
+abbrev pub counted : (number missing : ℕ) → MarkAnswer
+counted number missing = record { number = number; missing = missing }

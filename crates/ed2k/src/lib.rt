@@ -1,7 +1,7 @@
 // The C interface of the library: include/ed2k.h says what each call does.
 //
 // A call hands on to the crate that does the work, and puts the answer into what C lent: numbers into `fields` or `gaps`, a length
-// into `written`. A refused call changes nothing of it.
+// into `written`. A refused call leaves the numbers as they were, and 0 as the length, the count or the truth.
 ghost use mathlib.Core.Path.{_≡_};
 ghost use mathlib.Core.List.{[], _∷_};
 ghost use Prim.Native.Nat.{_+_, _≤_, _<_};
@@ -28,10 +28,10 @@ ghost use Rattle.bodywriting.specs.Entries.{writeAddress, writeRecord};
 ghost use Rattle.metwriting.specs.Entries.{writeFileEntry, writeServerEntry};
 ghost use Rattle.ed2k.specs.Calls.{numbered, handedOut, kinds, ReadOf, MessageRead, linkKind, QueryRead, TagListRead};
 ghost use Rattle.ed2k.specs.Calls.{TagRead, addressRead, RecordRead, FileEntryRead, ServerEntryRead, NodeRead};
-ghost use Rattle.ed2k.specs.Calls.{Leaves, LeftBy, itemsFrom, truthByte, chosen, bounds, operators};
+ghost use Rattle.ed2k.specs.Calls.{leaves, itemsFrom, truthByte, chosen, bounds, operators};
 ghost use Rattle.ed2k.specs.Calls.{WriteOf, PacketWrites, KnownWrites, ServerWrites, PartWrites, QueryWrites, TagListWrites};
-ghost use Rattle.marking.specs.Numbers.{pairNumbers, numbersOf, recordIn};
-ghost use Rattle.ed2k.specs.Gaps.{gapsRead, allMissingOut, Counts, Marks};
+ghost use Rattle.marking.specs.Numbers.{MarksNumbers, pairNumbers, numbersOf, recordIn};
+ghost use Rattle.ed2k.specs.Gaps.{gapsRead, allMissingOut, Counts, counted};
 use gaps::Gap;
 use gaps::GapRecord;
 use gaps::SIZE_LIMIT;
@@ -82,17 +82,6 @@ fn hand_out(numbers: &[u64], fields: &mut [u64]) -> u8
         return 10;
     }
     copy_numbers(fields, numbers);
-    0
-}
-
-// The length, if bytes were written.
-fn report(number: u8, length: usize, written: &mut u64) -> u8
-    ensures { λ r. ⌜ (r ≡ number) × (now (written .exit) ≡ pick (eqb number 0) length (now (written .entry))) ⌝ }
-{
-    if number != 0 {
-        return number;
-    }
-    *written = length as u64;
     0
 }
 
@@ -379,104 +368,110 @@ pub extern "C" fn ed2k_all_missing(size: u64, gaps: &mut [u64]) -> u8
 
 #[no_mangle]
 pub extern "C" fn ed2k_count_missing(gaps: &[u64], missing: &mut u64) -> u8
-    ensures { λ r. ⌜ Counts (recordIn (now (gaps .entry))) r (now (missing .entry)) (now (missing .exit)) ⌝ }
+    ensures { λ r. ⌜ Counts (recordIn (now (gaps .entry))) r (now (missing .exit)) ⌝ }
 {
     let g = record_in(gaps);
-    if !gaps::is_lawful(g) {
-        return 8;
-    }
     *missing = gaps::count_missing(g);
-    0
+    if gaps::is_lawful(g) { 0 } else { 8 }
 }
 
 #[no_mangle]
 pub extern "C" fn ed2k_mark(gaps: &mut [u64], start: u64, end: u64, missing: &mut u64) -> u8
-    ensures { λ r. ⌜ Marks (marked sizeLimit (recordIn (now (gaps .entry))) start end) r
-        (now (gaps .entry)) (now (gaps .exit)) (now (missing .entry)) (now (missing .exit)) ⌝ }
+    ensures { λ r. ⌜ MarksNumbers (marked sizeLimit (recordIn (now (gaps .entry))) start end) (counted r (now (missing .exit)))
+        (now (gaps .entry)) (now (gaps .exit)) ⌝ }
 {
     let a = mark_numbers(gaps, start, end);
-    if a.number != 0 {
-        return a.number;
-    }
     *missing = a.missing;
-    0
+    a.number
 }
 
 // Writing.
 
 // What is told by 16 numbers, as ed2k_read hands them out.
 
-fn write_link(link: Link, bytes: &[u8], given: &[u64], output: &mut [u8], written: &mut u64) -> u8
-    ensures { λ r. ⌜ LeftBy (PacketWrites link (now (bytes .entry)) (now (given .entry)) (now (output .entry))) r (now (output .exit)) (now (written .entry)) (now (written .exit)) ⌝ }
+fn write_link(link: Link, bytes: &[u8], given: &[u64], output: &mut [u8], written: &mut usize) -> u8
+    ensures { λ r. ⌜ PacketWrites link (now (bytes .entry)) (now (given .entry)) (now (output .entry)) (leaves r (now (written .exit)) (now (output .exit))) ⌝ }
 {
     let p = fields::packet_given(given);
     let f = fields::packet_fields(p);
     if !fields::same_fields(&f, given) {
+        *written = 0;
         return 5;
     }
     let a = packetwriting::write_packet(bytes, link, p, output);
-    report(a.number, a.length, written)
+    *written = a.length;
+    a.number
 }
 
-fn write_known(bytes: &[u8], given: &[u64], output: &mut [u8], written: &mut u64) -> u8
-    ensures { λ r. ⌜ LeftBy (KnownWrites (now (bytes .entry)) (now (given .entry)) (now (output .entry))) r (now (output .exit)) (now (written .entry)) (now (written .exit)) ⌝ }
+fn write_known(bytes: &[u8], given: &[u64], output: &mut [u8], written: &mut usize) -> u8
+    ensures { λ r. ⌜ KnownWrites (now (bytes .entry)) (now (given .entry)) (now (output .entry)) (leaves r (now (written .exit)) (now (output .exit))) ⌝ }
 {
     let m = fields::known_given(given);
     let f = fields::known_fields(m);
     if !fields::same_fields(&f, given) {
+        *written = 0;
         return 5;
     }
     let a = metwriting::write_known_met(bytes, m, output);
-    report(a.number, a.length, written)
+    *written = a.length;
+    a.number
 }
 
-fn write_server(bytes: &[u8], given: &[u64], output: &mut [u8], written: &mut u64) -> u8
-    ensures { λ r. ⌜ LeftBy (ServerWrites (now (bytes .entry)) (now (given .entry)) (now (output .entry))) r (now (output .exit)) (now (written .entry)) (now (written .exit)) ⌝ }
+fn write_server(bytes: &[u8], given: &[u64], output: &mut [u8], written: &mut usize) -> u8
+    ensures { λ r. ⌜ ServerWrites (now (bytes .entry)) (now (given .entry)) (now (output .entry)) (leaves r (now (written .exit)) (now (output .exit))) ⌝ }
 {
     let m = fields::server_given(given);
     let f = fields::server_fields(m);
     if !fields::same_fields(&f, given) {
+        *written = 0;
         return 5;
     }
     let a = metwriting::write_server_met(bytes, m, output);
-    report(a.number, a.length, written)
+    *written = a.length;
+    a.number
 }
 
-fn write_part(bytes: &[u8], given: &[u64], output: &mut [u8], written: &mut u64) -> u8
-    ensures { λ r. ⌜ LeftBy (PartWrites (now (bytes .entry)) (now (given .entry)) (now (output .entry))) r (now (output .exit)) (now (written .entry)) (now (written .exit)) ⌝ }
+fn write_part(bytes: &[u8], given: &[u64], output: &mut [u8], written: &mut usize) -> u8
+    ensures { λ r. ⌜ PartWrites (now (bytes .entry)) (now (given .entry)) (now (output .entry)) (leaves r (now (written .exit)) (now (output .exit))) ⌝ }
 {
     let m = fields::part_given(given);
     let size = fields::size_given(given);
     let f = fields::part_fields(m, size);
     if !fields::same_fields(&f, given) {
+        *written = 0;
         return 5;
     }
     let a = partwriting::write_part_met(bytes, m, output);
-    report(a.number, a.length, written)
+    *written = a.length;
+    a.number
 }
 
-fn write_lone_query(bytes: &[u8], given: &[u64], output: &mut [u8], written: &mut u64) -> u8
-    ensures { λ r. ⌜ LeftBy (QueryWrites (now (bytes .entry)) (now (given .entry)) (now (output .entry))) r (now (output .exit)) (now (written .entry)) (now (written .exit)) ⌝ }
+fn write_lone_query(bytes: &[u8], given: &[u64], output: &mut [u8], written: &mut usize) -> u8
+    ensures { λ r. ⌜ QueryWrites (now (bytes .entry)) (now (given .entry)) (now (output .entry)) (leaves r (now (written .exit)) (now (output .exit))) ⌝ }
 {
     let q = fields::query_given(given);
     let f = fields::query_fields(q);
     if !fields::same_fields(&f, given) {
+        *written = 0;
         return 5;
     }
     let a = writing::write_query(bytes, q, output);
-    report(a.number, a.length, written)
+    *written = a.length;
+    a.number
 }
 
-fn write_lone_tags(bytes: &[u8], given: &[u64], output: &mut [u8], written: &mut u64) -> u8
-    ensures { λ r. ⌜ LeftBy (TagListWrites (now (bytes .entry)) (now (given .entry)) (now (output .entry))) r (now (output .exit)) (now (written .entry)) (now (written .exit)) ⌝ }
+fn write_lone_tags(bytes: &[u8], given: &[u64], output: &mut [u8], written: &mut usize) -> u8
+    ensures { λ r. ⌜ TagListWrites (now (bytes .entry)) (now (given .entry)) (now (output .entry)) (leaves r (now (written .exit)) (now (output .exit))) ⌝ }
 {
     let l = fields::list_given(given);
     let f = fields::list_fields(l);
     if !fields::same_fields(&f, given) {
+        *written = 0;
         return 5;
     }
     let a = writing::write_tag_list(bytes, l, output);
-    report(a.number, a.length, written)
+    *written = a.length;
+    a.number
 }
 
 #[no_mangle]
@@ -485,9 +480,9 @@ pub extern "C" fn ed2k_write(
     bytes: &[u8],
     given: &[u64],
     output: &mut [u8],
-    written: &mut u64,
+    written: &mut usize,
 ) -> u8
-    ensures { λ r. ⌜ LeftBy (WriteOf (lookup kinds kind) (now (bytes .entry)) (now (given .entry)) (now (output .entry))) r (now (output .exit)) (now (written .entry)) (now (written .exit)) ⌝ }
+    ensures { λ r. ⌜ WriteOf (lookup kinds kind) (now (bytes .entry)) (now (given .entry)) (now (output .entry)) (leaves r (now (written .exit)) (now (output .exit))) ⌝ }
 {
     match kind {
         0 => write_link(Link::Server, bytes, given, output, written),
@@ -498,7 +493,10 @@ pub extern "C" fn ed2k_write(
         5 => write_part(bytes, given, output, written),
         6 => write_lone_query(bytes, given, output, written),
         7 => write_lone_tags(bytes, given, output, written),
-        _ => 4,
+        _ => {
+            *written = 0;
+            4
+        }
     }
 }
 
@@ -507,13 +505,13 @@ pub extern "C" fn ed2k_put_gaps(
     file: &[u8],
     gaps: &[u64],
     output: &mut [u8],
-    written: &mut u64,
+    written: &mut usize,
 ) -> u8
-    ensures { λ r. ⌜ Leaves (putRecord (now (file .entry)) (recordIn (now (gaps .entry))) (now (output .entry))) r
-        (now (output .exit)) (now (written .entry)) (now (written .exit)) ⌝ }
+    ensures { λ r. ⌜ leaves r (now (written .exit)) (now (output .exit)) ≡ putRecord (now (file .entry)) (recordIn (now (gaps .entry))) (now (output .entry)) ⌝ }
 {
     let a = putting::put_gaps(file, record_in(gaps), output);
-    report(a.number, a.length, written)
+    *written = a.length;
+    a.number
 }
 
 #[no_mangle]
@@ -522,32 +520,31 @@ pub extern "C" fn ed2k_save(
     opened: &[u8],
     saved: &[u8],
     output: &mut [u8],
-    written: &mut u64,
+    written: &mut usize,
 ) -> u8
-    ensures { λ r. ⌜ Leaves (save (now (stored .entry)) (now (opened .entry)) (now (saved .entry)) (now (output .entry))) r (now (output .exit)) (now (written .entry)) (now (written .exit)) ⌝ }
+    ensures { λ r. ⌜ leaves r (now (written .exit)) (now (output .exit)) ≡ save (now (stored .entry)) (now (opened .entry)) (now (saved .entry)) (now (output .entry)) ⌝ }
 {
     let a = saving::save(stored, opened, saved, output);
-    report(a.number, a.length, written)
+    *written = a.length;
+    a.number
 }
 
 #[no_mangle]
 pub extern "C" fn ed2k_truth(query: &[u8], tags: &[u8], truth: &mut u8) -> u8
-    ensures { λ r. ⌜ (r ≡ format.truth (now (query .entry)) (now (tags .entry)) .number) × (now (truth .exit) ≡ truthByte (format.truth (now (query .entry)) (now (tags .entry))) (now (truth .entry))) ⌝ }
+    ensures { λ r. ⌜ (r ≡ format.truth (now (query .entry)) (now (tags .entry)) .number) × (now (truth .exit) ≡ truthByte (format.truth (now (query .entry)) (now (tags .entry)))) ⌝ }
 {
     let t = truth::truth_of(query, tags);
-    if t.number != 0 {
-        return t.number;
-    }
     *truth = t.holds as u8;
-    0
+    t.number
 }
 
 #[no_mangle]
-pub extern "C" fn ed2k_write_keyword(text: &[u8], output: &mut [u8], written: &mut u64) -> u8
-    ensures { λ r. ⌜ Leaves (writeKeyword (now (text .entry)) (now (output .entry))) r (now (output .exit)) (now (written .entry)) (now (written .exit)) ⌝ }
+pub extern "C" fn ed2k_write_keyword(text: &[u8], output: &mut [u8], written: &mut usize) -> u8
+    ensures { λ r. ⌜ leaves r (now (written .exit)) (now (output .exit)) ≡ writeKeyword (now (text .entry)) (now (output .entry)) ⌝ }
 {
     let a = writing::write_keyword(text, output);
-    report(a.number, a.length, written)
+    *written = a.length;
+    a.number
 }
 
 #[no_mangle]
@@ -555,19 +552,21 @@ pub extern "C" fn ed2k_write_field(
     text: &[u8],
     name: &[u8],
     output: &mut [u8],
-    written: &mut u64,
+    written: &mut usize,
 ) -> u8
-    ensures { λ r. ⌜ Leaves (writeField (now (text .entry)) (now (name .entry)) (now (output .entry))) r (now (output .exit)) (now (written .entry)) (now (written .exit)) ⌝ }
+    ensures { λ r. ⌜ leaves r (now (written .exit)) (now (output .exit)) ≡ writeField (now (text .entry)) (now (name .entry)) (now (output .entry)) ⌝ }
 {
     let a = writing::write_field(text, name, output);
-    report(a.number, a.length, written)
+    *written = a.length;
+    a.number
 }
 
-fn write_limit(number: u32, bound: Bound, name: &[u8], output: &mut [u8], written: &mut u64) -> u8
-    ensures { λ r. ⌜ Leaves (writeLimit number (boundOf bound) (now (name .entry)) (now (output .entry))) r (now (output .exit)) (now (written .entry)) (now (written .exit)) ⌝ }
+fn write_limit(number: u32, bound: Bound, name: &[u8], output: &mut [u8], written: &mut usize) -> u8
+    ensures { λ r. ⌜ leaves r (now (written .exit)) (now (output .exit)) ≡ writeLimit number (boundOf bound) (now (name .entry)) (now (output .entry)) ⌝ }
 {
     let a = writing::write_limit(number, bound, name, output);
-    report(a.number, a.length, written)
+    *written = a.length;
+    a.number
 }
 
 #[no_mangle]
@@ -576,14 +575,17 @@ pub extern "C" fn ed2k_write_limit(
     bound: u8,
     name: &[u8],
     output: &mut [u8],
-    written: &mut u64,
+    written: &mut usize,
 ) -> u8
-    ensures { λ r. ⌜ Leaves (chosen (lookup bounds bound) (λ b. writeLimit number b (now (name .entry)) (now (output .entry))) (now (output .entry))) r (now (output .exit)) (now (written .entry)) (now (written .exit)) ⌝ }
+    ensures { λ r. ⌜ leaves r (now (written .exit)) (now (output .exit)) ≡ chosen (lookup bounds bound) (λ b. writeLimit number b (now (name .entry)) (now (output .entry))) (now (output .entry)) ⌝ }
 {
     match bound {
         1 => write_limit(number, Bound::AtLeast, name, output, written),
         2 => write_limit(number, Bound::AtMost, name, output, written),
-        _ => 5,
+        _ => {
+            *written = 0;
+            5
+        }
     }
 }
 
@@ -592,12 +594,13 @@ fn write_join(
     left: &[u8],
     right: &[u8],
     output: &mut [u8],
-    written: &mut u64,
+    written: &mut usize,
 ) -> u8
-    ensures { λ r. ⌜ Leaves (writeJoin (operatorOf operator) (now (left .entry)) (now (right .entry)) (now (output .entry))) r (now (output .exit)) (now (written .entry)) (now (written .exit)) ⌝ }
+    ensures { λ r. ⌜ leaves r (now (written .exit)) (now (output .exit)) ≡ writeJoin (operatorOf operator) (now (left .entry)) (now (right .entry)) (now (output .entry)) ⌝ }
 {
     let a = writing::write_join(operator, left, right, output);
-    report(a.number, a.length, written)
+    *written = a.length;
+    a.number
 }
 
 #[no_mangle]
@@ -606,15 +609,18 @@ pub extern "C" fn ed2k_write_join(
     left: &[u8],
     right: &[u8],
     output: &mut [u8],
-    written: &mut u64,
+    written: &mut usize,
 ) -> u8
-    ensures { λ r. ⌜ Leaves (chosen (lookup operators operation) (λ o. writeJoin o (now (left .entry)) (now (right .entry)) (now (output .entry))) (now (output .entry))) r (now (output .exit)) (now (written .entry)) (now (written .exit)) ⌝ }
+    ensures { λ r. ⌜ leaves r (now (written .exit)) (now (output .exit)) ≡ chosen (lookup operators operation) (λ o. writeJoin o (now (left .entry)) (now (right .entry)) (now (output .entry))) (now (output .entry)) ⌝ }
 {
     match operation {
         0 => write_join(Operator::And, left, right, output, written),
         1 => write_join(Operator::Or, left, right, output, written),
         2 => write_join(Operator::AndNot, left, right, output, written),
-        _ => 5,
+        _ => {
+            *written = 0;
+            5
+        }
     }
 }
 
@@ -623,12 +629,13 @@ pub extern "C" fn ed2k_write_text_tag(
     name: &[u8],
     text: &[u8],
     output: &mut [u8],
-    written: &mut u64,
+    written: &mut usize,
 ) -> u8
-    ensures { λ r. ⌜ Leaves (writeTextTag (now (name .entry)) (now (text .entry)) (now (output .entry))) r (now (output .exit)) (now (written .entry)) (now (written .exit)) ⌝ }
+    ensures { λ r. ⌜ leaves r (now (written .exit)) (now (output .exit)) ≡ writeTextTag (now (name .entry)) (now (text .entry)) (now (output .entry)) ⌝ }
 {
     let a = writing::write_text_tag(name, text, output);
-    report(a.number, a.length, written)
+    *written = a.length;
+    a.number
 }
 
 #[no_mangle]
@@ -636,12 +643,13 @@ pub extern "C" fn ed2k_write_dword_tag(
     name: &[u8],
     number: u32,
     output: &mut [u8],
-    written: &mut u64,
+    written: &mut usize,
 ) -> u8
-    ensures { λ r. ⌜ Leaves (writeDwordTag (now (name .entry)) number (now (output .entry))) r (now (output .exit)) (now (written .entry)) (now (written .exit)) ⌝ }
+    ensures { λ r. ⌜ leaves r (now (written .exit)) (now (output .exit)) ≡ writeDwordTag (now (name .entry)) number (now (output .entry)) ⌝ }
 {
     let a = writing::write_dword_tag(name, number, output);
-    report(a.number, a.length, written)
+    *written = a.length;
+    a.number
 }
 
 #[no_mangle]
@@ -649,12 +657,13 @@ pub extern "C" fn ed2k_write_float_tag(
     name: &[u8],
     bits: u32,
     output: &mut [u8],
-    written: &mut u64,
+    written: &mut usize,
 ) -> u8
-    ensures { λ r. ⌜ Leaves (writeFloatTag (now (name .entry)) bits (now (output .entry))) r (now (output .exit)) (now (written .entry)) (now (written .exit)) ⌝ }
+    ensures { λ r. ⌜ leaves r (now (written .exit)) (now (output .exit)) ≡ writeFloatTag (now (name .entry)) bits (now (output .entry)) ⌝ }
 {
     let a = writing::write_float_tag(name, bits, output);
-    report(a.number, a.length, written)
+    *written = a.length;
+    a.number
 }
 
 #[no_mangle]
@@ -662,12 +671,13 @@ pub extern "C" fn ed2k_write_hash_tag(
     name: &[u8],
     hash: &[u8],
     output: &mut [u8],
-    written: &mut u64,
+    written: &mut usize,
 ) -> u8
-    ensures { λ r. ⌜ Leaves (writeHashTag (now (name .entry)) (now (hash .entry)) 0 (now (output .entry))) r (now (output .exit)) (now (written .entry)) (now (written .exit)) ⌝ }
+    ensures { λ r. ⌜ leaves r (now (written .exit)) (now (output .exit)) ≡ writeHashTag (now (name .entry)) (now (hash .entry)) 0 (now (output .entry)) ⌝ }
 {
     let a = writing::write_hash_tag(name, hash, 0, output);
-    report(a.number, a.length, written)
+    *written = a.length;
+    a.number
 }
 
 #[no_mangle]
@@ -676,12 +686,13 @@ pub extern "C" fn ed2k_write_tag_list(
     at: usize,
     count: u32,
     output: &mut [u8],
-    written: &mut u64,
+    written: &mut usize,
 ) -> u8
-    ensures { λ r. ⌜ Leaves (writeTagList (now (bytes .entry)) (itemsFrom at count) (now (output .entry))) r (now (output .exit)) (now (written .entry)) (now (written .exit)) ⌝ }
+    ensures { λ r. ⌜ leaves r (now (written .exit)) (now (output .exit)) ≡ writeTagList (now (bytes .entry)) (itemsFrom at count) (now (output .entry)) ⌝ }
 {
     let a = writing::write_tag_list(bytes, Items { at, end: at, count }, output);
-    report(a.number, a.length, written)
+    *written = a.length;
+    a.number
 }
 
 #[no_mangle]
@@ -689,9 +700,9 @@ pub extern "C" fn ed2k_write_query(
     bytes: &[u8],
     at: usize,
     output: &mut [u8],
-    written: &mut u64,
+    written: &mut usize,
 ) -> u8
-    ensures { λ r. ⌜ Leaves (writeQuery (now (bytes .entry)) (record { at = at; end = at; depth = 0 }) (now (output .entry))) r (now (output .exit)) (now (written .entry)) (now (written .exit)) ⌝ }
+    ensures { λ r. ⌜ leaves r (now (written .exit)) (now (output .exit)) ≡ writeQuery (now (bytes .entry)) (record { at = at; end = at; depth = 0 }) (now (output .entry)) ⌝ }
 {
     let q = Query {
         at,
@@ -699,17 +710,24 @@ pub extern "C" fn ed2k_write_query(
         depth: 0,
     };
     let a = writing::write_query(bytes, q, output);
-    report(a.number, a.length, written)
+    *written = a.length;
+    a.number
 }
 
 // Entries, to compose lists. A list's end is not looked at: the list is read again.
 
 #[no_mangle]
-pub extern "C" fn ed2k_write_address(ip: u32, port: u16, output: &mut [u8], written: &mut u64) -> u8
-    ensures { λ r. ⌜ Leaves (writeAddress (record { ip = ip; port = port }) (now (output .entry))) r (now (output .exit)) (now (written .entry)) (now (written .exit)) ⌝ }
+pub extern "C" fn ed2k_write_address(
+    ip: u32,
+    port: u16,
+    output: &mut [u8],
+    written: &mut usize,
+) -> u8
+    ensures { λ r. ⌜ leaves r (now (written .exit)) (now (output .exit)) ≡ writeAddress (record { ip = ip; port = port }) (now (output .entry)) ⌝ }
 {
     let a = bodywriting::write_address(Address { ip, port }, output);
-    report(a.number, a.length, written)
+    *written = a.length;
+    a.number
 }
 
 #[no_mangle]
@@ -721,9 +739,9 @@ pub extern "C" fn ed2k_write_record(
     tags_at: usize,
     tag_count: u32,
     output: &mut [u8],
-    written: &mut u64,
+    written: &mut usize,
 ) -> u8
-    ensures { λ r. ⌜ Leaves (writeRecord (now (bytes .entry)) (record { hash = hash; client = client; port = port; tags = itemsFrom «tags_at» «tag_count» }) (now (output .entry))) r (now (output .exit)) (now (written .entry)) (now (written .exit)) ⌝ }
+    ensures { λ r. ⌜ leaves r (now (written .exit)) (now (output .exit)) ≡ writeRecord (now (bytes .entry)) (record { hash = hash; client = client; port = port; tags = itemsFrom «tags_at» «tag_count» }) (now (output .entry)) ⌝ }
 {
     let tags = Items {
         at: tags_at,
@@ -737,7 +755,8 @@ pub extern "C" fn ed2k_write_record(
         tags,
     };
     let a = bodywriting::write_record(bytes, record, output);
-    report(a.number, a.length, written)
+    *written = a.length;
+    a.number
 }
 
 #[no_mangle]
@@ -750,9 +769,9 @@ pub extern "C" fn ed2k_write_file_entry(
     tags_at: usize,
     tag_count: u32,
     output: &mut [u8],
-    written: &mut u64,
+    written: &mut usize,
 ) -> u8
-    ensures { λ r. ⌜ Leaves (writeFileEntry (now (bytes .entry)) (record { date = date; hash = hash; parts = itemsFrom «hashes_at» «hash_count»; tags = itemsFrom «tags_at» «tag_count» }) (now (output .entry))) r (now (output .exit)) (now (written .entry)) (now (written .exit)) ⌝ }
+    ensures { λ r. ⌜ leaves r (now (written .exit)) (now (output .exit)) ≡ writeFileEntry (now (bytes .entry)) (record { date = date; hash = hash; parts = itemsFrom «hashes_at» «hash_count»; tags = itemsFrom «tags_at» «tag_count» }) (now (output .entry)) ⌝ }
 {
     let parts = Items {
         at: hashes_at,
@@ -771,7 +790,8 @@ pub extern "C" fn ed2k_write_file_entry(
         tags,
     };
     let a = metwriting::write_file_entry(bytes, entry, output);
-    report(a.number, a.length, written)
+    *written = a.length;
+    a.number
 }
 
 #[no_mangle]
@@ -782,9 +802,9 @@ pub extern "C" fn ed2k_write_server_entry(
     tags_at: usize,
     tag_count: u32,
     output: &mut [u8],
-    written: &mut u64,
+    written: &mut usize,
 ) -> u8
-    ensures { λ r. ⌜ Leaves (writeServerEntry (now (bytes .entry)) (record { ip = ip; port = port; tags = itemsFrom «tags_at» «tag_count» }) (now (output .entry))) r (now (output .exit)) (now (written .entry)) (now (written .exit)) ⌝ }
+    ensures { λ r. ⌜ leaves r (now (written .exit)) (now (output .exit)) ≡ writeServerEntry (now (bytes .entry)) (record { ip = ip; port = port; tags = itemsFrom «tags_at» «tag_count» }) (now (output .entry)) ⌝ }
 {
     let tags = Items {
         at: tags_at,
@@ -793,5 +813,6 @@ pub extern "C" fn ed2k_write_server_entry(
     };
     let entry = ServerEntry { ip, port, tags };
     let a = metwriting::write_server_entry(bytes, entry, output);
-    report(a.number, a.length, written)
+    *written = a.length;
+    a.number
 }

@@ -2,13 +2,12 @@
 -- it is said to lie has as many items as it counts.
 use Prim.Native.Nat.{ℕ, zero, suc, _≤_, _<_}
 use native.Mathlib.Omega.{arith}
-use mathlib.Core.Path.{_≡_, refl, sym, ap, _∙_}
+use mathlib.Core.Path.{_≡_, sym, ap, _∙_}
 use mathlib.Core.Bool.{Bool}
 use mathlib.Core.List.{List}
 use lib.ListN.{length}
 use Rattle.format.specs.Messages as messages
 use Rattle.format.specs.Rules.{ValidAddress, ValidPacket, ValidRecord, ValidTriple, ValidValues}
-use Rattle.format.specs.Bits.{bitsIn, tabulate}
 use Rattle.format.specs.Decoding.{Decoder, decodeMany, got}
 use Rattle.format.specs.Order.{decodeAddress, decodeHash, decodeRecord, decodeTag}
 use Rattle.format.proofs.Codec.{same-value, went}
@@ -20,7 +19,7 @@ use Rattle.records.specs.declared.Record.{Record}
 use Rattle.records.specs.Meaning.{RecordPlaced, addressOf, recordIn}
 use Rattle.bodies.specs.declared.Body.{Body}
 use Rattle.bodies.specs.declared.Triple.{Triple}
-use Rattle.bodies.specs.Meaning.{BodyPlaced, bodyIn, heldAt, tripleOf}
+use Rattle.bodies.specs.Meaning.{BodyPlaced, bodyIn, tripleOf}
 use Rattle.packets.specs.declared.Packet.{Packet}
 use Rattle.packets.specs.Meaning.{packetIn}
 use Rattle.fields.specs.Given.{AddressFits, BodyFits, PacketFits, RecordFits, TripleFits}
@@ -31,15 +30,6 @@ many-length d s (suc n) at end l e =
     let w = went s (d s at) e in
     let v = went s (decodeMany n d s (w .mid)) (w .then) in
     ap length (sym (same-value (v .then))) ∙ ap suc (many-length d s n (w .mid) (v .mid) (v .first) (v .was))
-
-tabulate-length : {A : Type 0} (f : ℕ → A) (n : ℕ) → length (tabulate f n) ≡ n
-unfolding tabulate
-tabulate-length f zero = refl
-tabulate-length f (suc n) = ap suc (tabulate-length (λ i. f (suc i)) n)
-
-held-length : (n : ℕ) (l : List ℕ) → length (bitsIn n l) ≡ n
-unfolding bitsIn
-held-length n l = tabulate-length _ n
 
 module _ (s : List ℕ) where
   pub items-length : {A : Type 0} (d : Decoder A) (l : Items) → ItemsInside d s l → length (itemsIn d s l) ≡ l .count
@@ -79,7 +69,7 @@ module _ (s : List ℕ) where
   body-fits (Body.Hashset a l) h v = few 65536 (items-length decodeHash l (h .1)) (v .1 .0) (omega arith)
   body-fits (Body.SendingPart p) h v = (v .start, v .end)
   body-fits (Body.RequestParts p) h v = (triple-fits (p .starts) (v .starts), triple-fits (p .ends) (v .ends))
-  body-fits (Body.FileStatus p) h v = rw (held-length (p .parts)) at (v .parts)
+  body-fits (Body.FileStatus p) h v = tt
   body-fits (Body.StatusRequest p) h v = v .number
   body-fits (Body.Status t) h v = triple-fits t v
   body-fits (Body.ExtendedStatus p) h v = (v .first, v .second, triple-fits (p .numbers) (v .numbers))

@@ -62,7 +62,7 @@ abbrev pub requestPartsGiven : List ℕ → Body
 requestPartsGiven f = Body.RequestParts (record { hash = numberAt f 3; starts = tripleAt f 4; ends = tripleAt f 7 })
 
 abbrev pub fileStatusGiven : List ℕ → Body
-fileStatusGiven f = Body.FileStatus (record { hash = numberAt f 3; parts = wordAt f 4; bits = numberAt f 5 })
+fileStatusGiven f = Body.FileStatus (record { hash = numberAt f 3; parts = numberAt f 4; bits = numberAt f 5 })
 
 abbrev pub statusRequestGiven : List ℕ → Body
 statusRequestGiven f = Body.StatusRequest (record { form = formAt f 3; number = dwordAt f 4 })
@@ -178,7 +178,7 @@ BodyFits (Body.HashText h t) = Unit {0}
 BodyFits (Body.Hashset h l) = ItemsFit l
 BodyFits (Body.SendingPart p) = Dword (p .start) × Dword (p .end)
 BodyFits (Body.RequestParts p) = TripleFits (p .starts) × TripleFits (p .ends)
-BodyFits (Body.FileStatus f) = Word (f .parts)
+BodyFits (Body.FileStatus f) = Unit {0}
 BodyFits (Body.StatusRequest r) = Dword (r .number)
 BodyFits (Body.Status t) = TripleFits t
 BodyFits (Body.ExtendedStatus e) = Byte (e .first) × Byte (e .second) × TripleFits (e .numbers)

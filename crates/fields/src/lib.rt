@@ -699,7 +699,7 @@ fn file_status_at(given: &[u64]) -> Body
     ensures { λ r. ⌜ r ≡ fileStatusGiven (now (given .entry)) ⌝ }
 {
     let hash = place_of(given, 3);
-    let parts = word_at(given, 4);
+    let parts = place_of(given, 4);
     let bits = place_of(given, 5);
     Body::FileStatus(FileStatus { hash, parts, bits })
 }

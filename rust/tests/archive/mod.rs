@@ -12,24 +12,24 @@ mod ffi {
         pub fn ed2k_all_missing(size: u64, gaps: *mut u64, gap_numbers: usize) -> u8;
         pub fn ed2k_count_missing(gaps: *const u64, gap_numbers: usize, missing: *mut u64) -> u8;
         pub fn ed2k_mark(gaps: *mut u64, gap_numbers: usize, start: u64, end: u64, missing: *mut u64) -> u8;
-        pub fn ed2k_put_gaps(file: *const u8, length: usize, gaps: *const u64, gap_numbers: usize, output: *mut u8, room: usize, written: *mut u64) -> u8;
-        pub fn ed2k_save(stored: *const u8, stored_length: usize, opened: *const u8, opened_length: usize, saved: *const u8, saved_length: usize, output: *mut u8, room: usize, written: *mut u64) -> u8;
+        pub fn ed2k_put_gaps(file: *const u8, length: usize, gaps: *const u64, gap_numbers: usize, output: *mut u8, room: usize, written: *mut usize) -> u8;
+        pub fn ed2k_save(stored: *const u8, stored_length: usize, opened: *const u8, opened_length: usize, saved: *const u8, saved_length: usize, output: *mut u8, room: usize, written: *mut usize) -> u8;
         pub fn ed2k_truth(query: *const u8, query_length: usize, tags: *const u8, tags_length: usize, truth: *mut u8) -> u8;
-        pub fn ed2k_write_keyword(text: *const u8, text_length: usize, output: *mut u8, room: usize, written: *mut u64) -> u8;
-        pub fn ed2k_write_field(text: *const u8, text_length: usize, name: *const u8, name_length: usize, output: *mut u8, room: usize, written: *mut u64) -> u8;
-        pub fn ed2k_write_limit(number: u32, bound: u8, name: *const u8, name_length: usize, output: *mut u8, room: usize, written: *mut u64) -> u8;
-        pub fn ed2k_write_join(operation: u8, left: *const u8, left_length: usize, right: *const u8, right_length: usize, output: *mut u8, room: usize, written: *mut u64) -> u8;
-        pub fn ed2k_write_text_tag(name: *const u8, name_length: usize, text: *const u8, text_length: usize, output: *mut u8, room: usize, written: *mut u64) -> u8;
-        pub fn ed2k_write_hash_tag(name: *const u8, name_length: usize, hash: *const u8, hash_length: usize, output: *mut u8, room: usize, written: *mut u64) -> u8;
-        pub fn ed2k_write_dword_tag(name: *const u8, name_length: usize, number: u32, output: *mut u8, room: usize, written: *mut u64) -> u8;
-        pub fn ed2k_write_float_tag(name: *const u8, name_length: usize, bits: u32, output: *mut u8, room: usize, written: *mut u64) -> u8;
-        pub fn ed2k_write_tag_list(bytes: *const u8, length: usize, at: usize, count: u32, output: *mut u8, room: usize, written: *mut u64) -> u8;
-        pub fn ed2k_write_query(bytes: *const u8, length: usize, at: usize, output: *mut u8, room: usize, written: *mut u64) -> u8;
-        pub fn ed2k_write(kind: u8, bytes: *const u8, length: usize, fields: *const u64, field_count: usize, output: *mut u8, room: usize, written: *mut u64) -> u8;
-        pub fn ed2k_write_address(ip: u32, port: u16, output: *mut u8, room: usize, written: *mut u64) -> u8;
-        pub fn ed2k_write_record(bytes: *const u8, length: usize, hash: usize, client: u32, port: u16, tags_at: usize, tag_count: u32, output: *mut u8, room: usize, written: *mut u64) -> u8;
-        pub fn ed2k_write_file_entry(bytes: *const u8, length: usize, date: u32, hash: usize, hashes_at: usize, hash_count: u32, tags_at: usize, tag_count: u32, output: *mut u8, room: usize, written: *mut u64) -> u8;
-        pub fn ed2k_write_server_entry(bytes: *const u8, length: usize, ip: u32, port: u16, tags_at: usize, tag_count: u32, output: *mut u8, room: usize, written: *mut u64) -> u8;
+        pub fn ed2k_write_keyword(text: *const u8, text_length: usize, output: *mut u8, room: usize, written: *mut usize) -> u8;
+        pub fn ed2k_write_field(text: *const u8, text_length: usize, name: *const u8, name_length: usize, output: *mut u8, room: usize, written: *mut usize) -> u8;
+        pub fn ed2k_write_limit(number: u32, bound: u8, name: *const u8, name_length: usize, output: *mut u8, room: usize, written: *mut usize) -> u8;
+        pub fn ed2k_write_join(operation: u8, left: *const u8, left_length: usize, right: *const u8, right_length: usize, output: *mut u8, room: usize, written: *mut usize) -> u8;
+        pub fn ed2k_write_text_tag(name: *const u8, name_length: usize, text: *const u8, text_length: usize, output: *mut u8, room: usize, written: *mut usize) -> u8;
+        pub fn ed2k_write_hash_tag(name: *const u8, name_length: usize, hash: *const u8, hash_length: usize, output: *mut u8, room: usize, written: *mut usize) -> u8;
+        pub fn ed2k_write_dword_tag(name: *const u8, name_length: usize, number: u32, output: *mut u8, room: usize, written: *mut usize) -> u8;
+        pub fn ed2k_write_float_tag(name: *const u8, name_length: usize, bits: u32, output: *mut u8, room: usize, written: *mut usize) -> u8;
+        pub fn ed2k_write_tag_list(bytes: *const u8, length: usize, at: usize, count: u32, output: *mut u8, room: usize, written: *mut usize) -> u8;
+        pub fn ed2k_write_query(bytes: *const u8, length: usize, at: usize, output: *mut u8, room: usize, written: *mut usize) -> u8;
+        pub fn ed2k_write(kind: u8, bytes: *const u8, length: usize, fields: *const u64, field_count: usize, output: *mut u8, room: usize, written: *mut usize) -> u8;
+        pub fn ed2k_write_address(ip: u32, port: u16, output: *mut u8, room: usize, written: *mut usize) -> u8;
+        pub fn ed2k_write_record(bytes: *const u8, length: usize, hash: usize, client: u32, port: u16, tags_at: usize, tag_count: u32, output: *mut u8, room: usize, written: *mut usize) -> u8;
+        pub fn ed2k_write_file_entry(bytes: *const u8, length: usize, date: u32, hash: usize, hashes_at: usize, hash_count: u32, tags_at: usize, tag_count: u32, output: *mut u8, room: usize, written: *mut usize) -> u8;
+        pub fn ed2k_write_server_entry(bytes: *const u8, length: usize, ip: u32, port: u16, tags_at: usize, tag_count: u32, output: *mut u8, room: usize, written: *mut usize) -> u8;
     }
 
     macro_rules! item_readers {

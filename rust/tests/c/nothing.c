@@ -7,7 +7,8 @@
 
 /* What a call is lent to write. */
 static struct {
-    uint64_t fields[ED2K_FIELDS], gaps[ED2K_GAP_NUMBERS], written, missing;
+    uint64_t fields[ED2K_FIELDS], gaps[ED2K_GAP_NUMBERS], missing;
+    size_t written;
     uint8_t output[256], truth;
 } lent, before;
 

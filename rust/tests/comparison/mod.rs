@@ -87,24 +87,23 @@ impl Comparison {
         &mut self,
         call: &'static str,
         input: &[&[u8]],
-        run: impl Fn(&Calls, &mut [u8], &mut u64) -> u8,
+        run: impl Fn(&Calls, &mut [u8], &mut usize) -> u8,
     ) -> Option<Vec<u8>> {
         let lent = |room| {
             let run = &run;
             move |calls: &Calls| {
-                let (mut output, mut written) = (vec![FILL; room], SENTINEL);
+                let (mut output, mut written) = (vec![FILL; room], SENTINEL as usize);
                 let number = run(calls, &mut output, &mut written);
                 (number, (written, output))
             }
         };
         let most = 4_096 + input.iter().map(|bytes| bytes.len()).sum::<usize>();
-        let (number, (written, _)) = self.same(call, input, lent(most));
+        let (number, (length, _)) = self.same(call, input, lent(most));
         if number != 0 {
             let (again, _) = self.same(call, input, lent(0));
             assert_eq!(again, number, "seed {}, {call}: room is asked for last", self.seed);
             return None;
         }
-        let length = written as usize;
         let (_, (_, output)) = self.same(call, input, lent(length));
         self.turn += 1;
         if self.turn.is_multiple_of(4) {

@@ -12,24 +12,24 @@ pub struct Calls {
     pub all_missing: fn(u64, &mut [u64]) -> u8,
     pub count_missing: fn(&[u64], &mut u64) -> u8,
     pub mark: fn(&mut [u64], u64, u64, &mut u64) -> u8,
-    pub put_gaps: fn(&[u8], &[u64], &mut [u8], &mut u64) -> u8,
-    pub save: fn(&[u8], &[u8], &[u8], &mut [u8], &mut u64) -> u8,
+    pub put_gaps: fn(&[u8], &[u64], &mut [u8], &mut usize) -> u8,
+    pub save: fn(&[u8], &[u8], &[u8], &mut [u8], &mut usize) -> u8,
     pub truth: fn(&[u8], &[u8], &mut u8) -> u8,
-    pub write_keyword: fn(&[u8], &mut [u8], &mut u64) -> u8,
-    pub write_field: fn(&[u8], &[u8], &mut [u8], &mut u64) -> u8,
-    pub write_limit: fn(u32, u8, &[u8], &mut [u8], &mut u64) -> u8,
-    pub write_join: fn(u8, &[u8], &[u8], &mut [u8], &mut u64) -> u8,
-    pub write_text_tag: fn(&[u8], &[u8], &mut [u8], &mut u64) -> u8,
-    pub write_dword_tag: fn(&[u8], u32, &mut [u8], &mut u64) -> u8,
-    pub write_float_tag: fn(&[u8], u32, &mut [u8], &mut u64) -> u8,
-    pub write_hash_tag: fn(&[u8], &[u8], &mut [u8], &mut u64) -> u8,
-    pub write_tag_list: fn(&[u8], usize, u32, &mut [u8], &mut u64) -> u8,
-    pub write_query: fn(&[u8], usize, &mut [u8], &mut u64) -> u8,
-    pub write: fn(u8, &[u8], &[u64], &mut [u8], &mut u64) -> u8,
-    pub write_address: fn(u32, u16, &mut [u8], &mut u64) -> u8,
-    pub write_record: fn(&[u8], usize, (u32, u16), (usize, u32), &mut [u8], &mut u64) -> u8,
-    pub write_file_entry: fn(&[u8], (u32, usize), (usize, u32), (usize, u32), &mut [u8], &mut u64) -> u8,
-    pub write_server_entry: fn(&[u8], (u32, u16), (usize, u32), &mut [u8], &mut u64) -> u8,
+    pub write_keyword: fn(&[u8], &mut [u8], &mut usize) -> u8,
+    pub write_field: fn(&[u8], &[u8], &mut [u8], &mut usize) -> u8,
+    pub write_limit: fn(u32, u8, &[u8], &mut [u8], &mut usize) -> u8,
+    pub write_join: fn(u8, &[u8], &[u8], &mut [u8], &mut usize) -> u8,
+    pub write_text_tag: fn(&[u8], &[u8], &mut [u8], &mut usize) -> u8,
+    pub write_dword_tag: fn(&[u8], u32, &mut [u8], &mut usize) -> u8,
+    pub write_float_tag: fn(&[u8], u32, &mut [u8], &mut usize) -> u8,
+    pub write_hash_tag: fn(&[u8], &[u8], &mut [u8], &mut usize) -> u8,
+    pub write_tag_list: fn(&[u8], usize, u32, &mut [u8], &mut usize) -> u8,
+    pub write_query: fn(&[u8], usize, &mut [u8], &mut usize) -> u8,
+    pub write: fn(u8, &[u8], &[u64], &mut [u8], &mut usize) -> u8,
+    pub write_address: fn(u32, u16, &mut [u8], &mut usize) -> u8,
+    pub write_record: fn(&[u8], usize, (u32, u16), (usize, u32), &mut [u8], &mut usize) -> u8,
+    pub write_file_entry: fn(&[u8], (u32, usize), (usize, u32), (usize, u32), &mut [u8], &mut usize) -> u8,
+    pub write_server_entry: fn(&[u8], (u32, u16), (usize, u32), &mut [u8], &mut usize) -> u8,
 }
 
 pub const PLAIN: Calls = Calls {
@@ -37,56 +37,55 @@ pub const PLAIN: Calls = Calls {
     read_item: |item, bytes, at, fields| lend(read_item(item, bytes, at), fields),
     part_count,
     block_count,
-    read_gaps: |file, record| number(read_gaps(file, record), |()| ()),
-    all_missing: |size, record| number(all_missing(size, record), |()| ()),
-    count_missing: |record, missing| number(count_missing(record), |count| *missing = count),
-    mark: |record, start, end, missing| number(mark(record, start, end), |count| *missing = count),
-    put_gaps: |file, record, output, written| length(put_gaps(file, record, output), written),
-    save: |stored, opened, saved, output, written| length(save(stored, opened, saved, output), written),
-    truth: |query, tags, holds| number(truth(query, tags), |truth| *holds = truth.into()),
-    write_keyword: |text, output, written| length(write_keyword(text, output), written),
-    write_field: |text, name, output, written| length(write_field(text, name, output), written),
+    read_gaps: |file, record| number(&read_gaps(file, record)),
+    all_missing: |size, record| number(&all_missing(size, record)),
+    count_missing: |record, missing| told(count_missing(record), missing),
+    mark: |record, start, end, missing| told(mark(record, start, end), missing),
+    put_gaps: |file, record, output, written| told(put_gaps(file, record, output), written),
+    save: |stored, opened, saved, output, written| told(save(stored, opened, saved, output), written),
+    truth: |query, tags, holds| told(truth(query, tags).map(u8::from), holds),
+    write_keyword: |text, output, written| told(write_keyword(text, output), written),
+    write_field: |text, name, output, written| told(write_field(text, name, output), written),
     write_limit: |number, bound, name, output, written| {
-        length(write_limit(number, bound, name, output), written)
+        told(write_limit(number, bound, name, output), written)
     },
     write_join: |operation, left, right, output, written| {
-        length(write_join(operation, left, right, output), written)
+        told(write_join(operation, left, right, output), written)
     },
-    write_text_tag: |name, text, output, written| length(write_text_tag(name, text, output), written),
-    write_dword_tag: |name, number, output, written| length(write_dword_tag(name, number, output), written),
-    write_float_tag: |name, bits, output, written| length(write_float_tag(name, bits, output), written),
-    write_hash_tag: |name, hash, output, written| length(write_hash_tag(name, hash, output), written),
+    write_text_tag: |name, text, output, written| told(write_text_tag(name, text, output), written),
+    write_dword_tag: |name, number, output, written| told(write_dword_tag(name, number, output), written),
+    write_float_tag: |name, bits, output, written| told(write_float_tag(name, bits, output), written),
+    write_hash_tag: |name, hash, output, written| told(write_hash_tag(name, hash, output), written),
     write_tag_list: |bytes, at, count, output, written| {
-        length(write_tag_list(bytes, at, count, output), written)
+        told(write_tag_list(bytes, at, count, output), written)
     },
-    write_query: |bytes, at, output, written| length(write_query(bytes, at, output), written),
-    write: |kind, bytes, fields, output, written| length(write_message(kind, bytes, fields, output), written),
-    write_address: |ip, port, output, written| length(write_address(ip, port, output), written),
+    write_query: |bytes, at, output, written| told(write_query(bytes, at, output), written),
+    write: |kind, bytes, fields, output, written| told(write_message(kind, bytes, fields, output), written),
+    write_address: |ip, port, output, written| told(write_address(ip, port, output), written),
     write_record: |bytes, hash, client, tags, output, written| {
-        length(write_record(bytes, hash, client, tags, output), written)
+        told(write_record(bytes, hash, client, tags, output), written)
     },
     write_file_entry: |bytes, file, hashes, tags, output, written| {
-        length(write_file_entry(bytes, file, hashes, tags, output), written)
+        told(write_file_entry(bytes, file, hashes, tags, output), written)
     },
     write_server_entry: |bytes, address, tags, output, written| {
-        length(write_server_entry(bytes, address, tags, output), written)
+        told(write_server_entry(bytes, address, tags, output), written)
     },
 };
 
 #[inline]
-fn number<T>(answer: Answer<T>, accept: impl FnOnce(T)) -> u8 {
+fn number<T>(answer: &Answer<T>) -> u8 {
     match answer {
-        Ok(value) => {
-            accept(value);
-            0
-        }
-        Err(refusal) => refusal as u8,
+        Ok(_) => 0,
+        Err(refusal) => *refusal as u8,
     }
 }
 
+/// A length, a count or a truth: a refusal tells 0.
 #[inline]
-fn length(answer: Answer<usize>, written: &mut u64) -> u8 {
-    number(answer, |length| *written = length as u64)
+fn told<T: Copy + Default>(answer: Answer<T>, value: &mut T) -> u8 {
+    *value = answer.unwrap_or_default();
+    number(&answer)
 }
 
 /// Room for the fields is asked for last.
@@ -97,5 +96,5 @@ fn lend(answer: Answer<Fields>, fields: &mut [u64]) -> u8 {
         *place = read.numbers;
         Ok(())
     });
-    number(placed, |()| ())
+    number(&placed)
 }

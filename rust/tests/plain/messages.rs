@@ -111,11 +111,11 @@ fn keeps_width(given: &Given) -> bool {
     let numbers = given.numbers;
     match given.field {
         Byte => numbers[0] <= u8::MAX.into(),
-        Word | Bits => numbers[0] <= u16::MAX.into(),
+        Word => numbers[0] <= u16::MAX.into(),
         Dword => numbers[0] <= u32::MAX.into(),
         Choice(most) | Beside(most) => numbers[0] <= most,
         List(_) => numbers[2] <= u32::MAX.into(),
-        Fixed(_) | Hash | Run | Text | Query => true,
+        Fixed(_) | Hash | Run | Text | Bits | Query => true,
     }
 }
 

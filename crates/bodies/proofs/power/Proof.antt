@@ -9,7 +9,7 @@ shl-result : tie.Need-shl-result
 shl-result c = search needs
 
 returns : tie.Need-returns
-returns c = rw one-mul (mod-eq-of-lt (pow-lt {j = 16} (omega arith)))
+returns c = rw one-mul (mod-eq-of-lt (pow-lt {j = 64} (omega arith)))
 
 pub power-spec : {M : Type 1} → statement M
 power-spec = tie.close (tie.spec shl-result returns)

@@ -46,6 +46,9 @@ returns-2 c =
     )
     (refl, tt)
 
+cast-parts : tie.Need-cast-parts
+cast-parts c = search needs
+
 read-bits-requires : tie.Need-read-bits-requires
 read-bits-requires c κs = search needs
 
@@ -104,6 +107,7 @@ read-file-status-spec =
     enum-told-2
     fault-requires-2
     returns-2
+    cast-parts
     read-bits-requires
     enum-known-b
     enum-told-3

@@ -1,6 +1,7 @@
 use mathlib.Core.Path.{refl}
 use native.Mathlib.Omega.{arith}
 use Rattle.writing.proofs.There.{is-there}
+use Rattle.bodychecking.specs.Extents.{tooLong}
 use Rattle.bodychecking.proofs.Extents.{absent-extends, plain-extends}
 use Rattle.bodychecking.proofs.Places.{got-ends}
 use borrow.Author.Needs.{needs}
@@ -27,11 +28,15 @@ returns c =
     let told = c .before .before .enum-told2 .given .1 in
     rw (c .number .ensures, c .before .fault .ensures, told) (absent-extends _ (rw told at (c .before .before .before .before .read-bits .ensures .0)))
 
+returns-2 : tie.Need-returns-2
+returns-2 c = tooLong (is-there (got-ends (rw (c .before .enum-told .given .1) at (c .before .before .before .read-bits .ensures .0)))) (λ f. omega arith)
+
 add-size : tie.Need-add-size
 add-size c = search needs
 
-returns-2 : tie.Need-returns-2
-returns-2 c = plain-extends _ (is-there (got-ends (rw (c .enum-told .given .1) at (c .before .before .read-bits .ensures .0)))) (omega arith) refl (omega arith)
+returns-3 : tie.Need-returns-3
+returns-3 c =
+    plain-extends _ (is-there (got-ends (rw (c .before .enum-told .given .1) at (c .before .before .before .read-bits .ensures .0)))) (omega arith) refl (omega arith)
 
 pub bits-extent-spec : {M : Type 1} → statement M
 bits-extent-spec =
@@ -43,5 +48,6 @@ bits-extent-spec =
     fault-requires
     number-requires
     returns
+    returns-2
     add-size
-    returns-2)
+    returns-3)

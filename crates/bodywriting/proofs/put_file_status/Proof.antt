@@ -5,9 +5,6 @@ use borrow.Author.Needs.{needs}
 use Rattle.bodywriting.proofs.put_file_status.Statement.{statement}
 use Rattle.bodywriting.proofs.put_file_status.Tie as tie
 
-cast-n : tie.Need-cast-n
-cast-n c = search needs
-
 add-n : tie.Need-add-n
 add-n c = search needs
 
@@ -22,6 +19,9 @@ part-put-word-start c = search needs
 
 part-put-word-end : tie.Need-part-put-word-end
 part-put-word-end c = search needs
+
+cast-put-word : tie.Need-cast-put-word
+cast-put-word c = search needs
 
 put-word-requires : tie.Need-put-word-requires
 put-word-requires c κs = search needs
@@ -57,12 +57,12 @@ pub put-file-status-spec : {M : Type 1} → statement M
 put-file-status-spec =
     tie.close
     (tie.spec
-    cast-n
     add-n
     put-run-requires
     sub-put-word
     part-put-word-start
     part-put-word-end
+    cast-put-word
     put-word-requires
     add-at
     sub-put-run

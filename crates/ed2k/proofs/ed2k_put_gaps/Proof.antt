@@ -1,7 +1,6 @@
 use mathlib.Core.Path.{ap, _∙_}
 use denote.Ref.{now}
 use Rattle.putting.specs.Meaning.{putRecord}
-use Rattle.ed2k.proofs.Writes.{leaves}
 use borrow.Author.Needs.{needs}
 use Rattle.ed2k.proofs.ed2k_put_gaps.Statement.{statement}
 use Rattle.ed2k.proofs.ed2k_put_gaps.Tie as tie
@@ -12,18 +11,15 @@ record-in-requires c κs = search needs
 put-gaps-requires : tie.Need-put-gaps-requires
 put-gaps-requires c κs = search needs
 
-report-requires : tie.Need-report-requires
-report-requires c κs = search needs
-
 same-length : tie.Need-same-length
 same-length c = search needs
 
 returns : tie.Need-returns
 returns c =
-    let a = c .before .before .before .before .before .before .before .before .before .before .args in
-    let e = ap (λ g. putRecord (now (a .file)) g (now (a .output))) (c .before .before .before .before .before .before .record-in .ensures) in
-    leaves (c .before .before .before .before .put-gaps .ensures ∙ e) (c .report .ensures)
+    let a = c .before .before .before .before .before .before .before .before .args in
+    let e = ap (λ g. putRecord (now (a .file)) g (now (a .output))) (c .before .before .before .before .record-in .ensures) in
+    c .before .before .put-gaps .ensures ∙ e
 
 pub ed2k-put-gaps-spec : {M : Type 1} → statement M
 ed2k-put-gaps-spec =
-    tie.close (tie.spec record-in-requires put-gaps-requires report-requires same-length returns)
+    tie.close (tie.spec record-in-requires put-gaps-requires same-length returns)

@@ -2,7 +2,6 @@ use mathlib.Core.List.{[], _∷_}
 use mathlib.Core.Path.{refl}
 use Rattle.packets.proofs.Arms.{unlisted}
 use Rattle.ed2k.specs.Calls.{kinds}
-use Rattle.ed2k.proofs.Writes.{leaves-all}
 use borrow.Author.Needs.{needs}
 use Rattle.ed2k.proofs.ed2k_write.Statement.{statement}
 use Rattle.ed2k.proofs.ed2k_write.Tie as tie
@@ -82,7 +81,7 @@ returns-8 c = rw (c .before .before .before .before .before .match .keys8) (c .b
 returns-9 : tie.Need-returns-9
 returns-9 c =
     let none = unlisted kinds ((7 ∷ []) ∷ (6 ∷ []) ∷ (5 ∷ []) ∷ (4 ∷ []) ∷ (3 ∷ []) ∷ (2 ∷ []) ∷ (1 ∷ []) ∷ (0 ∷ []) ∷ []) _ tt (c .match .rest) in
-    rw (← none) (_, refl, leaves-all 4 _ _ refl)
+    rw (← none) refl
 
 pub ed2k-write-spec : {M : Type 1} → statement M
 ed2k-write-spec =

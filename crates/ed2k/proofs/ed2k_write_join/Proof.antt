@@ -1,7 +1,6 @@
 use mathlib.Core.Path.{refl}
 use mathlib.Core.List.{[], _∷_}
 use Rattle.packets.proofs.Arms.{unlisted}
-use Rattle.ed2k.proofs.Writes.{leaves-all}
 use Rattle.ed2k.specs.Calls.{operators}
 use borrow.Author.Needs.{needs}
 use Rattle.ed2k.proofs.ed2k_write_join.Statement.{statement}
@@ -35,7 +34,7 @@ returns-3 : tie.Need-returns-3
 returns-3 c = rw (c .before .before .before .before .before .match .keys3) (c .before .before .write-join3 .ensures)
 
 returns-4 : tie.Need-returns-4
-returns-4 c = rw (← unlisted operators ((2 ∷ []) ∷ (1 ∷ []) ∷ (0 ∷ []) ∷ []) _ tt (c .match .rest)) (leaves-all 5 _ _ refl)
+returns-4 c = rw (← unlisted operators ((2 ∷ []) ∷ (1 ∷ []) ∷ (0 ∷ []) ∷ []) _ tt (c .match .rest)) refl
 
 pub ed2k-write-join-spec : {M : Type 1} → statement M
 ed2k-write-join-spec =

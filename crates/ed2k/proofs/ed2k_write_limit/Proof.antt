@@ -1,7 +1,6 @@
 use mathlib.Core.Path.{refl}
 use mathlib.Core.List.{[], _∷_}
 use Rattle.packets.proofs.Arms.{unlisted}
-use Rattle.ed2k.proofs.Writes.{leaves-all}
 use Rattle.ed2k.specs.Calls.{bounds}
 use borrow.Author.Needs.{needs}
 use Rattle.ed2k.proofs.ed2k_write_limit.Statement.{statement}
@@ -26,7 +25,7 @@ returns-2 : tie.Need-returns-2
 returns-2 c = rw (c .before .before .before .before .before .match .keys2) (c .before .before .write-limit2 .ensures)
 
 returns-3 : tie.Need-returns-3
-returns-3 c = rw (← unlisted bounds ((2 ∷ []) ∷ (1 ∷ []) ∷ []) _ tt (c .match .rest)) (leaves-all 5 _ _ refl)
+returns-3 c = rw (← unlisted bounds ((2 ∷ []) ∷ (1 ∷ []) ∷ []) _ tt (c .match .rest)) refl
 
 pub ed2k-write-limit-spec : {M : Type 1} → statement M
 ed2k-write-limit-spec =

@@ -1,4 +1,3 @@
-use mathlib.Core.Path.{refl}
 use denote.Ref.{now}
 use Rattle.format.specs.Messages.{knownMet}
 use Rattle.met.specs.Meaning.{knownMetIn}
@@ -6,7 +5,7 @@ use Rattle.metwriting.specs.Files.{knownThere}
 use Rattle.fields.specs.Fields.{knownNumbers}
 use Rattle.fields.specs.Given.{knownGiven}
 use Rattle.ed2k.specs.Calls.{WritesBack}
-use Rattle.ed2k.proofs.Writes.{leaves, none-given, writes-given}
+use Rattle.ed2k.proofs.Writes.{none-given, writes-given}
 use borrow.Author.Needs.{needs}
 use Rattle.ed2k.proofs.write_known.Statement.{statement}
 use Rattle.ed2k.proofs.write_known.Tie as tie
@@ -35,23 +34,20 @@ returns c =
 write-known-met-requires : tie.Need-write-known-met-requires
 write-known-met-requires c κs = search needs
 
-report-requires : tie.Need-report-requires
-report-requires c κs = search needs
-
 same-length : tie.Need-same-length
 same-length c = search needs
 
 returns-2 : tie.Need-returns-2
 returns-2 c =
-    let wrote = c .before .before .before .before in
+    let wrote = c .before .before in
     let test = wrote .before .before in
     let look = test .before .before .before in
     let a = look .before .before .before .before .before .args in
     let s = now (a .bytes) in
     let given = now (a .given) in
     let out = now (a .output) in
-    writes-given knownNumbers (λ m. WritesBack knownMet (knownThere s m) (knownMetIn s m) out) (knownGiven given) _ (look .before .known-given .ensures) given out _ (look .known-fields .ensures) _ (test .before .same-fields .ensures) (test .if1 .left) _
-    (wrote .write-known-met .ensures) (leaves refl (c .report .ensures))
+    writes-given knownNumbers (λ m. WritesBack knownMet (knownThere s m) (knownMetIn s m) out) (knownGiven given) _ (look .before .known-given .ensures) given out _ (look .known-fields .ensures) _ (test .before .same-fields .ensures) (test .if1 .left)
+    (wrote .write-known-met .ensures)
 
 pub write-known-spec : {M : Type 1} → statement M
 write-known-spec =
@@ -63,6 +59,5 @@ write-known-spec =
     same-fields-requires
     returns
     write-known-met-requires
-    report-requires
     same-length
     returns-2)

@@ -1,10 +1,9 @@
-use mathlib.Core.Path.{refl}
 use denote.Ref.{now}
 use Rattle.packetwriting.specs.Packets.{kindOf, packetOf, packetThere}
 use Rattle.fields.specs.Fields.{packetNumbers}
 use Rattle.fields.specs.Given.{packetGiven}
 use Rattle.ed2k.specs.Calls.{WritesBack}
-use Rattle.ed2k.proofs.Writes.{leaves, none-given, writes-given}
+use Rattle.ed2k.proofs.Writes.{none-given, writes-given}
 use borrow.Author.Needs.{needs}
 use Rattle.ed2k.proofs.write_link.Statement.{statement}
 use Rattle.ed2k.proofs.write_link.Tie as tie
@@ -33,23 +32,20 @@ returns c =
 write-packet-requires : tie.Need-write-packet-requires
 write-packet-requires c κs = search needs
 
-report-requires : tie.Need-report-requires
-report-requires c κs = search needs
-
 same-length : tie.Need-same-length
 same-length c = search needs
 
 returns-2 : tie.Need-returns-2
 returns-2 c =
-    let wrote = c .before .before .before .before in
+    let wrote = c .before .before in
     let test = wrote .before .before in
     let look = test .before .before .before in
     let a = look .before .before .before .before .before .args in
     let s = now (a .bytes) in
     let given = now (a .given) in
     let out = now (a .output) in
-    writes-given packetNumbers (λ p. WritesBack (kindOf (a .link)) (packetThere (a .link) s p) (packetOf (a .link) s p) out) (packetGiven given) _ (look .before .packet-given .ensures) given out _ (look .packet-fields .ensures) _ (test .before .same-fields .ensures) (test .if1 .left) _
-    (wrote .write-packet .ensures) (leaves refl (c .report .ensures))
+    writes-given packetNumbers (λ p. WritesBack (kindOf (a .link)) (packetThere (a .link) s p) (packetOf (a .link) s p) out) (packetGiven given) _ (look .before .packet-given .ensures) given out _ (look .packet-fields .ensures) _ (test .before .same-fields .ensures) (test .if1 .left)
+    (wrote .write-packet .ensures)
 
 pub write-link-spec : {M : Type 1} → statement M
 write-link-spec =
@@ -61,6 +57,5 @@ write-link-spec =
     same-fields-requires
     returns
     write-packet-requires
-    report-requires
     same-length
     returns-2)

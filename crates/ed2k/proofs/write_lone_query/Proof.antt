@@ -1,9 +1,8 @@
 use denote.Ref.{now}
-use mathlib.Core.Path.{refl}
 use Rattle.fields.specs.Fields.{queryNumbers}
 use Rattle.fields.specs.Given.{queryAt}
 use Rattle.ed2k.specs.Calls.{QueryWritten}
-use Rattle.ed2k.proofs.Writes.{leaves, none-given, writes-given}
+use Rattle.ed2k.proofs.Writes.{none-given, writes-given}
 use borrow.Author.Needs.{needs}
 use Rattle.ed2k.proofs.write_lone_query.Statement.{statement}
 use Rattle.ed2k.proofs.write_lone_query.Tie as tie
@@ -32,23 +31,20 @@ returns c =
 write-query-requires : tie.Need-write-query-requires
 write-query-requires c κs = search needs
 
-report-requires : tie.Need-report-requires
-report-requires c κs = search needs
-
 same-length : tie.Need-same-length
 same-length c = search needs
 
 returns-2 : tie.Need-returns-2
 returns-2 c =
-    let wrote = c .before .before .before .before in
+    let wrote = c .before .before in
     let test = wrote .before .before in
     let look = test .before .before .before in
     let a = look .before .before .before .before .before .args in
     let s = now (a .bytes) in
     let given = now (a .given) in
     let out = now (a .output) in
-    writes-given queryNumbers (λ q. QueryWritten s q out) (queryAt given 0) _ (look .before .query-given .ensures) given out _ (look .query-fields .ensures) _ (test .before .same-fields .ensures) (test .if1 .left) _
-    (wrote .write-query .ensures) (leaves refl (c .report .ensures))
+    writes-given queryNumbers (λ q. QueryWritten s q out) (queryAt given 0) _ (look .before .query-given .ensures) given out _ (look .query-fields .ensures) _ (test .before .same-fields .ensures) (test .if1 .left)
+    (wrote .write-query .ensures)
 
 pub write-lone-query-spec : {M : Type 1} → statement M
 write-lone-query-spec =
@@ -60,6 +56,5 @@ write-lone-query-spec =
     same-fields-requires
     returns
     write-query-requires
-    report-requires
     same-length
     returns-2)

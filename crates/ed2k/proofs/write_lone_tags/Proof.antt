@@ -1,9 +1,8 @@
 use denote.Ref.{now}
-use mathlib.Core.Path.{refl}
 use Rattle.fields.specs.Fields.{itemsNumbers}
 use Rattle.fields.specs.Given.{itemsAt}
 use Rattle.ed2k.specs.Calls.{TagListWritten}
-use Rattle.ed2k.proofs.Writes.{leaves, none-given, writes-given}
+use Rattle.ed2k.proofs.Writes.{none-given, writes-given}
 use borrow.Author.Needs.{needs}
 use Rattle.ed2k.proofs.write_lone_tags.Statement.{statement}
 use Rattle.ed2k.proofs.write_lone_tags.Tie as tie
@@ -32,23 +31,20 @@ returns c =
 write-tag-list-requires : tie.Need-write-tag-list-requires
 write-tag-list-requires c κs = search needs
 
-report-requires : tie.Need-report-requires
-report-requires c κs = search needs
-
 same-length : tie.Need-same-length
 same-length c = search needs
 
 returns-2 : tie.Need-returns-2
 returns-2 c =
-    let wrote = c .before .before .before .before in
+    let wrote = c .before .before in
     let test = wrote .before .before in
     let look = test .before .before .before in
     let a = look .before .before .before .before .before .args in
     let s = now (a .bytes) in
     let given = now (a .given) in
     let out = now (a .output) in
-    writes-given itemsNumbers (λ l. TagListWritten s l out) (itemsAt given 0) _ (look .before .list-given .ensures) given out _ (look .list-fields .ensures) _ (test .before .same-fields .ensures) (test .if1 .left) _
-    (wrote .write-tag-list .ensures) (leaves refl (c .report .ensures))
+    writes-given itemsNumbers (λ l. TagListWritten s l out) (itemsAt given 0) _ (look .before .list-given .ensures) given out _ (look .list-fields .ensures) _ (test .before .same-fields .ensures) (test .if1 .left)
+    (wrote .write-tag-list .ensures)
 
 pub write-lone-tags-spec : {M : Type 1} → statement M
 write-lone-tags-spec =
@@ -60,6 +56,5 @@ write-lone-tags-spec =
     same-fields-requires
     returns
     write-tag-list-requires
-    report-requires
     same-length
     returns-2)

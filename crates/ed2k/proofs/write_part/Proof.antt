@@ -1,12 +1,12 @@
 use denote.Ref.{now}
-use mathlib.Core.Path.{refl, ap, _∙_}
+use mathlib.Core.Path.{ap, _∙_}
 use Rattle.format.specs.Messages.{partMet}
 use Rattle.met.specs.Meaning.{partMetIn}
 use Rattle.partwriting.specs.Files.{partThere}
 use Rattle.fields.specs.Fields.{filled, partNumbers}
 use Rattle.fields.specs.Given.{partGiven, sizeGiven}
 use Rattle.ed2k.specs.Calls.{WritesBack}
-use Rattle.ed2k.proofs.Writes.{leaves, none-given, writes-given}
+use Rattle.ed2k.proofs.Writes.{none-given, writes-given}
 use borrow.Author.Needs.{needs}
 use Rattle.ed2k.proofs.write_part.Statement.{statement}
 use Rattle.ed2k.proofs.write_part.Tie as tie
@@ -38,23 +38,20 @@ returns c =
 write-part-met-requires : tie.Need-write-part-met-requires
 write-part-met-requires c κs = search needs
 
-report-requires : tie.Need-report-requires
-report-requires c κs = search needs
-
 same-length : tie.Need-same-length
 same-length c = search needs
 
 returns-2 : tie.Need-returns-2
 returns-2 c =
-    let wrote = c .before .before .before .before in
+    let wrote = c .before .before in
     let test = wrote .before .before in
     let look = test .before .before .before in
     let a = look .before .before .before .before .before .before .args in
     let s = now (a .bytes) in
     let given = now (a .given) in
     let out = now (a .output) in
-    writes-given (λ m. partNumbers m (sizeGiven given)) (λ m. WritesBack partMet (partThere s m) (partMetIn s m) out) (partGiven given) _ (look .before .before .part-given .ensures) given out _ (look .part-fields .ensures ∙ ap (λ n. filled 16 (partNumbers (look .before .before .part-given .result) n)) (look .before .size-given .ensures)) _ (test .before .same-fields .ensures) (test .if1 .left) _
-    (wrote .write-part-met .ensures) (leaves refl (c .report .ensures))
+    writes-given (λ m. partNumbers m (sizeGiven given)) (λ m. WritesBack partMet (partThere s m) (partMetIn s m) out) (partGiven given) _ (look .before .before .part-given .ensures) given out _ (look .part-fields .ensures ∙ ap (λ n. filled 16 (partNumbers (look .before .before .part-given .result) n)) (look .before .size-given .ensures)) _ (test .before .same-fields .ensures) (test .if1 .left)
+    (wrote .write-part-met .ensures)
 
 pub write-part-spec : {M : Type 1} → statement M
 write-part-spec =
@@ -67,6 +64,5 @@ write-part-spec =
     same-fields-requires
     returns
     write-part-met-requires
-    report-requires
     same-length
     returns-2)

@@ -1,4 +1,3 @@
-use mathlib.Core.Path.{refl}
 use denote.Ref.{now}
 use Rattle.format.specs.Messages.{serverMet}
 use Rattle.met.specs.Meaning.{serverMetIn}
@@ -6,7 +5,7 @@ use Rattle.metwriting.specs.Files.{serverThere}
 use Rattle.fields.specs.Fields.{serverNumbers}
 use Rattle.fields.specs.Given.{serverGiven}
 use Rattle.ed2k.specs.Calls.{WritesBack}
-use Rattle.ed2k.proofs.Writes.{leaves, none-given, writes-given}
+use Rattle.ed2k.proofs.Writes.{none-given, writes-given}
 use borrow.Author.Needs.{needs}
 use Rattle.ed2k.proofs.write_server.Statement.{statement}
 use Rattle.ed2k.proofs.write_server.Tie as tie
@@ -35,23 +34,20 @@ returns c =
 write-server-met-requires : tie.Need-write-server-met-requires
 write-server-met-requires c κs = search needs
 
-report-requires : tie.Need-report-requires
-report-requires c κs = search needs
-
 same-length : tie.Need-same-length
 same-length c = search needs
 
 returns-2 : tie.Need-returns-2
 returns-2 c =
-    let wrote = c .before .before .before .before in
+    let wrote = c .before .before in
     let test = wrote .before .before in
     let look = test .before .before .before in
     let a = look .before .before .before .before .before .args in
     let s = now (a .bytes) in
     let given = now (a .given) in
     let out = now (a .output) in
-    writes-given serverNumbers (λ m. WritesBack serverMet (serverThere s m) (serverMetIn s m) out) (serverGiven given) _ (look .before .server-given .ensures) given out _ (look .server-fields .ensures) _ (test .before .same-fields .ensures) (test .if1 .left) _
-    (wrote .write-server-met .ensures) (leaves refl (c .report .ensures))
+    writes-given serverNumbers (λ m. WritesBack serverMet (serverThere s m) (serverMetIn s m) out) (serverGiven given) _ (look .before .server-given .ensures) given out _ (look .server-fields .ensures) _ (test .before .same-fields .ensures) (test .if1 .left)
+    (wrote .write-server-met .ensures)
 
 pub write-server-spec : {M : Type 1} → statement M
 write-server-spec =
@@ -63,6 +59,5 @@ write-server-spec =
     same-fields-requires
     returns
     write-server-met-requires
-    report-requires
     same-length
     returns-2)
