@@ -35,13 +35,13 @@ use Rattle.packets.specs.declared.Link.{Link}
 use Rattle.reader.specs.declared.Answer.{Answer}
 use Rattle.reader.specs.declared.Message.{Message}
 use Rattle.reader.specs.Meaning.{answerIn, AnswerPlaced}
-use Rattle.writing.specs.There.{itemsThere}
+use Rattle.writing.specs.There.{itemsThere, noPlaces}
 use Rattle.format.specs.RoundTrip.{RoundTrip, WritesAt}
 use Rattle.packetwriting.specs.Packets as packetwriting
 use Rattle.packetwriting.specs.Packets.{packetOf, packetThere}
 use Rattle.metwriting.specs.Files.{knownThere, serverThere}
 use Rattle.partwriting.specs.Files.{partThere}
-use Rattle.writing.specs.Writers.{writeQuery, writeTagList}
+use Rattle.writing.specs.Writers.{joinOf, sidesThere}
 use Rattle.fields.specs.Fields.{filled, itemsNumbers, queryNumbers, recordNumbers, packetNumbers, knownNumbers, serverNumbers, partNumbers}
 use Rattle.fields.specs.Fields.{tagNumbers, fileEntryNumbers, serverEntryNumbers, nodeNumbers}
 use Rattle.fields.specs.Given.{itemsAt, queryAt, packetGiven, knownGiven, serverGiven, partGiven, sizeGiven}
@@ -179,10 +179,17 @@ abbrev pub WritesBack : (k : messages.Kind) → Outcome (Unit {0}) → messages.
 WritesBack k there m output w = WritesAt k there m output w × RoundTrip k there m output w
 
 abbrev pub QueryWritten : List ℕ → Query → List ℕ → Written → Type 0
-QueryWritten s q output w = (w ≡ writeQuery s q output) × RoundTrip loneQuery (ends (decodeQuery s (q .at))) (queryIn s q) output w
+QueryWritten s q output w = WritesBack loneQuery (ends (decodeQuery s (q .at))) (queryIn s q) output w
 
 abbrev pub TagListWritten : List ℕ → Items → List ℕ → Written → Type 0
-TagListWritten s l output w = (w ≡ writeTagList s l output) × RoundTrip loneTags (itemsThere decodeTag s l) (itemsIn decodeTag s l) output w
+TagListWritten s l output w = WritesBack loneTags (itemsThere decodeTag s l) (itemsIn decodeTag s l) output w
+
+-- A query from its pieces has no places; a join has its sides.
+abbrev pub PiecesWritten : messages.Query → List ℕ → Written → Type 0
+PiecesWritten q output w = WritesBack loneQuery noPlaces q output w
+
+abbrev pub JoinWritten : messages.Operator → (left right : decoding.Answer messages.Query) → List ℕ → Written → Type 0
+JoinWritten o left right output w = WritesBack loneQuery (sidesThere left right) (joinOf o left right) output w
 
 abbrev pub PacketWrites : Link → List ℕ → List ℕ → List ℕ → Written → Type 0
 PacketWrites link s given output w =
@@ -229,18 +236,21 @@ abbrev pub WriteOf : Option messages.Kind → List ℕ → List ℕ → List ℕ
 WriteOf none s given output w = w ≡ unwritten 4 output
 WriteOf (some k) s given output w = KindWrites k s given output w
 
--- A list that is told by its place and count alone: its end is not looked at by any writer.
+-- A list that is given by its offset and count alone, and a query by its offset: no writer reads the end or the depth.
 abbrev pub itemsFrom : ℕ → ℕ → Items
 itemsFrom at count = record { at = at; end = at; count = count }
+
+abbrev pub queryFrom : ℕ → Query
+queryFrom at = record { at = at; end = at; depth = 0 }
 
 -- The truth of a query, 0 or 1: 0 where it is refused.
 abbrev pub truthByte : TruthReply → ℕ
 truthByte t = cond (t .holds) 1 0
 
 -- A bound or an operator that is none of the list: 5, before all else.
-abbrev pub chosen : {K : Type 0} → Option K → (K → Written) → List ℕ → Written
-chosen none write output = unwritten 5 output
-chosen (some k) write output = write k
+abbrev pub Chosen : {K : Type 0} → Option K → (K → Written → Type 0) → List ℕ → Written → Type 0
+Chosen none Writes output w = w ≡ unwritten 5 output
+Chosen (some k) Writes output w = Writes k w
 
 abbrev pub bounds : List (ℕ × messages.Bound)
 bounds = (1, messages.atLeast) ∷ (2, messages.atMost) ∷ []

@@ -8,7 +8,8 @@ ghost use Prim.Native.Nat.{_+_, _≤_, _<_};
 ghost use lib.ListN.{length, getD};
 ghost use lib.Dec.{eqb};
 ghost use Rattle.format.specs.Tables.{pick, lookup};
-ghost use Rattle.format.specs.Messages.{knownMet, serverMet, partMet};
+ghost use Rattle.format.specs.Messages.{knownMet, serverMet, partMet, loneQuery};
+ghost use Rattle.format.specs.Messages.{keyword, field, limit, stringType, dwordType, floatType, hashType};
 ghost use Rattle.format.specs.Rules.{partCount, blockCount};
 ghost use Rattle.format.specs.Decoding.{reply};
 ghost use Rattle.format.specs.Order.{decodeAddress};
@@ -17,18 +18,20 @@ ghost use Rattle.format.specs.Gaps.{sizeLimit};
 ghost use Rattle.format.specs.Truth as format;
 ghost use Rattle.format.specs.Writing.{overwritten};
 ghost use Rattle.format.specs.Saving.{save};
+ghost use Rattle.wire.specs.Meaning.{hashAt};
 ghost use Rattle.query.specs.Meaning.{boundOf, operatorOf};
 ghost use Rattle.gaps.specs.Records.{place};
 ghost use Rattle.gaps.specs.Marking.{marked};
 ghost use Rattle.met.specs.Meaning.{gapsAnswer};
 ghost use Rattle.putting.specs.Meaning.{putRecord};
-ghost use Rattle.writing.specs.Writers.{writeTagList, writeQuery, writeKeyword, writeField, writeLimit, writeJoin};
-ghost use Rattle.writing.specs.Writers.{writeTextTag, writeDwordTag, writeFloatTag, writeHashTag};
+ghost use Rattle.writing.specs.There.{hashThere, noPlaces};
+ghost use Rattle.writing.specs.Item.{WritesTag, tagOf};
 ghost use Rattle.bodywriting.specs.Entries.{writeAddress, writeRecord};
 ghost use Rattle.metwriting.specs.Entries.{writeFileEntry, writeServerEntry};
 ghost use Rattle.ed2k.specs.Calls.{numbered, handedOut, kinds, ReadOf, MessageRead, linkKind, QueryRead, TagListRead};
 ghost use Rattle.ed2k.specs.Calls.{TagRead, addressRead, RecordRead, FileEntryRead, ServerEntryRead, NodeRead};
-ghost use Rattle.ed2k.specs.Calls.{leaves, itemsFrom, truthByte, chosen, bounds, operators};
+ghost use Rattle.ed2k.specs.Calls.{leaves, itemsFrom, queryFrom, truthByte, Chosen, bounds, operators};
+ghost use Rattle.ed2k.specs.Calls.{QueryWritten, TagListWritten, PiecesWritten, JoinWritten};
 ghost use Rattle.ed2k.specs.Calls.{WriteOf, PacketWrites, KnownWrites, ServerWrites, PartWrites, QueryWrites, TagListWrites};
 ghost use Rattle.marking.specs.Numbers.{MarksNumbers, pairNumbers, numbersOf, recordIn};
 ghost use Rattle.ed2k.specs.Gaps.{gapsRead, allMissingOut, Counts, counted};
@@ -540,7 +543,7 @@ pub extern "C" fn ed2k_truth(query: &[u8], tags: &[u8], truth: &mut u8) -> u8
 
 #[no_mangle]
 pub extern "C" fn ed2k_write_keyword(text: &[u8], output: &mut [u8], written: &mut usize) -> u8
-    ensures { λ r. ⌜ leaves r (now (written .exit)) (now (output .exit)) ≡ writeKeyword (now (text .entry)) (now (output .entry)) ⌝ }
+    ensures { λ r. ⌜ PiecesWritten (keyword (now (text .entry))) (now (output .entry)) (leaves r (now (written .exit)) (now (output .exit))) ⌝ }
 {
     let a = writing::write_keyword(text, output);
     *written = a.length;
@@ -554,7 +557,7 @@ pub extern "C" fn ed2k_write_field(
     output: &mut [u8],
     written: &mut usize,
 ) -> u8
-    ensures { λ r. ⌜ leaves r (now (written .exit)) (now (output .exit)) ≡ writeField (now (text .entry)) (now (name .entry)) (now (output .entry)) ⌝ }
+    ensures { λ r. ⌜ PiecesWritten (field (now (text .entry)) (now (name .entry))) (now (output .entry)) (leaves r (now (written .exit)) (now (output .exit))) ⌝ }
 {
     let a = writing::write_field(text, name, output);
     *written = a.length;
@@ -562,7 +565,7 @@ pub extern "C" fn ed2k_write_field(
 }
 
 fn write_limit(number: u32, bound: Bound, name: &[u8], output: &mut [u8], written: &mut usize) -> u8
-    ensures { λ r. ⌜ leaves r (now (written .exit)) (now (output .exit)) ≡ writeLimit number (boundOf bound) (now (name .entry)) (now (output .entry)) ⌝ }
+    ensures { λ r. ⌜ PiecesWritten (limit number (boundOf bound) (now (name .entry))) (now (output .entry)) (leaves r (now (written .exit)) (now (output .exit))) ⌝ }
 {
     let a = writing::write_limit(number, bound, name, output);
     *written = a.length;
@@ -577,7 +580,8 @@ pub extern "C" fn ed2k_write_limit(
     output: &mut [u8],
     written: &mut usize,
 ) -> u8
-    ensures { λ r. ⌜ leaves r (now (written .exit)) (now (output .exit)) ≡ chosen (lookup bounds bound) (λ b. writeLimit number b (now (name .entry)) (now (output .entry))) (now (output .entry)) ⌝ }
+    ensures { λ r. ⌜ Chosen (lookup bounds bound) (λ b. PiecesWritten (limit number b (now (name .entry))) (now (output .entry))) (now (output .entry))
+        (leaves r (now (written .exit)) (now (output .exit))) ⌝ }
 {
     match bound {
         1 => write_limit(number, Bound::AtLeast, name, output, written),
@@ -596,7 +600,8 @@ fn write_join(
     output: &mut [u8],
     written: &mut usize,
 ) -> u8
-    ensures { λ r. ⌜ leaves r (now (written .exit)) (now (output .exit)) ≡ writeJoin (operatorOf operator) (now (left .entry)) (now (right .entry)) (now (output .entry)) ⌝ }
+    ensures { λ r. ⌜ JoinWritten (operatorOf operator) (decode loneQuery (now (left .entry))) (decode loneQuery (now (right .entry))) (now (output .entry))
+        (leaves r (now (written .exit)) (now (output .exit))) ⌝ }
 {
     let a = writing::write_join(operator, left, right, output);
     *written = a.length;
@@ -611,7 +616,9 @@ pub extern "C" fn ed2k_write_join(
     output: &mut [u8],
     written: &mut usize,
 ) -> u8
-    ensures { λ r. ⌜ leaves r (now (written .exit)) (now (output .exit)) ≡ chosen (lookup operators operation) (λ o. writeJoin o (now (left .entry)) (now (right .entry)) (now (output .entry))) (now (output .entry)) ⌝ }
+    ensures { λ r. ⌜ Chosen (lookup operators operation)
+        (λ o. JoinWritten o (decode loneQuery (now (left .entry))) (decode loneQuery (now (right .entry))) (now (output .entry)))
+        (now (output .entry)) (leaves r (now (written .exit)) (now (output .exit))) ⌝ }
 {
     match operation {
         0 => write_join(Operator::And, left, right, output, written),
@@ -631,7 +638,7 @@ pub extern "C" fn ed2k_write_text_tag(
     output: &mut [u8],
     written: &mut usize,
 ) -> u8
-    ensures { λ r. ⌜ leaves r (now (written .exit)) (now (output .exit)) ≡ writeTextTag (now (name .entry)) (now (text .entry)) (now (output .entry)) ⌝ }
+    ensures { λ r. ⌜ WritesTag noPlaces (tagOf (now (name .entry)) stringType (now (text .entry))) (now (output .entry)) (leaves r (now (written .exit)) (now (output .exit))) ⌝ }
 {
     let a = writing::write_text_tag(name, text, output);
     *written = a.length;
@@ -645,7 +652,7 @@ pub extern "C" fn ed2k_write_dword_tag(
     output: &mut [u8],
     written: &mut usize,
 ) -> u8
-    ensures { λ r. ⌜ leaves r (now (written .exit)) (now (output .exit)) ≡ writeDwordTag (now (name .entry)) number (now (output .entry)) ⌝ }
+    ensures { λ r. ⌜ WritesTag noPlaces (tagOf (now (name .entry)) dwordType number) (now (output .entry)) (leaves r (now (written .exit)) (now (output .exit))) ⌝ }
 {
     let a = writing::write_dword_tag(name, number, output);
     *written = a.length;
@@ -659,7 +666,7 @@ pub extern "C" fn ed2k_write_float_tag(
     output: &mut [u8],
     written: &mut usize,
 ) -> u8
-    ensures { λ r. ⌜ leaves r (now (written .exit)) (now (output .exit)) ≡ writeFloatTag (now (name .entry)) bits (now (output .entry)) ⌝ }
+    ensures { λ r. ⌜ WritesTag noPlaces (tagOf (now (name .entry)) floatType bits) (now (output .entry)) (leaves r (now (written .exit)) (now (output .exit))) ⌝ }
 {
     let a = writing::write_float_tag(name, bits, output);
     *written = a.length;
@@ -673,7 +680,8 @@ pub extern "C" fn ed2k_write_hash_tag(
     output: &mut [u8],
     written: &mut usize,
 ) -> u8
-    ensures { λ r. ⌜ leaves r (now (written .exit)) (now (output .exit)) ≡ writeHashTag (now (name .entry)) (now (hash .entry)) 0 (now (output .entry)) ⌝ }
+    ensures { λ r. ⌜ WritesTag (hashThere (now (hash .entry)) 0) (tagOf (now (name .entry)) hashType (hashAt (now (hash .entry)) 0)) (now (output .entry))
+        (leaves r (now (written .exit)) (now (output .exit))) ⌝ }
 {
     let a = writing::write_hash_tag(name, hash, 0, output);
     *written = a.length;
@@ -688,7 +696,7 @@ pub extern "C" fn ed2k_write_tag_list(
     output: &mut [u8],
     written: &mut usize,
 ) -> u8
-    ensures { λ r. ⌜ leaves r (now (written .exit)) (now (output .exit)) ≡ writeTagList (now (bytes .entry)) (itemsFrom at count) (now (output .entry)) ⌝ }
+    ensures { λ r. ⌜ TagListWritten (now (bytes .entry)) (itemsFrom at count) (now (output .entry)) (leaves r (now (written .exit)) (now (output .exit))) ⌝ }
 {
     let a = writing::write_tag_list(bytes, Items { at, end: at, count }, output);
     *written = a.length;
@@ -702,7 +710,7 @@ pub extern "C" fn ed2k_write_query(
     output: &mut [u8],
     written: &mut usize,
 ) -> u8
-    ensures { λ r. ⌜ leaves r (now (written .exit)) (now (output .exit)) ≡ writeQuery (now (bytes .entry)) (record { at = at; end = at; depth = 0 }) (now (output .entry)) ⌝ }
+    ensures { λ r. ⌜ QueryWritten (now (bytes .entry)) (queryFrom at) (now (output .entry)) (leaves r (now (written .exit)) (now (output .exit))) ⌝ }
 {
     let q = Query {
         at,
