@@ -10,7 +10,7 @@ use Rattle.format.specs.Order.{decodeDword}
 use Rattle.format.specs.PacketOrder.{both, checkRange, decodeRange}
 use Rattle.format.proofs.Codec.{same-place, settled-got, went}
 use Rattle.format.proofs.There.{dword-ends}
-use Rattle.wire.specs.Meaning.{Inside}
+use Rattle.wire.specs.WireAnswers.{Inside}
 
 pub to-the-end : (s : List ℕ) (at : ℕ) → bytesAt s at (length s - at) ≡ drop at s
 to-the-end s at = take-all (length s - at) (drop at s) (simp length-drop (omega arith))

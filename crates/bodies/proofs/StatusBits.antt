@@ -12,7 +12,7 @@ use Rattle.format.specs.Tables.{pick}
 use Rattle.format.specs.Decoding.{Fault, bytesAt, decodeRun, ends, fault, got, passes, refused, settled, statusBit, violates}
 use Rattle.format.specs.PacketOrder.{decodeBits}
 use Rattle.format.proofs.There.{run-was}
-use Rattle.bodies.specs.Meaning.{BitsInside}
+use Rattle.bodies.specs.BodyAnswers.{BitsInside}
 
 -- bytes that are not there
 pub missing-bytes : (s : List ℕ) (at n : ℕ) {f : Fault} → refused f ≡ decodeRun (packedBytes n) s at → refused f ≡ decodeBits n s at

@@ -4,17 +4,17 @@
 ghost use mathlib.Core.Path.{_≡_};
 ghost use Prim.Native.Nat.{_-_, _^_, _<_};
 ghost use lib.ListN.{length};
-ghost use Rattle.format.specs.Messages.{queryBody, hashBody, dwordBody, twoDwordsBody, stringBody, twoStringsBody};
+ghost use Rattle.format.specs.Messages.{queryBody, hashBody, dwordBody, twoDwordsBody, textBody, twoTextsBody};
 ghost use Rattle.format.specs.Messages.{addressBody, addressesBody, hashAddressesBody, addressDwordBody, hashAddressTagsBody};
 ghost use Rattle.format.specs.Messages.{recordBody, recordsBody, recordsFlagBody, recordAddressBody, helloBody};
-ghost use Rattle.format.specs.Messages.{hashStringBody, hashsetBody, sendingPartBody, requestPartsBody, fileStatusBody};
+ghost use Rattle.format.specs.Messages.{hashTextBody, hashsetBody, sendingPartBody, requestPartsBody, fileStatusBody};
 ghost use Rattle.format.specs.Messages.{statusRequestBody, statusBody};
 ghost use Rattle.format.specs.Bits.{packedBytes};
 ghost use Rattle.format.specs.PacketOrder.{decodeRange, decodeTriple, decodeRanges, decodeBits, formOf, decodeExtendedStatus, decodeFlag, decodeBody};
-ghost use Rattle.wire.specs.Meaning.{byteMeaning};
-ghost use Rattle.bodies.specs.Meaning.{shapeOf, bodyMeaning, BodyStepPlaced};
-ghost use Rattle.bodies.specs.Meaning.{formMeaning, rangeMeaning, tripleMeaning, rangesMeaning, bitsMeaning, BitsStepInside, extendedStatusMeaning};
-ghost use Rattle.bodies.specs.Meaning.{rangeFault, tripleFault, rangesFault, bitsFault, extendedStatusFault, bodyFault};
+ghost use Rattle.wire.specs.WireAnswers.{byteMeaning};
+ghost use Rattle.bodies.specs.BodyAnswers.{shapeOf, bodyMeaning, BodyStepPlaced};
+ghost use Rattle.bodies.specs.BodyAnswers.{formMeaning, rangeMeaning, tripleMeaning, rangesMeaning, bitsMeaning, BitsStepInside, extendedStatusMeaning};
+ghost use Rattle.bodies.specs.BodyAnswers.{rangeFault, tripleFault, rangesFault, bitsFault, extendedStatusFault, bodyFault};
 use query::Query;
 use query::QueryStep;
 use query::read_query;
@@ -568,7 +568,7 @@ fn read_two_dwords(s: &[u8], c: Cursor) -> BodyStep
 }
 
 fn read_text_body(s: &[u8], c: Cursor) -> BodyStep
-    ensures meaning { λ r. ⌜ bodyMeaning (now (s .entry)) r ≡ decodeBody stringBody (now (s .entry)) (c .at) ⌝ }
+    ensures meaning { λ r. ⌜ bodyMeaning (now (s .entry)) r ≡ decodeBody textBody (now (s .entry)) (c .at) ⌝ }
     ensures placed { λ r. ⌜ BodyStepPlaced (now (s .entry)) r ⌝ }
 {
     let t = c.string(s);
@@ -579,7 +579,7 @@ fn read_text_body(s: &[u8], c: Cursor) -> BodyStep
 }
 
 fn read_two_texts(s: &[u8], c: Cursor) -> BodyStep
-    ensures meaning { λ r. ⌜ bodyMeaning (now (s .entry)) r ≡ decodeBody twoStringsBody (now (s .entry)) (c .at) ⌝ }
+    ensures meaning { λ r. ⌜ bodyMeaning (now (s .entry)) r ≡ decodeBody twoTextsBody (now (s .entry)) (c .at) ⌝ }
     ensures placed { λ r. ⌜ BodyStepPlaced (now (s .entry)) r ⌝ }
 {
     let a = c.string(s);
@@ -754,7 +754,7 @@ fn read_hello(s: &[u8], c: Cursor) -> BodyStep
 }
 
 fn read_hash_text(s: &[u8], c: Cursor) -> BodyStep
-    ensures meaning { λ r. ⌜ bodyMeaning (now (s .entry)) r ≡ decodeBody hashStringBody (now (s .entry)) (c .at) ⌝ }
+    ensures meaning { λ r. ⌜ bodyMeaning (now (s .entry)) r ≡ decodeBody hashTextBody (now (s .entry)) (c .at) ⌝ }
     ensures placed { λ r. ⌜ BodyStepPlaced (now (s .entry)) r ⌝ }
 {
     let h = c.hash(s);

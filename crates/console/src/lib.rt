@@ -2,7 +2,7 @@
 //
 // No contract can say what is read or written, so these say how much was read at most, and those that print say nothing.
 use libc::STDOUT_FILENO;
-use reader::Summary;
+use read_any::Summary;
 use wire::ByteStep;
 use wire::Cursor;
 use wire::DwordStep;

@@ -8,13 +8,13 @@ use lib.ListN.{length, getD, drop, set, replicate, length-append, length-replica
 use lib.Seq.{append-snoc, drop-cons, getD-drop, set-at}
 use borrow.Rule.Slice.PartMut.{midOf, putMid}
 use Rattle.format.specs.Writing.{overwritten}
-use Rattle.put.proofs.Loops.{WrittenSoFar, piece-room, written-next, written-all}
+use Rattle.output.proofs.Loops.{WrittenSoFar, piece-room, written-next, written-all}
 use Rattle.gaps.specs.declared.Gap.{Gap}
 use Rattle.gaps.specs.declared.GapRecord.{GapRecord}
-use Rattle.gaps.specs.Records.{place}
-use Rattle.gaps.proofs.Records.{placeAt}
-use Rattle.marking.specs.Numbers.{pairNumbers, pairsIn}
-use Rattle.marking.proofs.Numbers.{length-numbers, length-pairs}
+use Rattle.gaps.specs.GapRecords.{place}
+use Rattle.gaps.proofs.GapRecords.{placeAt}
+use Rattle.gap_numbers.specs.Numbers.{pairNumbers, pairsIn}
+use Rattle.gap_numbers.proofs.Numbers.{length-numbers, length-pairs}
 
 -- Reading
 

@@ -1,4 +1,4 @@
 mod GapNumbers
 mod Writes
 pub mod Links
-pub mod ReadBack
+pub mod CallReadBack

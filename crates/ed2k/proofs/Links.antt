@@ -5,15 +5,15 @@ use mathlib.Core.List.{List}
 use mathlib.Core.Option.{some}
 use Rattle.packets.specs.declared.Link.{Link}
 use Rattle.packets.specs.declared.PacketAnswer.{PacketAnswer}
-use Rattle.packets.specs.Meaning.{PacketPlaced, linkReply, packetReply}
+use Rattle.packets.specs.PacketAnswers.{PacketPlaced, linkReply, packetReply}
 use Rattle.format.specs.Messages.{knownMet, serverMet, partMet}
 use Rattle.format.specs.Decoding.{reply}
 use Rattle.format.specs.MetOrder.{decode}
 use Rattle.met.specs.declared.KnownAnswer.{KnownAnswer}
 use Rattle.met.specs.declared.ServerAnswer.{ServerAnswer}
 use Rattle.met.specs.declared.PartAnswer.{PartAnswer}
-use Rattle.met.specs.Meaning.{KnownAnswerPlaced, ServerAnswerPlaced, PartAnswerPlaced, PartAnswerSized, knownReply, serverReply, partReply}
-use Rattle.reader.specs.Meaning.{fromKnown, fromPacket, fromPart, fromServer}
+use Rattle.met.specs.MetAnswers.{KnownAnswerPlaced, ServerAnswerPlaced, PartAnswerPlaced, PartAnswerSized, knownReply, serverReply, partReply}
+use Rattle.read_any.specs.AnyAnswers.{fromKnown, fromPacket, fromPart, fromServer}
 use Rattle.ed2k.specs.Calls.{MessageRead, Numbered, linkKind, messageRead}
 
 pub link-read : (link : Link) (s old : List ℕ) (a : PacketAnswer) (r : Numbered) → packetReply s a ≡ linkReply link s → PacketPlaced s a →

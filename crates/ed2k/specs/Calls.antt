@@ -17,31 +17,31 @@ use Rattle.format.specs.Writing.{Written, unwritten, overwritten}
 use Rattle.format.specs.Truth.{TruthReply}
 use Rattle.wire.specs.declared.Fault.{Fault}
 use Rattle.wire.specs.declared.Items.{Items}
-use Rattle.wire.specs.Meaning.{itemsIn, ruleMeaning}
+use Rattle.wire.specs.WireAnswers.{itemsIn, ruleMeaning}
 use Rattle.tags.specs.declared.TagStep.{TagStep}
 use Rattle.tags.specs.declared.TagListAnswer.{TagListAnswer}
-use Rattle.tags.specs.Meaning.{tagMeaning, TagStepInside, tagListReply, TagListPlaced}
+use Rattle.tags.specs.TagAnswers.{tagMeaning, TagStepInside, tagListReply, TagListPlaced}
 use Rattle.query.specs.declared.NodeStep.{NodeStep}
 use Rattle.query.specs.declared.Query.{Query}
 use Rattle.query.specs.declared.QueryAnswer.{QueryAnswer}
 use Rattle.query.specs.Nodes.{decodeNode}
-use Rattle.query.specs.Meaning.{nodeMeaning, NodeStepInside, queryIn, queryReply, QueryAnswerPlaced}
+use Rattle.query.specs.QueryAnswers.{nodeMeaning, NodeStepInside, queryIn, queryReply, QueryAnswerPlaced}
 use Rattle.records.specs.declared.RecordStep.{RecordStep}
-use Rattle.records.specs.Meaning.{recordMeaning, RecordStepPlaced}
+use Rattle.records.specs.RecordAnswers.{recordMeaning, RecordStepPlaced}
 use Rattle.met.specs.declared.FileEntryStep.{FileEntryStep}
 use Rattle.met.specs.declared.ServerEntryStep.{ServerEntryStep}
-use Rattle.met.specs.Meaning.{fileEntryMeaning, FileEntryStepPlaced, serverEntryMeaning, ServerEntryStepPlaced, knownMetIn, serverMetIn, partMetIn}
+use Rattle.met.specs.MetAnswers.{fileEntryMeaning, FileEntryStepPlaced, serverEntryMeaning, ServerEntryStepPlaced, knownMetIn, serverMetIn, partMetIn}
 use Rattle.packets.specs.declared.Link.{Link}
-use Rattle.reader.specs.declared.Answer.{Answer}
-use Rattle.reader.specs.declared.Message.{Message}
-use Rattle.reader.specs.Meaning.{answerIn, AnswerPlaced}
-use Rattle.writing.specs.There.{itemsThere, noPlaces}
+use Rattle.read_any.specs.declared.Answer.{Answer}
+use Rattle.read_any.specs.declared.Message.{Message}
+use Rattle.read_any.specs.AnyAnswers.{answerIn, AnswerPlaced}
+use Rattle.write_items.specs.There.{itemsThere, noPlaces}
 use Rattle.format.specs.RoundTrip.{RoundTrip, WritesAt}
-use Rattle.packetwriting.specs.Packets as packetwriting
-use Rattle.packetwriting.specs.Packets.{packetOf, packetThere}
-use Rattle.metwriting.specs.Files.{knownThere, serverThere}
-use Rattle.partwriting.specs.Files.{partThere}
-use Rattle.writing.specs.Writers.{joinOf, sidesThere}
+use Rattle.write_packets.specs.Packets as packetWrites
+use Rattle.write_packets.specs.Packets.{packetOf, packetThere}
+use Rattle.write_met.specs.MetWrites.{knownThere, serverThere}
+use Rattle.write_part.specs.PartWrites.{partThere}
+use Rattle.write_items.specs.Writers.{joinOf, sidesThere}
 use Rattle.fields.specs.Fields.{filled, itemsNumbers, queryNumbers, recordNumbers, packetNumbers, knownNumbers, serverNumbers, partNumbers}
 use Rattle.fields.specs.Fields.{tagNumbers, fileEntryNumbers, serverEntryNumbers, nodeNumbers}
 use Rattle.fields.specs.Given.{itemsAt, queryAt, packetGiven, knownGiven, serverGiven, partGiven, sizeGiven}
@@ -194,7 +194,7 @@ JoinWritten o left right output w = WritesBack loneQuery (sidesThere left right)
 abbrev pub PacketWrites : Link → List ℕ → List ℕ → List ℕ → Written → Type 0
 PacketWrites link s given output w =
     let p = packetGiven given in
-    GivenWrites (packetNumbers p) given output (WritesBack (packetwriting.kindOf link) (packetThere link s p) (packetOf link s p) output) w
+    GivenWrites (packetNumbers p) given output (WritesBack (packetWrites.kindOf link) (packetThere link s p) (packetOf link s p) output) w
 
 abbrev pub KnownWrites : List ℕ → List ℕ → List ℕ → Written → Type 0
 KnownWrites s given output w =

@@ -18,29 +18,29 @@ ghost use Rattle.format.specs.Gaps.{sizeLimit};
 ghost use Rattle.format.specs.Truth as format;
 ghost use Rattle.format.specs.Writing.{overwritten};
 ghost use Rattle.format.specs.Saving.{save};
-ghost use Rattle.wire.specs.Meaning.{hashAt};
-ghost use Rattle.query.specs.Meaning.{boundOf, operatorOf};
-ghost use Rattle.gaps.specs.Records.{place};
+ghost use Rattle.wire.specs.WireAnswers.{hashAt};
+ghost use Rattle.query.specs.QueryAnswers.{boundOf, operatorOf};
+ghost use Rattle.gaps.specs.GapRecords.{place};
 ghost use Rattle.gaps.specs.Marking.{marked};
-ghost use Rattle.met.specs.Meaning.{gapsAnswer};
-ghost use Rattle.putting.specs.Meaning.{putRecord};
-ghost use Rattle.writing.specs.There.{hashThere, noPlaces};
-ghost use Rattle.writing.specs.Item.{WritesTag, tagOf};
-ghost use Rattle.bodywriting.specs.Entries.{writeAddress, writeRecord};
-ghost use Rattle.metwriting.specs.Entries.{writeFileEntry, writeServerEntry};
+ghost use Rattle.met.specs.MetAnswers.{gapsAnswer};
+ghost use Rattle.put_gaps.specs.PutAnswers.{putRecord};
+ghost use Rattle.write_items.specs.There.{hashThere, noPlaces};
+ghost use Rattle.write_items.specs.Item.{WritesTag, tagOf};
+ghost use Rattle.write_bodies.specs.RecordEntries.{writeAddress, writeRecord};
+ghost use Rattle.write_met.specs.MetEntries.{writeFileEntry, writeServerEntry};
 ghost use Rattle.ed2k.specs.Calls.{numbered, handedOut, kinds, ReadOf, MessageRead, linkKind, QueryRead, TagListRead};
 ghost use Rattle.ed2k.specs.Calls.{TagRead, addressRead, RecordRead, FileEntryRead, ServerEntryRead, NodeRead};
 ghost use Rattle.ed2k.specs.Calls.{leaves, itemsFrom, queryFrom, truthByte, Chosen, bounds, operators};
 ghost use Rattle.ed2k.specs.Calls.{QueryWritten, TagListWritten, PiecesWritten, JoinWritten};
 ghost use Rattle.ed2k.specs.Calls.{WriteOf, PacketWrites, KnownWrites, ServerWrites, PartWrites, QueryWrites, TagListWrites};
-ghost use Rattle.marking.specs.Numbers.{MarksNumbers, pairNumbers, numbersOf, recordIn};
-ghost use Rattle.ed2k.specs.Gaps.{gapsRead, allMissingOut, Counts, counted};
+ghost use Rattle.gap_numbers.specs.Numbers.{MarksNumbers, pairNumbers, numbersOf, recordIn};
+ghost use Rattle.ed2k.specs.GapCalls.{gapsRead, allMissingOut, Counts, counted};
 use gaps::Gap;
 use gaps::GapRecord;
 use gaps::SIZE_LIMIT;
 use gaps::none_missing;
-use marking::GAP_NUMBERS;
-use marking::mark_numbers;
+use gap_numbers::GAP_NUMBERS;
+use gap_numbers::mark_numbers;
 use met::FileEntry;
 use met::FileEntryStep;
 use met::KnownAnswer;
@@ -401,7 +401,7 @@ fn write_link(link: Link, bytes: &[u8], given: &[u64], output: &mut [u8], writte
         *written = 0;
         return 5;
     }
-    let a = packetwriting::write_packet(bytes, link, p, output);
+    let a = write_packets::write_packet(bytes, link, p, output);
     *written = a.length;
     a.number
 }
@@ -415,7 +415,7 @@ fn write_known(bytes: &[u8], given: &[u64], output: &mut [u8], written: &mut usi
         *written = 0;
         return 5;
     }
-    let a = metwriting::write_known_met(bytes, m, output);
+    let a = write_met::write_known_met(bytes, m, output);
     *written = a.length;
     a.number
 }
@@ -429,7 +429,7 @@ fn write_server(bytes: &[u8], given: &[u64], output: &mut [u8], written: &mut us
         *written = 0;
         return 5;
     }
-    let a = metwriting::write_server_met(bytes, m, output);
+    let a = write_met::write_server_met(bytes, m, output);
     *written = a.length;
     a.number
 }
@@ -444,7 +444,7 @@ fn write_part(bytes: &[u8], given: &[u64], output: &mut [u8], written: &mut usiz
         *written = 0;
         return 5;
     }
-    let a = partwriting::write_part_met(bytes, m, output);
+    let a = write_part::write_part_met(bytes, m, output);
     *written = a.length;
     a.number
 }
@@ -458,7 +458,7 @@ fn write_lone_query(bytes: &[u8], given: &[u64], output: &mut [u8], written: &mu
         *written = 0;
         return 5;
     }
-    let a = writing::write_query(bytes, q, output);
+    let a = write_items::write_query(bytes, q, output);
     *written = a.length;
     a.number
 }
@@ -472,7 +472,7 @@ fn write_lone_tags(bytes: &[u8], given: &[u64], output: &mut [u8], written: &mut
         *written = 0;
         return 5;
     }
-    let a = writing::write_tag_list(bytes, l, output);
+    let a = write_items::write_tag_list(bytes, l, output);
     *written = a.length;
     a.number
 }
@@ -512,7 +512,7 @@ pub extern "C" fn ed2k_put_gaps(
 ) -> u8
     ensures { λ r. ⌜ leaves r (now (written .exit)) (now (output .exit)) ≡ putRecord (now (file .entry)) (recordIn (now (gaps .entry))) (now (output .entry)) ⌝ }
 {
-    let a = putting::put_gaps(file, record_in(gaps), output);
+    let a = put_gaps::put_gaps(file, record_in(gaps), output);
     *written = a.length;
     a.number
 }
@@ -527,7 +527,7 @@ pub extern "C" fn ed2k_save(
 ) -> u8
     ensures { λ r. ⌜ leaves r (now (written .exit)) (now (output .exit)) ≡ save (now (stored .entry)) (now (opened .entry)) (now (saved .entry)) (now (output .entry)) ⌝ }
 {
-    let a = saving::save(stored, opened, saved, output);
+    let a = save::save(stored, opened, saved, output);
     *written = a.length;
     a.number
 }
@@ -545,7 +545,7 @@ pub extern "C" fn ed2k_truth(query: &[u8], tags: &[u8], truth: &mut u8) -> u8
 pub extern "C" fn ed2k_write_keyword(text: &[u8], output: &mut [u8], written: &mut usize) -> u8
     ensures { λ r. ⌜ PiecesWritten (keyword (now (text .entry))) (now (output .entry)) (leaves r (now (written .exit)) (now (output .exit))) ⌝ }
 {
-    let a = writing::write_keyword(text, output);
+    let a = write_items::write_keyword(text, output);
     *written = a.length;
     a.number
 }
@@ -559,7 +559,7 @@ pub extern "C" fn ed2k_write_field(
 ) -> u8
     ensures { λ r. ⌜ PiecesWritten (field (now (text .entry)) (now (name .entry))) (now (output .entry)) (leaves r (now (written .exit)) (now (output .exit))) ⌝ }
 {
-    let a = writing::write_field(text, name, output);
+    let a = write_items::write_field(text, name, output);
     *written = a.length;
     a.number
 }
@@ -567,7 +567,7 @@ pub extern "C" fn ed2k_write_field(
 fn write_limit(number: u32, bound: Bound, name: &[u8], output: &mut [u8], written: &mut usize) -> u8
     ensures { λ r. ⌜ PiecesWritten (limit number (boundOf bound) (now (name .entry))) (now (output .entry)) (leaves r (now (written .exit)) (now (output .exit))) ⌝ }
 {
-    let a = writing::write_limit(number, bound, name, output);
+    let a = write_items::write_limit(number, bound, name, output);
     *written = a.length;
     a.number
 }
@@ -603,7 +603,7 @@ fn write_join(
     ensures { λ r. ⌜ JoinWritten (operatorOf operator) (decode loneQuery (now (left .entry))) (decode loneQuery (now (right .entry))) (now (output .entry))
         (leaves r (now (written .exit)) (now (output .exit))) ⌝ }
 {
-    let a = writing::write_join(operator, left, right, output);
+    let a = write_items::write_join(operator, left, right, output);
     *written = a.length;
     a.number
 }
@@ -640,7 +640,7 @@ pub extern "C" fn ed2k_write_text_tag(
 ) -> u8
     ensures { λ r. ⌜ WritesTag noPlaces (tagOf (now (name .entry)) stringType (now (text .entry))) (now (output .entry)) (leaves r (now (written .exit)) (now (output .exit))) ⌝ }
 {
-    let a = writing::write_text_tag(name, text, output);
+    let a = write_items::write_text_tag(name, text, output);
     *written = a.length;
     a.number
 }
@@ -654,7 +654,7 @@ pub extern "C" fn ed2k_write_dword_tag(
 ) -> u8
     ensures { λ r. ⌜ WritesTag noPlaces (tagOf (now (name .entry)) dwordType number) (now (output .entry)) (leaves r (now (written .exit)) (now (output .exit))) ⌝ }
 {
-    let a = writing::write_dword_tag(name, number, output);
+    let a = write_items::write_dword_tag(name, number, output);
     *written = a.length;
     a.number
 }
@@ -668,7 +668,7 @@ pub extern "C" fn ed2k_write_float_tag(
 ) -> u8
     ensures { λ r. ⌜ WritesTag noPlaces (tagOf (now (name .entry)) floatType bits) (now (output .entry)) (leaves r (now (written .exit)) (now (output .exit))) ⌝ }
 {
-    let a = writing::write_float_tag(name, bits, output);
+    let a = write_items::write_float_tag(name, bits, output);
     *written = a.length;
     a.number
 }
@@ -683,7 +683,7 @@ pub extern "C" fn ed2k_write_hash_tag(
     ensures { λ r. ⌜ WritesTag (hashThere (now (hash .entry)) 0) (tagOf (now (name .entry)) hashType (hashAt (now (hash .entry)) 0)) (now (output .entry))
         (leaves r (now (written .exit)) (now (output .exit))) ⌝ }
 {
-    let a = writing::write_hash_tag(name, hash, 0, output);
+    let a = write_items::write_hash_tag(name, hash, 0, output);
     *written = a.length;
     a.number
 }
@@ -698,7 +698,7 @@ pub extern "C" fn ed2k_write_tag_list(
 ) -> u8
     ensures { λ r. ⌜ TagListWritten (now (bytes .entry)) (itemsFrom at count) (now (output .entry)) (leaves r (now (written .exit)) (now (output .exit))) ⌝ }
 {
-    let a = writing::write_tag_list(bytes, Items { at, end: at, count }, output);
+    let a = write_items::write_tag_list(bytes, Items { at, end: at, count }, output);
     *written = a.length;
     a.number
 }
@@ -717,7 +717,7 @@ pub extern "C" fn ed2k_write_query(
         end: at,
         depth: 0,
     };
-    let a = writing::write_query(bytes, q, output);
+    let a = write_items::write_query(bytes, q, output);
     *written = a.length;
     a.number
 }
@@ -733,7 +733,7 @@ pub extern "C" fn ed2k_write_address(
 ) -> u8
     ensures { λ r. ⌜ leaves r (now (written .exit)) (now (output .exit)) ≡ writeAddress (record { ip = ip; port = port }) (now (output .entry)) ⌝ }
 {
-    let a = bodywriting::write_address(Address { ip, port }, output);
+    let a = write_bodies::write_address(Address { ip, port }, output);
     *written = a.length;
     a.number
 }
@@ -762,7 +762,7 @@ pub extern "C" fn ed2k_write_record(
         port,
         tags,
     };
-    let a = bodywriting::write_record(bytes, record, output);
+    let a = write_bodies::write_record(bytes, record, output);
     *written = a.length;
     a.number
 }
@@ -797,7 +797,7 @@ pub extern "C" fn ed2k_write_file_entry(
         parts,
         tags,
     };
-    let a = metwriting::write_file_entry(bytes, entry, output);
+    let a = write_met::write_file_entry(bytes, entry, output);
     *written = a.length;
     a.number
 }
@@ -820,7 +820,7 @@ pub extern "C" fn ed2k_write_server_entry(
         count: tag_count,
     };
     let entry = ServerEntry { ip, port, tags };
-    let a = metwriting::write_server_entry(bytes, entry, output);
+    let a = write_met::write_server_entry(bytes, entry, output);
     *written = a.length;
     a.number
 }

@@ -13,15 +13,15 @@ use Rattle.format.specs.Order.{decodeAddress, decodeHash, decodeRecord, decodeT
 use Rattle.format.proofs.Codec.{same-value, went}
 use Rattle.format.proofs.Many.{ends-items}
 use Rattle.wire.specs.declared.Items.{Items}
-use Rattle.wire.specs.Meaning.{ItemsInside, itemsIn}
+use Rattle.wire.specs.WireAnswers.{ItemsInside, itemsIn}
 use Rattle.records.specs.declared.Address.{Address}
 use Rattle.records.specs.declared.Record.{Record}
-use Rattle.records.specs.Meaning.{RecordPlaced, addressOf, recordIn}
+use Rattle.records.specs.RecordAnswers.{RecordPlaced, addressOf, recordIn}
 use Rattle.bodies.specs.declared.Body.{Body}
 use Rattle.bodies.specs.declared.Triple.{Triple}
-use Rattle.bodies.specs.Meaning.{BodyPlaced, bodyIn, tripleOf}
+use Rattle.bodies.specs.BodyAnswers.{BodyPlaced, bodyIn, tripleOf}
 use Rattle.packets.specs.declared.Packet.{Packet}
-use Rattle.packets.specs.Meaning.{packetIn}
+use Rattle.packets.specs.PacketAnswers.{packetIn}
 use Rattle.fields.specs.Given.{AddressFits, BodyFits, PacketFits, RecordFits, TripleFits}
 
 many-length : {A : Type 0} (d : Decoder A) (s : List ℕ) (n at end : ℕ) (l : List A) → decodeMany n d s at ≡ got l end → length l ≡ n

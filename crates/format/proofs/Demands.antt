@@ -17,7 +17,7 @@ use Rattle.format.specs.MetOrder.{decode}
 use Rattle.format.specs.Gaps.{Gap, Lawful, Marking, count, gapLimit, inside, lawful, leaves, marking, missing, rejected, subtract, within}
 use Rattle.format.specs.Writing.{Written, overwritten, refuses, tries, unwritten, writtenInto}
 use Rattle.format.specs.Saving.{save, savedAfter}
-use Rattle.format.specs.Putting.{fitting, putAfter, putGaps, withGaps}
+use Rattle.format.specs.PutGaps.{fitting, putAfter, putGaps, withGaps}
 use Rattle.format.specs.Demands.{Accepted, CeilingFirst, Demands, MissingAtEnd, RefusedPut, RefusedWrite}
 use Rattle.format.specs.Demands.{TrueCount, Untouched, WriteExact, WrittenBack, acceptedIn, acceptedRanges, gapsAfter, gapsAtEnd, oneMarking}
 use Rattle.format.proofs.Acceptance.{accepts, unambiguous}

@@ -11,7 +11,7 @@ use lib.Dec.{leb, eqb}
 use borrow.Author.Tests.{le-leb, leb-true, eqb-true, eqb-false, eq-eqb, ne-eqb}
 use Rattle.format.specs.Tables.{OneOf, oneOf, lookup, keys, pick, rows}
 use Rattle.format.specs.Bits.{packedBytes, packBits, bitsIn, unusedClear}
-use Rattle.format.specs.Messages.{Form, plain, extended, Link, Opcodes, Packet, Shape, Triple, Values, addressBody, addressDwordBody, addressesBody, dwordBody, fileStatusBody, hashAddressTagsBody, hashAddressesBody, hashBody, hashStringBody, hashsetBody, helloBody, noBody, queryBody, recordAddressBody, recordBody, recordsBody, recordsFlagBody, requestPartsBody, sendingPartBody, statusBody, statusRequestBody, stringBody, twoDwordsBody, twoStringsBody}
+use Rattle.format.specs.Messages.{Form, plain, extended, Link, Opcodes, Packet, Shape, Triple, Values, addressBody, addressDwordBody, addressesBody, dwordBody, fileStatusBody, hashAddressTagsBody, hashAddressesBody, hashBody, hashTextBody, hashsetBody, helloBody, nothingBody, queryBody, recordAddressBody, recordBody, recordsBody, recordsFlagBody, requestPartsBody, sendingPartBody, statusBody, statusRequestBody, textBody, twoDwordsBody, twoTextsBody}
 use Rattle.format.specs.Layout.{encodeBody, encodeExtendedStatus, encodeFileStatus, encodeRequestParts, encodeSendingPart, encodeStatusRequest, encodeTcp, encodeTriple, encodeUdp, encodeValues, littleEndian}
 use Rattle.format.specs.Rules.{Byte, Bytes, Dword, ValidExtendedStatus, ValidFileStatus, ValidPacket, ValidRequestParts, ValidSendingPart, ValidStatusRequest, ValidTriple, ValidValues}
 use Rattle.format.specs.Decoding.{Rule, _>>=_, decodeTail, passes, pure, violates}
@@ -129,13 +129,13 @@ codec-flag = codec-checked 1 _ (λ n. n) (λ n. n ≤ 1)
 
 codec-values : (s : Shape) → Codec atEnd (decodeValues s) (encodeValues s) (ValidValues s)
 unfolding encodeExtendedStatus
-codec-values noBody = codec-pure
+codec-values nothingBody = codec-pure
 codec-values queryBody = codec-query
 codec-values hashBody = codec-hash
 codec-values dwordBody = codec-dword
 codec-values twoDwordsBody = codec-pair codec-dword codec-dword
-codec-values stringBody = codec-string
-codec-values twoStringsBody = codec-pair codec-string codec-string
+codec-values textBody = codec-string
+codec-values twoTextsBody = codec-pair codec-string codec-string
 codec-values addressBody = codec-address
 codec-values addressesBody = codec-counted codec-byte codec-address
 codec-values hashAddressesBody = codec-pair codec-hash (codec-counted codec-byte codec-address)
@@ -146,7 +146,7 @@ codec-values hashAddressTagsBody = codec-pair codec-hash (codec-pair codec-addre
 codec-values helloBody = same (λ s at. simp (regroup, no-more)) (recast (λ _. refl) (λ m. (λ h. (tt, h), λ h. h .1))
     (codec-via (λ c. c .1) (λ m. (tt, m)) (λ _. refl) (λ _ _. refl) (codec-pair (codec-fixed 0x10 (omega arith)) (codec-pair codec-record codec-address))))
 codec-values recordAddressBody = codec-pair codec-record codec-address
-codec-values hashStringBody = codec-pair codec-hash codec-string
+codec-values hashTextBody = codec-pair codec-hash codec-string
 codec-values hashsetBody = codec-pair codec-hash (codec-counted codec-word codec-hash)
 codec-values sendingPartBody = codec-sendingPart
 codec-values requestPartsBody = codec-requestParts

@@ -11,7 +11,7 @@ use lib.Dec.{eqb, leb}
 use borrow.Author.Tests.{le-leb, leb-true, eq-eqb, eqb-true, eqb-false}
 use Rattle.format.specs.Tables.{pick}
 use Rattle.format.specs.Messages.{TagType, hashType, stringType, dwordType, floatType, TagValue, Tag, Record, Query, join, keyword, field, limit}
-use Rattle.format.specs.Messages.{Shape, Values, noBody, queryBody, hashBody, dwordBody, twoDwordsBody, stringBody, twoStringsBody, addressBody, addressesBody, hashAddressesBody, addressDwordBody, hashAddressTagsBody, recordBody, recordsBody, recordsFlagBody, recordAddressBody, helloBody, hashStringBody, hashsetBody, sendingPartBody, requestPartsBody, fileStatusBody, statusRequestBody, statusBody}
+use Rattle.format.specs.Messages.{Shape, Values, nothingBody, queryBody, hashBody, dwordBody, twoDwordsBody, textBody, twoTextsBody, addressBody, addressesBody, hashAddressesBody, addressDwordBody, hashAddressTagsBody, recordBody, recordsBody, recordsFlagBody, recordAddressBody, helloBody, hashTextBody, hashsetBody, sendingPartBody, requestPartsBody, fileStatusBody, statusRequestBody, statusBody}
 use Rattle.format.specs.Messages.{FileEntry, ServerEntry, PartMet, e0, e1, Kind, serverLink, clientLink, udpLink, knownMet, serverMet, partMet, loneQuery, loneTags, Message}
 use Rattle.format.specs.Layout.{encode, encodeAll}
 use Rattle.format.specs.Rules.{All, Bytes, Valid, ValidValue, ValidTag, ValidTags, ValidRecord, ValidLeaves, ValidValues, ValidFileEntry, ValidServerEntry, ValidPartMet, ceiling}
@@ -82,13 +82,13 @@ query-fits (field t n) h = (h .0 .0, omega (arith, h .1 .few))
 query-fits (limit v b n) h = omega (arith, h .1 .few)
 
 values-fit : (s : Shape) (v : Values s) → ValidValues s v → ValuesFit s v
-values-fit noBody v h = tt
+values-fit nothingBody v h = tt
 values-fit queryBody v h = query-fits v (h .0)
 values-fit hashBody v h = tt
 values-fit dwordBody v h = tt
 values-fit twoDwordsBody v h = tt
-values-fit stringBody v h = h .0
-values-fit twoStringsBody v h = (h .0 .0, h .1 .0)
+values-fit textBody v h = h .0
+values-fit twoTextsBody v h = (h .0 .0, h .1 .0)
 values-fit addressBody v h = tt
 values-fit addressesBody v h = h .0
 values-fit hashAddressesBody v h = h .1 .0
@@ -99,7 +99,7 @@ values-fit recordsBody v h = (h .0, all-map record-fits v (h .1))
 values-fit recordsFlagBody v h = (h .0 .0, all-map record-fits (v .0) (h .0 .1))
 values-fit recordAddressBody v h = record-fits (v .0) (h .0)
 values-fit helloBody v h = record-fits (v .0) (h .0)
-values-fit hashStringBody v h = h .1 .0
+values-fit hashTextBody v h = h .1 .0
 values-fit hashsetBody v h = h .1 .0
 values-fit sendingPartBody v h = tt
 values-fit requestPartsBody v h = tt

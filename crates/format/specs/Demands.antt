@@ -25,7 +25,7 @@ use Rattle.format.specs.Gaps.{Gap, Lawful, Marking, count, inside, lawfu
 use Rattle.format.specs.Truth.{Holds, holds}
 use Rattle.format.specs.Writing.{Written, Writes, overwritten, writtenInto}
 use Rattle.format.specs.Saving.{save}
-use Rattle.format.specs.Putting.{putGaps}
+use Rattle.format.specs.PutGaps.{putGaps}
 
 -- The bytes are accepted as some message.
 abbrev pub Accepted : Kind → List ℕ → Type 0

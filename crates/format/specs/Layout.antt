@@ -8,7 +8,7 @@ use Rattle.format.specs.Bits.{packBits}
 use Rattle.format.specs.Messages.{Address, TagType, hashType, stringType, dwordType, floatType, TagValue, Tag, Record}
 use Rattle.format.specs.Messages.{Operator, and, or, andNot, Bound, atLeast, atMost, Query, join, keyword, field, limit}
 use Rattle.format.specs.Messages.{SendingPart, Triple, RequestParts, FileStatus, StatusRequest, ExtendedStatus, Shape, Values, Packet}
-use Rattle.format.specs.Messages.{noBody, queryBody, hashBody, dwordBody, twoDwordsBody, stringBody, twoStringsBody, addressBody, addressesBody, hashAddressesBody, addressDwordBody, hashAddressTagsBody, recordBody, recordsBody, recordsFlagBody, recordAddressBody, helloBody, hashStringBody, hashsetBody, sendingPartBody, requestPartsBody, fileStatusBody, statusRequestBody, statusBody}
+use Rattle.format.specs.Messages.{nothingBody, queryBody, hashBody, dwordBody, twoDwordsBody, textBody, twoTextsBody, addressBody, addressesBody, hashAddressesBody, addressDwordBody, hashAddressTagsBody, recordBody, recordsBody, recordsFlagBody, recordAddressBody, helloBody, hashTextBody, hashsetBody, sendingPartBody, requestPartsBody, fileStatusBody, statusRequestBody, statusBody}
 use Rattle.format.specs.Messages.{FileEntry, KnownMet, ServerEntry, ServerMet, HashBlocks, noBlocks, partBlock, blockBlock, bothBlocks, PartE1, PartMet, e0, e1}
 use Rattle.format.specs.Messages.{Kind, serverLink, clientLink, udpLink, knownMet, serverMet, partMet, loneQuery, loneTags, Message}
 
@@ -112,13 +112,13 @@ either f g (inl a) = f a
 either f g (inr b) = g b
 
 abbrev pub encodeValues : (s : Shape) → Values s → List ℕ
-encodeValues noBody v = []
+encodeValues nothingBody v = []
 encodeValues queryBody v = encodeQuery v
 encodeValues hashBody v = encodeHash v
 encodeValues dwordBody v = dword v
 encodeValues twoDwordsBody v = dword (v .0) ++ dword (v .1)
-encodeValues stringBody v = encodeString v
-encodeValues twoStringsBody v = encodeString (v .0) ++ encodeString (v .1)
+encodeValues textBody v = encodeString v
+encodeValues twoTextsBody v = encodeString (v .0) ++ encodeString (v .1)
 encodeValues addressBody v = encodeAddress v
 encodeValues addressesBody v = counted byte encodeAddress v
 encodeValues hashAddressesBody v = encodeHash (v .0) ++ counted byte encodeAddress (v .1)
@@ -129,7 +129,7 @@ encodeValues recordsBody v = counted dword encodeRecord v
 encodeValues recordsFlagBody v = counted dword encodeRecord (v .0) ++ byte (v .1)
 encodeValues recordAddressBody v = encodeRecord (v .0) ++ encodeAddress (v .1)
 encodeValues helloBody v = byte 0x10 ++ (encodeRecord (v .0) ++ encodeAddress (v .1))
-encodeValues hashStringBody v = encodeHash (v .0) ++ encodeString (v .1)
+encodeValues hashTextBody v = encodeHash (v .0) ++ encodeString (v .1)
 encodeValues hashsetBody v = encodeHash (v .0) ++ counted word encodeHash (v .1)
 encodeValues sendingPartBody v = encodeSendingPart v
 encodeValues requestPartsBody v = encodeRequestParts v

@@ -15,5 +15,5 @@ pub mod Truth
 pub mod Writing
 pub mod RoundTrip
 pub mod Saving
-pub mod Putting
+pub mod PutGaps
 pub mod Demands

@@ -86,20 +86,20 @@ pub record ExtendedStatus : Type 0 where
 
 -- What a packet's body holds.
 pub data Shape : Type 0 where
-  noBody queryBody hashBody dwordBody twoDwordsBody stringBody twoStringsBody : Shape
+  nothingBody queryBody hashBody dwordBody twoDwordsBody textBody twoTextsBody : Shape
   addressBody addressesBody hashAddressesBody addressDwordBody hashAddressTagsBody : Shape
   recordBody recordsBody recordsFlagBody recordAddressBody helloBody : Shape
-  hashStringBody hashsetBody sendingPartBody requestPartsBody fileStatusBody : Shape
+  hashTextBody hashsetBody sendingPartBody requestPartsBody fileStatusBody : Shape
   statusRequestBody statusBody : Shape
 
 abbrev pub Values : Shape → Type 0
-Values noBody = Unit {0}
+Values nothingBody = Unit {0}
 Values queryBody = Query
 Values hashBody = List ℕ
 Values dwordBody = ℕ
 Values twoDwordsBody = ℕ × ℕ
-Values stringBody = List ℕ
-Values twoStringsBody = List ℕ × List ℕ
+Values textBody = List ℕ
+Values twoTextsBody = List ℕ × List ℕ
 Values addressBody = Address
 Values addressesBody = List Address
 Values hashAddressesBody = List ℕ × List Address
@@ -110,7 +110,7 @@ Values recordsBody = List Record
 Values recordsFlagBody = List Record × ℕ
 Values recordAddressBody = Record × Address
 Values helloBody = Record × Address
-Values hashStringBody = List ℕ × List ℕ
+Values hashTextBody = List ℕ × List ℕ
 Values hashsetBody = List ℕ × List (List ℕ)
 Values sendingPartBody = SendingPart
 Values requestPartsBody = RequestParts
@@ -134,21 +134,21 @@ Link = List (ℕ × Opcodes)
 abbrev pub serverOpcodes : Opcodes
 serverOpcodes =
     (0x01, recordBody)  -- Hello server
-    ∷ (0x05, noBody)  -- Bad protocol
-    ∷ (0x14, noBody)  -- Get server list
+    ∷ (0x05, nothingBody)  -- Bad protocol
+    ∷ (0x14, nothingBody)  -- Get server list
     ∷ (0x15, recordsBody)  -- Offer files
     ∷ (0x16, queryBody)  -- Search file
-    ∷ (0x18, noBody)  -- Disconnect
+    ∷ (0x18, nothingBody)  -- Disconnect
     ∷ (0x19, hashBody)  -- Get sources
     ∷ (0x1A, queryBody)  -- Search user
     ∷ (0x1C, dwordBody)  -- Client cb request
-    ∷ (0x21, noBody)  -- More results
+    ∷ (0x21, nothingBody)  -- More results
     ∷ (0x32, addressesBody)  -- Server list
     ∷ (0x33, recordsFlagBody)  -- Search file results
     ∷ (0x34, twoDwordsBody)  -- Server status
     ∷ (0x35, addressBody)  -- Server cb request
     ∷ (0x36, dwordBody)  -- Callback fail
-    ∷ (0x38, stringBody)  -- Server message
+    ∷ (0x38, textBody)  -- Server message
     ∷ (0x40, dwordBody)  -- ID change
     ∷ (0x41, hashAddressTagsBody)  -- Server info data
     ∷ (0x42, hashAddressesBody)  -- Found sources
@@ -162,21 +162,21 @@ clientOpcodes =
     ∷ (0x47, requestPartsBody)  -- Request parts
     ∷ (0x48, hashBody)  -- No such file
     ∷ (0x49, hashBody)  -- End of download
-    ∷ (0x4A, noBody)  -- View files
+    ∷ (0x4A, nothingBody)  -- View files
     ∷ (0x4B, recordsBody)  -- View files answer
     ∷ (0x4C, recordAddressBody)  -- Hello answer
     ∷ (0x4D, twoDwordsBody)  -- New client ID
-    ∷ (0x4E, stringBody)  -- Message
+    ∷ (0x4E, textBody)  -- Message
     ∷ (0x4F, hashBody)  -- File status request
     ∷ (0x50, fileStatusBody)  -- File status
     ∷ (0x51, hashBody)  -- Hashset request
     ∷ (0x52, hashsetBody)  -- Hashset answer
     ∷ (0x54, hashBody)  -- Slot request
-    ∷ (0x55, noBody)  -- Slot given
-    ∷ (0x56, noBody)  -- Slot release
-    ∷ (0x57, noBody)  -- Slot taken
+    ∷ (0x55, nothingBody)  -- Slot given
+    ∷ (0x56, nothingBody)  -- Slot release
+    ∷ (0x57, nothingBody)  -- Slot taken
     ∷ (0x58, hashBody)  -- File request
-    ∷ (0x59, hashStringBody)  -- File request answer
+    ∷ (0x59, hashTextBody)  -- File request answer
     ∷ (0x5C, dwordBody)  -- Queue rank
     ∷ []
 
@@ -191,9 +191,9 @@ udpOpcodes =
     ∷ (0x9C, addressDwordBody)  -- UDP Callback request
     ∷ (0x9E, dwordBody)  -- UDP Callback fail
     ∷ (0xA1, addressesBody)  -- UDP Server list
-    ∷ (0xA2, noBody)  -- UDP Get server info
-    ∷ (0xA3, twoStringsBody)  -- UDP Server info
-    ∷ (0xA4, noBody)  -- UDP Get server list
+    ∷ (0xA2, nothingBody)  -- UDP Get server info
+    ∷ (0xA3, twoTextsBody)  -- UDP Server info
+    ∷ (0xA4, nothingBody)  -- UDP Get server list
     ∷ []
 
 abbrev pub server : Link

@@ -8,7 +8,7 @@ use lib.Dec.{leb, eqb}
 use Rattle.format.specs.Tables.{pick, lookup, oneOf, keys, rows}
 use Rattle.format.specs.Bits.{packedBytes, bitsIn, unusedClear}
 use Rattle.format.specs.Messages.{SendingPart, Triple, RequestParts, FileStatus, Form, plain, extended, StatusRequest, ExtendedStatus, Shape, Values, Packet, Opcodes, Link}
-use Rattle.format.specs.Messages.{noBody, queryBody, hashBody, dwordBody, twoDwordsBody, stringBody, twoStringsBody, addressBody, addressesBody, hashAddressesBody, addressDwordBody, hashAddressTagsBody, recordBody, recordsBody, recordsFlagBody, recordAddressBody, helloBody, hashStringBody, hashsetBody, sendingPartBody, requestPartsBody, fileStatusBody, statusRequestBody, statusBody}
+use Rattle.format.specs.Messages.{nothingBody, queryBody, hashBody, dwordBody, twoDwordsBody, textBody, twoTextsBody, addressBody, addressesBody, hashAddressesBody, addressDwordBody, hashAddressTagsBody, recordBody, recordsBody, recordsFlagBody, recordAddressBody, helloBody, hashTextBody, hashsetBody, sendingPartBody, requestPartsBody, fileStatusBody, statusRequestBody, statusBody}
 use Rattle.format.specs.Decoding.{Rule, frameLength, kind, choice, statusBit, order, dataLength, Decoder, _>>=_, _>>_, pure, decodeRun, decodeTail, remaining, Check, passes, violates, checked, checkedBefore, found}
 use Rattle.format.specs.Order.{decodeByte, decodeWord, decodeDword, decodeHash, decodeString, decodeFixed, decodeAddress, decodeCounted, decodeTags, decodeRecord, decodeQuery}
 
@@ -98,13 +98,13 @@ unfoldable pub decodeFlag : Decoder ℕ
 decodeFlag = checked 1 checkFlag decodeByte
 
 abbrev pub decodeValues : (s : Shape) → Decoder (Values s)
-decodeValues noBody = pure tt
+decodeValues nothingBody = pure tt
 decodeValues queryBody = decodeQuery
 decodeValues hashBody = decodeHash
 decodeValues dwordBody = decodeDword
 decodeValues twoDwordsBody = both decodeDword decodeDword
-decodeValues stringBody = decodeString
-decodeValues twoStringsBody = both decodeString decodeString
+decodeValues textBody = decodeString
+decodeValues twoTextsBody = both decodeString decodeString
 decodeValues addressBody = decodeAddress
 decodeValues addressesBody = decodeCounted decodeByte decodeAddress
 decodeValues hashAddressesBody = both decodeHash (decodeCounted decodeByte decodeAddress)
@@ -117,7 +117,7 @@ decodeValues recordAddressBody = both decodeRecord decodeAddress
 decodeValues helloBody = do
   decodeFixed 0x10
   both decodeRecord decodeAddress
-decodeValues hashStringBody = both decodeHash decodeString
+decodeValues hashTextBody = both decodeHash decodeString
 decodeValues hashsetBody = both decodeHash (decodeCounted decodeWord decodeHash)
 decodeValues sendingPartBody = decodeSendingPart
 decodeValues requestPartsBody = decodeRequestParts

@@ -11,7 +11,7 @@ use Rattle.format.specs.Gaps.{gapLimit, Gap, Ordered}
 use Rattle.format.specs.Messages.{Address, TagType, hashType, stringType, dwordType, floatType, TagValue, Tag, Record}
 use Rattle.format.specs.Messages.{Query, join, keyword, field, limit}
 use Rattle.format.specs.Messages.{SendingPart, Triple, RequestParts, FileStatus, extended, StatusRequest, ExtendedStatus, Shape, Values, Packet, Link, server, client, udp}
-use Rattle.format.specs.Messages.{noBody, queryBody, hashBody, dwordBody, twoDwordsBody, stringBody, twoStringsBody, addressBody, addressesBody, hashAddressesBody, addressDwordBody, hashAddressTagsBody, recordBody, recordsBody, recordsFlagBody, recordAddressBody, helloBody, hashStringBody, hashsetBody, sendingPartBody, requestPartsBody, fileStatusBody, statusRequestBody, statusBody}
+use Rattle.format.specs.Messages.{nothingBody, queryBody, hashBody, dwordBody, twoDwordsBody, textBody, twoTextsBody, addressBody, addressesBody, hashAddressesBody, addressDwordBody, hashAddressTagsBody, recordBody, recordsBody, recordsFlagBody, recordAddressBody, helloBody, hashTextBody, hashsetBody, sendingPartBody, requestPartsBody, fileStatusBody, statusRequestBody, statusBody}
 use Rattle.format.specs.Messages.{FileEntry, KnownMet, ServerEntry, ServerMet, HashBlocks, noBlocks, partBlock, blockBlock, bothBlocks, PartE1, PartMet, e0, e1}
 use Rattle.format.specs.Messages.{Kind, serverLink, clientLink, udpLink, knownMet, serverMet, partMet, loneQuery, loneTags, Message}
 use Rattle.format.specs.Layout.{either, encode}
@@ -145,13 +145,13 @@ pub record ValidExtendedStatus (m : ExtendedStatus) : Type 0 where
   pub numbers : ValidTriple (m .numbers)
 
 abbrev pub ValidValues : (s : Shape) → Values s → Type 0
-ValidValues noBody v = Unit {0}
+ValidValues nothingBody v = Unit {0}
 ValidValues queryBody v = ValidQuery v
 ValidValues hashBody v = ValidHash v
 ValidValues dwordBody v = Dword v
 ValidValues twoDwordsBody v = Dword (v .0) × Dword (v .1)
-ValidValues stringBody v = ValidString v
-ValidValues twoStringsBody v = ValidString (v .0) × ValidString (v .1)
+ValidValues textBody v = ValidString v
+ValidValues twoTextsBody v = ValidString (v .0) × ValidString (v .1)
 ValidValues addressBody v = ValidAddress v
 ValidValues addressesBody v = Counted Byte ValidAddress v
 ValidValues hashAddressesBody v = ValidHash (v .0) × Counted Byte ValidAddress (v .1)
@@ -162,7 +162,7 @@ ValidValues recordsBody v = Counted Dword ValidRecord v
 ValidValues recordsFlagBody v = Counted Dword ValidRecord (v .0) × (v .1 ≤ 1)
 ValidValues recordAddressBody v = ValidRecord (v .0) × ValidAddress (v .1)
 ValidValues helloBody v = ValidRecord (v .0) × ValidAddress (v .1)
-ValidValues hashStringBody v = ValidHash (v .0) × ValidString (v .1)
+ValidValues hashTextBody v = ValidHash (v .0) × ValidString (v .1)
 ValidValues hashsetBody v = ValidHash (v .0) × Counted Word ValidHash (v .1)
 ValidValues sendingPartBody v = ValidSendingPart v
 ValidValues requestPartsBody v = ValidRequestParts v

@@ -7,7 +7,7 @@ use lib.ListN.{length, drop}
 use lib.Dec.{leb}
 use Rattle.format.specs.Tables.{pick}
 use Rattle.format.specs.Messages.{TagType, hashType, stringType, dwordType, floatType, TagValue, Tag, Record, Query, join, keyword, field, limit}
-use Rattle.format.specs.Messages.{Shape, Values, noBody, queryBody, hashBody, dwordBody, twoDwordsBody, stringBody, twoStringsBody, addressBody, addressesBody, hashAddressesBody, addressDwordBody, hashAddressTagsBody, recordBody, recordsBody, recordsFlagBody, recordAddressBody, helloBody, hashStringBody, hashsetBody, sendingPartBody, requestPartsBody, fileStatusBody, statusRequestBody, statusBody}
+use Rattle.format.specs.Messages.{Shape, Values, nothingBody, queryBody, hashBody, dwordBody, twoDwordsBody, textBody, twoTextsBody, addressBody, addressesBody, hashAddressesBody, addressDwordBody, hashAddressTagsBody, recordBody, recordsBody, recordsFlagBody, recordAddressBody, helloBody, hashTextBody, hashsetBody, sendingPartBody, requestPartsBody, fileStatusBody, statusRequestBody, statusBody}
 use Rattle.format.specs.Messages.{FileEntry, ServerEntry, PartMet, e0, e1, Kind, serverLink, clientLink, udpLink, knownMet, serverMet, partMet, loneQuery, loneTags, Message}
 use Rattle.format.specs.Layout.{encode}
 use Rattle.format.specs.Rules.{All, Byte, Word, Dword}
@@ -44,13 +44,13 @@ QueryFits (field t n) = StringFits t × StringFits n
 QueryFits (limit v b n) = StringFits n
 
 abbrev pub ValuesFit : (s : Shape) → Values s → Type 0
-ValuesFit noBody v = Unit {0}
+ValuesFit nothingBody v = Unit {0}
 ValuesFit queryBody v = QueryFits v
 ValuesFit hashBody v = Unit {0}
 ValuesFit dwordBody v = Unit {0}
 ValuesFit twoDwordsBody v = Unit {0}
-ValuesFit stringBody v = StringFits v
-ValuesFit twoStringsBody v = StringFits (v .0) × StringFits (v .1)
+ValuesFit textBody v = StringFits v
+ValuesFit twoTextsBody v = StringFits (v .0) × StringFits (v .1)
 ValuesFit addressBody v = Unit {0}
 ValuesFit addressesBody v = Byte (length v)
 ValuesFit hashAddressesBody v = Byte (length (v .1))
@@ -61,7 +61,7 @@ ValuesFit recordsBody v = RecordsFit v
 ValuesFit recordsFlagBody v = RecordsFit (v .0)
 ValuesFit recordAddressBody v = RecordFits (v .0)
 ValuesFit helloBody v = RecordFits (v .0)
-ValuesFit hashStringBody v = StringFits (v .1)
+ValuesFit hashTextBody v = StringFits (v .1)
 ValuesFit hashsetBody v = Word (length (v .1))
 ValuesFit sendingPartBody v = Unit {0}
 ValuesFit requestPartsBody v = Unit {0}

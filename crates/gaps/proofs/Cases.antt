@@ -2,7 +2,7 @@
 use mathlib.Core.Path.{_≡_, refl}
 use mathlib.Core.List.{[], _∷_}
 use Rattle.format.specs.Gaps.{gap, missing, follows, ordered, lawful, count, between, remaining, subtract, marking, sizeLimit}
-use Rattle.gaps.specs.Records.{allMissing, recordOf, lawfulRecord}
+use Rattle.gaps.specs.GapRecords.{allMissing, recordOf, lawfulRecord}
 use Rattle.gaps.specs.Marking.{markable, refusal, marked}
 
 mark-40-to-60 : marked sizeLimit (allMissing 100) 40 60

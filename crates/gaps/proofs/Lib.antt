@@ -1,4 +1,4 @@
-pub mod Records
-pub mod Steps
+pub mod GapRecords
+pub mod MarkingSteps
 pub mod Marking
 pub mod Cases

@@ -14,10 +14,10 @@ use Rattle.format.proofs.Gaps.{never, both-true, outside-both, subtract-ordered
 use Rattle.gaps.specs.declared.GapRecord.{GapRecord}
 use Rattle.gaps.specs.declared.Marked.{Marked}
 use Rattle.gaps.specs.declared.Pushed.{Pushed}
-use Rattle.gaps.specs.Records.{gapsOf, recordOf, lawfulRecord, missingCount}
+use Rattle.gaps.specs.GapRecords.{gapsOf, recordOf, lawfulRecord, missingCount}
 use Rattle.gaps.specs.Marking.{Markable, markable, refusal, acceptance, marked, covered, markAll, acceptedRanges}
-use Rattle.gaps.specs.Steps.{subtracted}
-use Rattle.gaps.proofs.Records.{gaps-of-record, lawful-record-exactly}
+use Rattle.gaps.specs.MarkingSteps.{subtracted}
+use Rattle.gaps.proofs.GapRecords.{gaps-of-record, lawful-record-exactly}
 
 -- the test says what the rule says
 pub markable-exactly : (limit : ℕ) (g : GapRecord) (s e : ℕ) → (markable limit g s e ≡ true) ↔ Markable limit g s e

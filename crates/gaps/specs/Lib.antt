@@ -1,3 +1,3 @@
-pub mod Records
+pub mod GapRecords
 pub mod Marking
-pub mod Steps
+pub mod MarkingSteps

@@ -7,7 +7,7 @@ use Rattle.format.specs.Gaps.{gapLimit, Gap, Lawful, missing, count, Marking, r
 use Rattle.gaps.specs.declared.GapRecord.{GapRecord}
 use Rattle.gaps.specs.declared.Marked.{Marked}
 use Rattle.gaps.specs.declared.MarkAnswer.{MarkAnswer}
-use Rattle.gaps.specs.Records.{gapsOf, recordOf, lawfulRecord}
+use Rattle.gaps.specs.GapRecords.{gapsOf, recordOf, lawfulRecord}
 
 -- what a marking needs, else it is refused with 8
 pub record Markable (limit : ℕ) (g : GapRecord) (start end : ℕ) : Type 0 where

@@ -1,11 +1,11 @@
 // Gap records by value: making them, judging them, counting the missing bytes, and marking bytes that have arrived.
-// What each function answers is said in specs/Records.antt and specs/Marking.antt; private steps cite specs/Steps.antt.
+// What each function answers is said in specs/GapRecords.antt and specs/Marking.antt; private steps cite specs/MarkingSteps.antt.
 ghost use mathlib.Core.Path.{_≡_};
 ghost use Prim.Native.Nat.{_≤_, min, max};
 ghost use Rattle.format.specs.Gaps.{Ordered, total, follows, sizeLimit};
-ghost use Rattle.gaps.specs.Records.{gapOf, gapsOf, noneMissing, allMissing, lawfulRecord, missingCount};
+ghost use Rattle.gaps.specs.GapRecords.{gapOf, gapsOf, noneMissing, allMissing, lawfulRecord, missingCount};
 ghost use Rattle.gaps.specs.Marking.{markable, refusal, marked, answerOf};
-ghost use Rattle.gaps.specs.Steps.{pushed, pushedRemaining, subtracted};
+ghost use Rattle.gaps.specs.MarkingSteps.{pushed, pushedRemaining, subtracted};
 
 // The largest size of a file: `sizeLimit` in the format's specs/Gaps.antt.
 pub const SIZE_LIMIT: u64 = 4294967295;

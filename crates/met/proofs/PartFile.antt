@@ -15,17 +15,17 @@ use Rattle.format.specs.GapTags.{gapsOf}
 use Rattle.format.specs.PartTagOrder.{checkPartTags}
 use Rattle.format.specs.MetOrder.{decode}
 use Rattle.wire.specs.declared.Items.{Items}
-use Rattle.wire.specs.Meaning.{itemsIn, ItemsPlaced}
+use Rattle.wire.specs.WireAnswers.{itemsIn, ItemsPlaced}
 use Rattle.format.proofs.Differ.{differ}
 use Rattle.wire.proofs.Replies.{exact}
-use Rattle.gaps.specs.Records.{recordOf}
-use Rattle.parttags.specs.declared.TagsVerdict.{TagsVerdict}
-use Rattle.parttags.specs.declared.PartTags.{PartTags}
-use Rattle.parttags.specs.Meaning.{verdictMeaning, gapsMeaning}
+use Rattle.gaps.specs.GapRecords.{recordOf}
+use Rattle.part_tags.specs.declared.TagsVerdict.{TagsVerdict}
+use Rattle.part_tags.specs.declared.PartTags.{PartTags}
+use Rattle.part_tags.specs.PartTagAnswers.{verdictMeaning, gapsMeaning}
 use Rattle.met.specs.declared.PartMet.{PartMet}
 use Rattle.met.specs.declared.PartAnswer.{PartAnswer}
-use Rattle.met.specs.Meaning.{TagsSized, partMetIn, PartMetPlaced, tagsOf, tagsPlace}
-use Rattle.met.specs.Meaning.{partReply, PartAnswerPlaced, PartAnswerSized, sizeFound, gapsAnswer}
+use Rattle.met.specs.MetAnswers.{TagsSized, partMetIn, PartMetPlaced, tagsOf, tagsPlace}
+use Rattle.met.specs.MetAnswers.{partReply, PartAnswerPlaced, PartAnswerSized, sizeFound, gapsAnswer}
 
 -- the four clauses of a reader of whole inputs that also answers a size
 module _ (k : Kind) (s : List ℕ) (known : (i : ℕ) → Fits w8 (getD s i 0)) {r : Reply (Message k)} where

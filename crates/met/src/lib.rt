@@ -5,7 +5,7 @@
 // as the places where they lie. To go through the entries of a file, start a cursor at the first and read entry after
 // entry with the reader of one entry, as many as the list counts.
 //
-// specs/Meaning.antt says what each answer stands for.
+// specs/MetAnswers.antt says what each answer stands for.
 ghost use Prim.Native.Nat.{_-_, _≤_};
 ghost use mathlib.Core.Path.{_≡_};
 ghost use mathlib.Core.Logic.{_↔_};
@@ -20,20 +20,20 @@ ghost use Rattle.format.specs.PacketOrder.{decodeOpening};
 ghost use Rattle.format.specs.MetOrder.{decode, decodeFileEntry, decodeKnownMet, decodeServerEntry, decodeServerMet};
 ghost use Rattle.format.specs.MetOrder.{marks, decodeSecondBlock, decodeHashBlocks, decodePartTags};
 ghost use Rattle.format.specs.MetOrder.{isE0, isE1, decodeEdition, decodePartBody, decodePartMet};
-ghost use Rattle.wire.specs.Meaning.{byteMeaning, itemsIn, ItemsInside, itemsMeaning, ItemsStepPlaced, ItemsStepInside, placeBytes, PlaceInside};
+ghost use Rattle.wire.specs.WireAnswers.{byteMeaning, itemsIn, ItemsInside, itemsMeaning, ItemsStepPlaced, ItemsStepInside, placeBytes, PlaceInside};
 ghost use Rattle.tags.specs.Skips.{EndsThere};
-ghost use Rattle.met.specs.Meaning.{fileEntryMeaning, FileEntryStepPlaced, fileEntryFault};
-ghost use Rattle.met.specs.Meaning.{knownMetMeaning, KnownMetStepPlaced, knownMetFault, knownReply, KnownAnswerPlaced};
-ghost use Rattle.met.specs.Meaning.{serverEntryMeaning, ServerEntryStepPlaced, serverEntryFault};
-ghost use Rattle.met.specs.Meaning.{serverMetMeaning, ServerMetStepPlaced, serverMetFault, serverReply, ServerAnswerPlaced};
-ghost use Rattle.met.specs.Meaning.{markMeaning, markFault, blocksMeaning, BlocksStepPlaced, blocksFault, editionMeaning, editionFault};
-ghost use Rattle.met.specs.Meaning.{partTagsMeaning, PartTagsStepPlaced, PartTagsStepSized, partTagsFault, tagsPlace};
-ghost use Rattle.met.specs.Meaning.{partMetMeaning, PartMetStepPlaced, PartMetStepSized, partMetFault};
-ghost use Rattle.met.specs.Meaning.{partReply, PartAnswerPlaced, PartAnswerSized, gapsAnswer};
+ghost use Rattle.met.specs.MetAnswers.{fileEntryMeaning, FileEntryStepPlaced, fileEntryFault};
+ghost use Rattle.met.specs.MetAnswers.{knownMetMeaning, KnownMetStepPlaced, knownMetFault, knownReply, KnownAnswerPlaced};
+ghost use Rattle.met.specs.MetAnswers.{serverEntryMeaning, ServerEntryStepPlaced, serverEntryFault};
+ghost use Rattle.met.specs.MetAnswers.{serverMetMeaning, ServerMetStepPlaced, serverMetFault, serverReply, ServerAnswerPlaced};
+ghost use Rattle.met.specs.MetAnswers.{markMeaning, markFault, blocksMeaning, BlocksStepPlaced, blocksFault, editionMeaning, editionFault};
+ghost use Rattle.met.specs.MetAnswers.{partTagsMeaning, PartTagsStepPlaced, PartTagsStepSized, partTagsFault, tagsPlace};
+ghost use Rattle.met.specs.MetAnswers.{partMetMeaning, PartMetStepPlaced, PartMetStepSized, partMetFault};
+ghost use Rattle.met.specs.MetAnswers.{partReply, PartAnswerPlaced, PartAnswerSized, gapsAnswer};
 use gaps::GapRecord;
 use gaps::none_missing;
-use parttags::TagsVerdict;
-use parttags::check_part_tags;
+use part_tags::TagsVerdict;
+use part_tags::check_part_tags;
 use records::hashes_from;
 use records::read_hashes;
 use tags::read_tags;

@@ -11,7 +11,7 @@ use Rattle.format.specs.Decoding.{Reply, message, reply, decodeWhole}
 use Rattle.format.specs.MetOrder.{decode}
 use Rattle.wire.proofs.Replies.{exact-placed}
 use Rattle.packets.specs.declared.Link.{Link}
-use Rattle.packets.specs.Meaning.{decodeLink, linkReply, LinkAccepts}
+use Rattle.packets.specs.PacketAnswers.{decodeLink, linkReply, LinkAccepts}
 
 -- the three clauses of the reader; `known` is what the checker knows of the elements of a slice of u8
 pub exact-link : (link : Link) (s : List ℕ) (known : (i : ℕ) → Fits w8 (getD s i 0)) {r : Reply Packet} {Placed : Type 0} →

@@ -11,7 +11,7 @@ use Rattle.format.specs.Order.{decodeByte}
 use Rattle.format.specs.PacketOrder.{checkOpening, decodeOpening}
 use Rattle.wire.specs.declared.Cursor.{Cursor}
 use Rattle.wire.specs.declared.ByteStep.{ByteStep}
-use Rattle.wire.specs.Meaning.{byteMeaning}
+use Rattle.wire.specs.WireAnswers.{byteMeaning}
 use Rattle.format.proofs.Differ.{differ}
 
 module _ (k : ℕ) (s : List ℕ) (at : ℕ) {b next : ℕ} where

@@ -10,10 +10,10 @@ ghost use Rattle.format.specs.Messages.{serverOpcodes, clientOpcodes, udpOpcode
 ghost use Rattle.format.specs.Messages as messages;
 ghost use Rattle.format.specs.Decoding.{message};
 ghost use Rattle.format.specs.PacketOrder.{decodeOpening, decodeLength, decodeOpcode, decodeTcp, decodeUdp};
-ghost use Rattle.wire.specs.Meaning.{byteMeaning, dwordMeaning};
-ghost use Rattle.packets.specs.Meaning.{opcodesOf, decodeLink, shapeMeaning, headMeaning, packetBehind};
-ghost use Rattle.packets.specs.Meaning.{packetReply, PacketPlaced, linkReply, LinkAccepts};
-ghost use Rattle.packets.specs.Meaning.{headFault};
+ghost use Rattle.wire.specs.WireAnswers.{byteMeaning, dwordMeaning};
+ghost use Rattle.packets.specs.PacketAnswers.{opcodesOf, decodeLink, shapeMeaning, headMeaning, packetBehind};
+ghost use Rattle.packets.specs.PacketAnswers.{packetReply, PacketPlaced, linkReply, LinkAccepts};
+ghost use Rattle.packets.specs.PacketAnswers.{headFault};
 use bodies::Body;
 use bodies::BodyStep;
 use bodies::Shape;

@@ -17,7 +17,7 @@ use Rattle.format.specs.Order.{decodeCode, decodeString, decodeName, decodeDwor
 use Rattle.format.specs.Order.{isJoin, isKeyword, isField, isLimit, queryCases}
 use Rattle.format.proofs.Codec.{never, same-value, went}
 use Rattle.query.specs.Nodes.{Node, join, keyword, field, limit, decodeNodeOf, decodeNode, decodeLeaf, decodeSides, depths}
-use Rattle.query.specs.Meaning.{queryOf}
+use Rattle.query.specs.QueryAnswers.{queryOf}
 use Rattle.query.proofs.Nodes.{query-node, query-left}
 
 -- A query whose first byte is not 0 is a leaf.

@@ -3,7 +3,7 @@
 // A query is a leaf (a keyword, a field or a limit), or a join: an operator and two queries, its sides. None of this is copied: a
 // query is answered as the place where it lies, with its depth, and a caller that wants its parts reads the node at that place.
 //
-// specs/Nodes.antt takes a query apart in the format's terms, specs/Meaning.antt says what each answer stands for.
+// specs/Nodes.antt takes a query apart in the format's terms, specs/QueryAnswers.antt says what each answer stands for.
 ghost use mathlib.Core.Path.{_≡_};
 ghost use mathlib.Core.Logic.{_↔_};
 ghost use Prim.Native.Nat.{max, _-_, _<_};
@@ -14,9 +14,9 @@ ghost use Rattle.format.specs.Decoding.{message, reply};
 ghost use Rattle.format.specs.Order.{decodeCode, operators, bounds, isJoin, isKeyword, isField, isLimit, decodeCase, decodeQueryIn, decodeQuery};
 ghost use Rattle.format.specs.MetOrder.{decode};
 ghost use Rattle.query.specs.Nodes.{decodeNodeOf, decodeNode, decodeLeaf, depths};
-ghost use Rattle.query.specs.Meaning.{operatorMeaning, boundMeaning, nodeMeaning, NodeStepInside, depthMeaning, queryMeaning, queryReply};
-ghost use Rattle.query.specs.Meaning.{operatorFault, boundFault, nodeFault, depthFault, queryFault};
-ghost use Rattle.query.specs.Meaning.{QueryStepPlaced, QueryAnswerPlaced};
+ghost use Rattle.query.specs.QueryAnswers.{operatorMeaning, boundMeaning, nodeMeaning, NodeStepInside, depthMeaning, queryMeaning, queryReply};
+ghost use Rattle.query.specs.QueryAnswers.{operatorFault, boundFault, nodeFault, depthFault, queryFault};
+ghost use Rattle.query.specs.QueryAnswers.{QueryStepPlaced, QueryAnswerPlaced};
 use wire::ByteStep;
 use wire::Cursor;
 use wire::DwordStep;

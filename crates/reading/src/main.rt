@@ -6,10 +6,10 @@ use console::print_summary;
 use console::read_all;
 use console::read_some;
 use libc::STDIN_FILENO;
-use reader::Kind;
-use reader::Lettered;
-use reader::kind_of_letter;
-use reader::summarize;
+use read_any::Kind;
+use read_any::Lettered;
+use read_any::kind_of_letter;
+use read_any::summarize;
 ghost use Prim.Native.Nat.{_<_};
 ghost use lib.ListN.{length};
 

@@ -5,8 +5,8 @@
 ghost use mathlib.Core.Path.{_≡_};
 ghost use Rattle.format.specs.Decoding.{decodeMany};
 ghost use Rattle.format.specs.Order.{decodeByte, decodeWord, decodeDword, decodeHash, decodeAddress, decodeRecord, decodeCounted};
-ghost use Rattle.wire.specs.Meaning.{itemsMeaning, ItemsStepPlaced, ItemsStepInside};
-ghost use Rattle.records.specs.Meaning.{addressMeaning, recordMeaning, RecordStepPlaced, addressFault, recordFault};
+ghost use Rattle.wire.specs.WireAnswers.{itemsMeaning, ItemsStepPlaced, ItemsStepInside};
+ghost use Rattle.records.specs.RecordAnswers.{addressMeaning, recordMeaning, RecordStepPlaced, addressFault, recordFault};
 use tags::read_tags;
 use wire::ByteStep;
 use wire::Cursor;

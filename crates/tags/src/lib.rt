@@ -4,7 +4,7 @@
 // text and a hash are places in the lent bytes, and a list is the place of its tags and how many they are. A caller goes
 // through a list by `read_tag` from that place on, which answers with the cursor behind each tag.
 //
-// specs/Meaning.antt says what each answer stands for.
+// specs/TagAnswers.antt says what each answer stands for.
 ghost use mathlib.Core.Path.{_≡_};
 ghost use mathlib.Core.List.{List};
 ghost use mathlib.Core.Logic.{_↔_};
@@ -19,10 +19,10 @@ ghost use Rattle.format.specs.Tables.{lookup, pick};
 ghost use Rattle.format.specs.Decoding.{decodeMany, ends, reply, message};
 ghost use Rattle.format.specs.Order.{decodeDword, decodeType, decodeValue, decodeTag, decodeTags, tagTypes};
 ghost use Rattle.format.specs.MetOrder.{decode};
-ghost use Rattle.wire.specs.Meaning.{itemsMeaning, ItemsStepPlaced, ItemsStepInside};
-ghost use Rattle.tags.specs.Meaning.{typeOf, typeMeaning, valueMeaning, ValueStepInside, tagMeaning, TagStepInside, tagListReply, TagListPlaced};
+ghost use Rattle.wire.specs.WireAnswers.{itemsMeaning, ItemsStepPlaced, ItemsStepInside};
+ghost use Rattle.tags.specs.TagAnswers.{typeOf, typeMeaning, valueMeaning, ValueStepInside, tagMeaning, TagStepInside, tagListReply, TagListPlaced};
 ghost use Rattle.tags.specs.Skips.{EndsThere, placeBehind, valueSize, valueEnds};
-ghost use Rattle.tags.specs.Meaning.{typeFault, valueFault, tagFault};
+ghost use Rattle.tags.specs.TagAnswers.{typeFault, valueFault, tagFault};
 use wire::ByteStep;
 use wire::Cursor;
 use wire::DwordStep;

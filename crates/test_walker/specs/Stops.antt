@@ -1,6 +1,6 @@
 -- How many steps were no tag, after one more.
 use Prim.Native.Nat.{ℕ, _+_}
-use Rattle.walker.specs.declared.WalkStep.{WalkStep}
+use Rattle.tag_walker.specs.declared.WalkStep.{WalkStep}
 
 abbrev pub stopsAfter : WalkStep → ℕ → ℕ
 stopsAfter (WalkStep.Tag t) stops = stops

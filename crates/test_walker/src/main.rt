@@ -5,9 +5,9 @@ ghost use Prim.Native.Nat.{_<_};
 ghost use Rattle.test_walker.specs.Stops.{stopsAfter};
 use tags::Tag;
 use tags::TagValue;
-use walker::WalkStep;
-use walker::new;
-use walker::next;
+use tag_walker::WalkStep;
+use tag_walker::new;
+use tag_walker::next;
 use wire::bytes_at;
 
 fn write(bytes: &[u8]) {

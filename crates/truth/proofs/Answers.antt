@@ -14,7 +14,7 @@ use Rattle.format.specs.MetOrder.{decode}
 use Rattle.format.specs.Truth.{holds, onTags, onQuery, truth}
 use Rattle.format.proofs.Differ.{differ}
 use Rattle.format.proofs.Codec.{never, same-value}
-use Rattle.truth.specs.Meaning.{truths}
+use Rattle.truth.specs.TruthAnswers.{truths}
 
 -- A reply is not both a number and a message.
 no-reply : {A P : Type 0} {n : ℕ} {m : A} → _≡_ {A = Reply A} (refusedWith n) (message m) → P

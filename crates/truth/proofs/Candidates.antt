@@ -19,7 +19,7 @@ use Rattle.format.proofs.Codec.{lookup-code, never, same-place, same-value, Wen
 use Rattle.format.proofs.There.{byte-ends, byte-there, dword-ends, run-was, value-is, word-ends, word-there}
 use Rattle.format.proofs.PartTags.{same-lengths}
 use Rattle.tags.specs.Skips.{valueSize}
-use Rattle.truth.specs.Meaning.{Lies, LooksFor, Passes, isOf, onItem, tagsFrom}
+use Rattle.truth.specs.TruthAnswers.{Lies, LooksFor, Passes, isOf, onItem, tagsFrom}
 use Rattle.truth.specs.declared.Spot.{Spot}
 use Rattle.truth.proofs.Found.{rest-lies, some-step}
 

@@ -8,7 +8,7 @@ use Rattle.format.specs.Decoding.{Outcome, refused, got, andThen, Decoder, pure
 use Rattle.format.specs.Order.{decodeQueryIn}
 use Rattle.format.specs.Truth.{combine, holds}
 use Rattle.query.specs.Nodes.{join, decodeSides}
-use Rattle.truth.specs.Meaning.{truths}
+use Rattle.truth.specs.TruthAnswers.{truths}
 
 module _ (tags : List Tag) (o : Operator) (s : List ℕ) where
   second-side : (q : Query) (b : Outcome Query) →

@@ -9,7 +9,7 @@ use native.Mathlib.Omega.{arith}
 use types.Run.{OneOf}
 use denote.Enum.Declared.{tagOf}
 use Rattle.format.specs.Truth.{onString, onDword}
-use Rattle.tags.specs.Meaning.{valueOf}
+use Rattle.tags.specs.TagAnswers.{valueOf}
 use Rattle.tags.specs.declared.TagValue.{TagValue}
 use Rattle.tags.proofs.TagValue.{the-type}
 

@@ -5,7 +5,7 @@
 // copied: names and texts are compared where they lie in the lent bytes. The work is at most the number of leaves times the bytes
 // of the tag list times the length of the longest text that is looked for.
 //
-// specs/Meaning.antt says what each answer stands for.
+// specs/TruthAnswers.antt says what each answer stands for.
 ghost use mathlib.Core.Path.{_≡_};
 ghost use mathlib.Core.List.{[], _∷_};
 ghost use Prim.Native.Nat.{_+_, _*_};
@@ -15,10 +15,10 @@ ghost use Rattle.format.specs.Order.{decodeTag, decodeQueryIn};
 ghost use Rattle.format.specs.Tables.{same};
 ghost use Rattle.format.specs.Truth as format;
 ghost use Rattle.format.specs.Truth.{some, prefix, occurs, stringTag, dwordTag, within};
-ghost use Rattle.wire.specs.Meaning.{ItemsPlaced};
-ghost use Rattle.tags.specs.Meaning.{tagOf, tagsIn};
-ghost use Rattle.query.specs.Meaning.{operatorOf, boundOf, nodeIn};
-ghost use Rattle.truth.specs.Meaning.{Lies, LooksFor, Passes, isOf, onItem, tagMeets, tagsFrom, truths, truthStepMeaning, truthMeaning, truthFault};
+ghost use Rattle.wire.specs.WireAnswers.{ItemsPlaced};
+ghost use Rattle.tags.specs.TagAnswers.{tagOf, tagsIn};
+ghost use Rattle.query.specs.QueryAnswers.{operatorOf, boundOf, nodeIn};
+ghost use Rattle.truth.specs.TruthAnswers.{Lies, LooksFor, Passes, isOf, onItem, tagMeets, tagsFrom, truths, truthStepMeaning, truthMeaning, truthFault};
 use query::Bound;
 use query::Node;
 use query::NodeStep;

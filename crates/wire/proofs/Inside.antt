@@ -11,7 +11,7 @@ use Rattle.format.specs.Order.{decodeHash}
 use Rattle.format.proofs.Codec.{Codec, anywhere, codec-many}
 use Rattle.format.proofs.There.{run-length, run-was}
 use Rattle.wire.specs.declared.ItemsStep.{ItemsStep}
-use Rattle.wire.specs.Meaning.{HashInside, ItemsStepInside, ItemsStepPlaced, hashAt, itemsMeaning}
+use Rattle.wire.specs.WireAnswers.{HashInside, ItemsStepInside, ItemsStepPlaced, hashAt, itemsMeaning}
 use Rattle.wire.proofs.Replies.{slice-bytes}
 
 -- A hash that was decoded has 16 bytes, and only a place wholly inside has as many.

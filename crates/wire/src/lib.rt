@@ -11,14 +11,14 @@
 //         return PlaceStep::Refused(w.fault());
 //     };
 //
-// specs/Meaning.antt says what each answer stands for; a contract equates that with what the format decodes at the cursor.
+// specs/WireAnswers.antt says what each answer stands for; a contract equates that with what the format decodes at the cursor.
 ghost use mathlib.Core.Path.{_≡_};
 ghost use Prim.Native.Nat.{_+_, _*_};
 ghost use Rattle.format.specs.Decoding as decoding;
 ghost use Rattle.format.specs.Decoding.{bytesAt, decodeRun};
 ghost use Rattle.format.specs.Order.{decodeByte, decodeWord, decodeDword, decodeHash, decodeString, decodeName, decodeFixed};
-ghost use Rattle.wire.specs.Meaning.{ruleMeaning, byteMeaning, wordMeaning, dwordMeaning, hashMeaning, placeMeaning, PlaceStepInside, doneMeaning};
-ghost use Rattle.wire.specs.Meaning.{noFault, byteFault, wordFault, dwordFault, hashFault, placeFault, itemsFault, doneFault};
+ghost use Rattle.wire.specs.WireAnswers.{ruleMeaning, byteMeaning, wordMeaning, dwordMeaning, hashMeaning, placeMeaning, PlaceStepInside, doneMeaning};
+ghost use Rattle.wire.specs.WireAnswers.{noFault, byteFault, wordFault, dwordFault, hashFault, placeFault, itemsFault, doneFault};
 
 // The rules that bytes can break. Where the papers give one number to several rules, they are told apart here.
 pub enum Rule {

@@ -1,14 +1,14 @@
 use Prim.Native.Nat.{ℕ}
 use mathlib.Core.Path.{_≡_, refl}
 use mathlib.Core.List.{List}
-use Rattle.format.specs.Messages.{noBody}
+use Rattle.format.specs.Messages.{nothingBody}
 use Rattle.format.specs.Decoding.{got}
 use Rattle.format.specs.PacketOrder.{decodeBody}
 use borrow.Author.Needs.{needs}
 use Rattle.bodies.proofs.read_body.Statement.{statement}
 use Rattle.bodies.proofs.read_body.Tie as tie
 
-no-body : (s : List ℕ) (at : ℕ) → decodeBody noBody s at ≡ got (noBody, tt) at
+no-body : (s : List ℕ) (at : ℕ) → decodeBody nothingBody s at ≡ got (nothingBody, tt) at
 unfolding decodeBody
 no-body s at = refl
 

@@ -4,7 +4,7 @@ use mathlib.Core.Path.{_≡_, refl}
 use mathlib.Core.List.{_++_}
 use lib.ListN.{length, take, drop, length-set}
 use borrow.Author.Needs.{needs}
-use Rattle.put.proofs.Laws.{copied, copied-all}
+use Rattle.output.proofs.Laws.{copied, copied-all}
 use Rattle.ed2k.proofs.copy_numbers.Statement.{statement}
 use Rattle.ed2k.proofs.copy_numbers.Tie as tie
 

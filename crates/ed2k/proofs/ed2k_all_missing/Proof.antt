@@ -1,7 +1,7 @@
 use denote.Ref.{now}
 use Rattle.format.specs.Writing.{overwritten}
 use Rattle.ed2k.specs.Calls.{numbered}
-use Rattle.marking.specs.Numbers.{numbersOf}
+use Rattle.gap_numbers.specs.Numbers.{numbersOf}
 use borrow.Author.Tests.{le-leb, lt-leb}
 use mathlib.Core.Path.{refl, ap, _∙_}
 use borrow.Author.Needs.{needs}

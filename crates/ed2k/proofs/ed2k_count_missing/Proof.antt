@@ -1,6 +1,6 @@
 use mathlib.Core.Path.{refl, sym, ap, _∙_}
 use Rattle.format.specs.Gaps.{sizeLimit}
-use Rattle.gaps.specs.Records.{lawfulRecord, missingCount}
+use Rattle.gaps.specs.GapRecords.{lawfulRecord, missingCount}
 use borrow.Author.Needs.{needs}
 use Rattle.ed2k.proofs.ed2k_count_missing.Statement.{statement}
 use Rattle.ed2k.proofs.ed2k_count_missing.Tie as tie

@@ -1,6 +1,6 @@
 use mathlib.Core.Path.{ap, _∙_}
 use denote.Ref.{now}
-use Rattle.putting.specs.Meaning.{putRecord}
+use Rattle.put_gaps.specs.PutAnswers.{putRecord}
 use borrow.Author.Needs.{needs}
 use Rattle.ed2k.proofs.ed2k_put_gaps.Statement.{statement}
 use Rattle.ed2k.proofs.ed2k_put_gaps.Tie as tie

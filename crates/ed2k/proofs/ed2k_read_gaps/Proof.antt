@@ -1,7 +1,7 @@
 use mathlib.Core.Path.{refl, ap, _∙_}
 use denote.Ref.{now}
 use borrow.Author.Tests.{le-leb, lt-leb, eq-eqb, ne-eqb}
-use Rattle.ed2k.specs.Gaps.{gapsRead}
+use Rattle.ed2k.specs.GapCalls.{gapsRead}
 use borrow.Author.Needs.{needs}
 use Rattle.ed2k.proofs.ed2k_read_gaps.Statement.{statement}
 use Rattle.ed2k.proofs.ed2k_read_gaps.Tie as tie

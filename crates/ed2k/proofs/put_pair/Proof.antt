@@ -3,7 +3,7 @@ use mathlib.Core.Path.{refl}
 use mathlib.Core.List.{[], _∷_}
 use denote.Ref.{now}
 use borrow.Author.Needs.{needs}
-use Rattle.put.proofs.Laws.{stores}
+use Rattle.output.proofs.Laws.{stores}
 use Rattle.ed2k.proofs.put_pair.Statement.{statement}
 use Rattle.ed2k.proofs.put_pair.Tie as tie
 

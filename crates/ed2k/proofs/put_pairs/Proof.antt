@@ -2,7 +2,7 @@ use Prim.Native.Nat.{_-_}
 use mathlib.Core.Path.{_≡_, sym, _∙_}
 use lib.ListN.{length, length-map, length-drop, length-take}
 use denote.Ref.{now}
-use Rattle.put.proofs.Loops.{written-none}
+use Rattle.output.proofs.Loops.{written-none}
 use Rattle.ed2k.proofs.GapNumbers.{PairsWritten, pairs-all, pair-room, pairs-next}
 use borrow.Author.Needs.{needs}
 use native.Mathlib.Omega.{arith}

@@ -1,8 +1,8 @@
 use mathlib.Core.Path.{refl}
 use mathlib.Core.List.{[], _∷_}
 use denote.Ref.{now}
-use Rattle.put.proofs.Laws.{after}
-use Rattle.marking.specs.Numbers.{pairNumbers}
+use Rattle.output.proofs.Laws.{after}
+use Rattle.gap_numbers.specs.Numbers.{pairNumbers}
 use borrow.Author.Needs.{needs}
 use Rattle.ed2k.proofs.put_record.Statement.{statement}
 use Rattle.ed2k.proofs.put_record.Tie as tie

@@ -6,7 +6,7 @@ use lib.ListN.{length, getD}
 use denote.Ref.{now}
 use borrow.Author.Tests.{le-leb, lt-leb}
 use Rattle.gaps.specs.declared.GapRecord.{GapRecord}
-use Rattle.marking.specs.Numbers.{pairsIn, recordIn}
+use Rattle.gap_numbers.specs.Numbers.{pairsIn, recordIn}
 use Rattle.ed2k.proofs.GapNumbers.{placesIn, length-places, next-place}
 use borrow.Author.Needs.{needs}
 use Rattle.ed2k.proofs.record_in.Statement.{statement}

@@ -1,7 +1,7 @@
 use denote.Ref.{now}
 use Rattle.format.specs.Messages.{knownMet}
-use Rattle.met.specs.Meaning.{knownMetIn}
-use Rattle.metwriting.specs.Files.{knownThere}
+use Rattle.met.specs.MetAnswers.{knownMetIn}
+use Rattle.write_met.specs.MetWrites.{knownThere}
 use Rattle.fields.specs.Fields.{knownNumbers}
 use Rattle.fields.specs.Given.{knownGiven}
 use Rattle.ed2k.specs.Calls.{WritesBack}

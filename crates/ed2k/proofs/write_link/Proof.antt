@@ -1,5 +1,5 @@
 use denote.Ref.{now}
-use Rattle.packetwriting.specs.Packets.{kindOf, packetOf, packetThere}
+use Rattle.write_packets.specs.Packets.{kindOf, packetOf, packetThere}
 use Rattle.fields.specs.Fields.{packetNumbers}
 use Rattle.fields.specs.Given.{packetGiven}
 use Rattle.ed2k.specs.Calls.{WritesBack}

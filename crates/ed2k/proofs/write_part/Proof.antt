@@ -1,8 +1,8 @@
 use denote.Ref.{now}
 use mathlib.Core.Path.{ap, _∙_}
 use Rattle.format.specs.Messages.{partMet}
-use Rattle.met.specs.Meaning.{partMetIn}
-use Rattle.partwriting.specs.Files.{partThere}
+use Rattle.met.specs.MetAnswers.{partMetIn}
+use Rattle.write_part.specs.PartWrites.{partThere}
 use Rattle.fields.specs.Fields.{filled, partNumbers}
 use Rattle.fields.specs.Given.{partGiven, sizeGiven}
 use Rattle.ed2k.specs.Calls.{WritesBack}

@@ -1,7 +1,7 @@
 use denote.Ref.{now}
 use Rattle.format.specs.Messages.{serverMet}
-use Rattle.met.specs.Meaning.{serverMetIn}
-use Rattle.metwriting.specs.Files.{serverThere}
+use Rattle.met.specs.MetAnswers.{serverMetIn}
+use Rattle.write_met.specs.MetWrites.{serverThere}
 use Rattle.fields.specs.Fields.{serverNumbers}
 use Rattle.fields.specs.Given.{serverGiven}
 use Rattle.ed2k.specs.Calls.{WritesBack}

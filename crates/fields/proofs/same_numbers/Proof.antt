@@ -6,7 +6,7 @@ use lib.ListN.{drop}
 use denote.Ref.{now}
 use Rattle.format.specs.Tables.{same}
 use Rattle.format.proofs.PartTags.{same-lengths}
-use Rattle.put.proofs.Laws.{same-next, same-stop, same-done}
+use Rattle.output.proofs.Laws.{same-next, same-stop, same-done}
 use Rattle.fields.proofs.same_numbers.Statement.{statement}
 use Rattle.fields.proofs.same_numbers.Tie as tie
 

@@ -1,7 +1,7 @@
 use mathlib.Core.Path.{ap, _∙_}
 use borrow.Author.Needs.{needs}
 use Rattle.gaps.specs.declared.Pushed.{Pushed}
-use Rattle.gaps.proofs.Steps.{push-first}
+use Rattle.gaps.proofs.MarkingSteps.{push-first}
 use Rattle.gaps.proofs.all_missing.Statement.{statement}
 use Rattle.gaps.proofs.all_missing.Tie as tie
 

@@ -2,8 +2,8 @@ use Rattle.format.specs.Gaps.{sizeLimit}
 use mathlib.Core.Path.{refl, sym, _∙_}
 use borrow.Author.Needs.{needs}
 use borrow.Author.Tests.{not-true, not-false}
-use Rattle.gaps.specs.Records.{missingCount}
-use Rattle.gaps.proofs.Records.{lawful-record-exactly, total-missing}
+use Rattle.gaps.specs.GapRecords.{missingCount}
+use Rattle.gaps.proofs.GapRecords.{lawful-record-exactly, total-missing}
 use Rattle.gaps.proofs.count_missing.Statement.{statement}
 use Rattle.gaps.proofs.count_missing.Tie as tie
 

@@ -7,8 +7,8 @@ use borrow.Author.Needs.{needs}
 use borrow.Author.Tests.{le-leb, lt-leb, not-true, not-false}
 use Rattle.format.specs.Gaps.{ordered, lawful, sizeLimit}
 use Rattle.format.proofs.Gaps.{follows-true}
-use Rattle.gaps.specs.Records.{gapOf, gapsOf, lawfulRecord}
-use Rattle.gaps.proofs.Records.{At, placeAt, next-at, next-ordered, none-left, lawful-by-gaps}
+use Rattle.gaps.specs.GapRecords.{gapOf, gapsOf, lawfulRecord}
+use Rattle.gaps.proofs.GapRecords.{At, placeAt, next-at, next-ordered, none-left, lawful-by-gaps}
 use Rattle.gaps.proofs.is_lawful.Statement.{statement}
 use Rattle.gaps.proofs.is_lawful.Tie as tie
 

@@ -1,7 +1,7 @@
 use mathlib.Core.Path.{refl}
 use borrow.Author.Needs.{needs}
 use borrow.Author.Tests.{lt-ltb, le-ltb}
-use Rattle.gaps.specs.Steps.{pushed}
+use Rattle.gaps.specs.MarkingSteps.{pushed}
 use Rattle.gaps.proofs.push.Statement.{statement}
 use Rattle.gaps.proofs.push.Tie as tie
 

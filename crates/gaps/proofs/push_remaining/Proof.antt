@@ -1,6 +1,6 @@
 use mathlib.Core.Path.{refl}
 use borrow.Author.Needs.{needs}
-use Rattle.gaps.specs.Steps.{pushedRemaining}
+use Rattle.gaps.specs.MarkingSteps.{pushedRemaining}
 use Rattle.gaps.proofs.push_remaining.Statement.{statement}
 use Rattle.gaps.proofs.push_remaining.Tie as tie
 

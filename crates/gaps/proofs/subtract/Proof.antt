@@ -4,7 +4,7 @@ use mathlib.Core.Path.{_≡_, sym, _∙_}
 use lib.ListN.{length, length-map}
 use borrow.Author.Needs.{needs}
 use Rattle.format.specs.Gaps.{subtract}
-use Rattle.gaps.proofs.Steps.{Made, made-more, made-full, made-all}
+use Rattle.gaps.proofs.MarkingSteps.{Made, made-more, made-full, made-all}
 use Rattle.gaps.proofs.subtract.Statement.{statement}
 use Rattle.gaps.proofs.subtract.Tie as tie
 

@@ -6,8 +6,8 @@ use lib.ListN.{length, drop, length-map}
 use borrow.Author.Needs.{needs}
 use Rattle.format.specs.Gaps.{Ordered, total}
 use Rattle.format.proofs.Gaps.{total-fits}
-use Rattle.gaps.specs.Records.{gapsOf}
-use Rattle.gaps.proofs.Records.{At, next-at, next-Ordered, next-total, none-left}
+use Rattle.gaps.specs.GapRecords.{gapsOf}
+use Rattle.gaps.proofs.GapRecords.{At, next-at, next-Ordered, next-total, none-left}
 use Rattle.gaps.proofs.sum_lengths.Statement.{statement}
 use Rattle.gaps.proofs.sum_lengths.Tie as tie
 

@@ -6,7 +6,7 @@ use lib.ListN.{length, drop, length-drop}
 use lib.Seq.{take-all}
 use denote.Ref.{now}
 use Rattle.format.specs.Decoding.{bytesAt}
-use Rattle.wire.specs.Meaning.{Inside}
+use Rattle.wire.specs.WireAnswers.{Inside}
 use borrow.Author.Needs.{needs}
 use Rattle.met.proofs.tail_from.Statement.{statement}
 use Rattle.met.proofs.tail_from.Tie as tie

@@ -2,7 +2,7 @@ use mathlib.Core.Path.{refl}
 use borrow.Author.Needs.{needs}
 use denote.Ref.{now}
 use Rattle.format.specs.PacketOrder.{decodeUdp}
-use Rattle.packets.specs.Meaning.{opcodesOf}
+use Rattle.packets.specs.PacketAnswers.{opcodesOf}
 use Rattle.packets.proofs.Heads.{behind-opcode}
 use Rattle.packets.proofs.Openings.{opening-is}
 use Rattle.packets.proofs.read_udp_head.Statement.{statement}

@@ -55,22 +55,22 @@ use denote.Triple.Spec.{Meets, tripleOf}
 use denote.Triple.Table.{entered, cited}
 use denote.Triple.Walked.{Stays, stay-none-slice, walkOf, goes-none-slice, Walks, ends-at, walked, walk-meets, says}
 use denote.Exit.{yes}
-use Rattle.walker.specs.Walk.{Next}
-use Rattle.walker.specs.declared.TagWalker.{TagWalker}
-use Rattle.walker.specs.declared.WalkStep.{WalkStep}
-use Rattle.walker.proofs.Walks.{tag-moves}
-use Rattle.walker.proofs.TagWalker as T
-use Rattle.walker.proofs.TagWalker.Laws as T′
-use Rattle.walker.proofs.WalkStep as S
-use Rattle.walker.proofs.WalkStep.Laws as S′
-use Rattle.walker.proofs.new as new
-use Rattle.walker.proofs.new.Symbol as new-def
-use Rattle.walker.proofs.new.Symbol.{name as #walker·new}
-use Rattle.walker.proofs.new.Met as new-thm
-use Rattle.walker.proofs.next as next
-use Rattle.walker.proofs.next.Symbol as next-def
-use Rattle.walker.proofs.next.Symbol.{name as #walker·next}
-use Rattle.walker.proofs.next.Met as next-thm
+use Rattle.tag_walker.specs.Walk.{Next}
+use Rattle.tag_walker.specs.declared.TagWalker.{TagWalker}
+use Rattle.tag_walker.specs.declared.WalkStep.{WalkStep}
+use Rattle.tag_walker.proofs.Walks.{tag-moves}
+use Rattle.tag_walker.proofs.TagWalker as T
+use Rattle.tag_walker.proofs.TagWalker.Laws as T′
+use Rattle.tag_walker.proofs.WalkStep as S
+use Rattle.tag_walker.proofs.WalkStep.Laws as S′
+use Rattle.tag_walker.proofs.new as new
+use Rattle.tag_walker.proofs.new.Symbol as new-def
+use Rattle.tag_walker.proofs.new.Symbol.{name as #tag-walker·new}
+use Rattle.tag_walker.proofs.new.Met as new-thm
+use Rattle.tag_walker.proofs.next as next
+use Rattle.tag_walker.proofs.next.Symbol as next-def
+use Rattle.tag_walker.proofs.next.Symbol.{name as #tag-walker·next}
+use Rattle.tag_walker.proofs.next.Met as next-thm
 use Rattle.test_walker.specs.Stops.{stopsAfter}
 use Rattle.test_walker.proofs.show as show
 use Rattle.test_walker.proofs.show.Symbol as show-def
@@ -256,7 +256,7 @@ module _ {M : Type 1} (𝓤 : URA M) (H : Heap 𝓤) (A : Atoms 𝓤) (W : Given
       nothing ! $ move ! (2 ∷ 0 ∷ []) $ fjoin ! $ feqI ! (List Val) (vunit ∷ []) (vunit ∷ []) refl $ move ! (1 ∷ 0 ∷ []) $ join ! $
       nothing ! $ move ! (2 ∷ 0 ∷ []) $ join ! $ join ! $ frame ! $ done !
 
-  module _ (𝓣 : Tables 𝓤 H) (known-next : Triple 𝓤 (𝓣 .C #walker·next) (NextC 𝓤 H A at-mem run)) (known-show : Triple 𝓤 (𝓣 .C #test-walker·show) (ShowC 𝓤 H A at-mem run)) where
+  module _ (𝓣 : Tables 𝓤 H) (known-next : Triple 𝓤 (𝓣 .C #tag-walker·next) (NextC 𝓤 H A at-mem run)) (known-show : Triple 𝓤 (𝓣 .C #test-walker·show) (ShowC 𝓤 H A at-mem run)) where
     module _ (l₀ l₁ l₂ l₃ l₄ l₅ l₆ l₇ : ℕ) where
       -- the types of the list and of the reference to the walker, as the function has them
       abbrev listTy : Ty
@@ -340,7 +340,7 @@ module _ {M : Type 1} (𝓤 : URA M) (H : Heap 𝓤) (A : Atoms 𝓤) (W : Given
       loop-on : (t : Turn) → Sq W (At t) (runs (𝓣 .C) (𝓣 .Λ) En t-4 (atRet En Post))
       loop-on t = first ! $ blocks ! $ loops ! 𝓣 Nearer Nearer-wf At turns t
 
-    walk : Triple 𝓤 (𝓣 .C #walker·new) (NewC 𝓤 H A at-mem run) → Is (ShrSlice (named 0) κ u8) s (v ∷ [])
+    walk : Triple 𝓤 (𝓣 .C #tag-walker·new) (NewC 𝓤 H A at-mem run) → Is (ShrSlice (named 0) κ u8) s (v ∷ [])
         → ent 𝓤 (onEntry 𝓤 H A this.signature (κ, tt) (q, tt) (s, tt) (v ∷ [], tt)) (WpFn 𝓤 H (𝓣 .C) (𝓣 .Λ) code.function (v ∷ []) Post)
     walk known-new p =
         qed W (raw (onEntry 𝓤 H A this.signature (κ, tt) (q, tt) (s, tt) (v ∷ [], tt)) ∷ []) ∵ enter ! (𝓣 .C) (𝓣 .Λ) code.function (v ∷ []) _ $
@@ -363,7 +363,7 @@ module _ {M : Type 1} (𝓤 : URA M) (H : Heap 𝓤) (A : Atoms 𝓤) (W : Given
         loop-on l₀ l₁ l₂ l₃ l₄ l₅ l₆ l₇ (w, (0, omega arith))))))))))))))
 
 module _ {M : Type 1} (𝓤 : URA M) (H : Heap 𝓤) (A : Atoms 𝓤) (W : Given 𝓤 H A) (mem : Memory → SProp 𝓤) (run : Routine → Fun 𝓤) (𝓣 : Tables 𝓤 H)
-    (known-new : Triple 𝓤 (𝓣 .C #walker·new) (NewC 𝓤 H A mem run)) (known-next : Triple 𝓤 (𝓣 .C #walker·next) (NextC 𝓤 H A mem run))
+    (known-new : Triple 𝓤 (𝓣 .C #tag-walker·new) (NewC 𝓤 H A mem run)) (known-next : Triple 𝓤 (𝓣 .C #tag-walker·next) (NextC 𝓤 H A mem run))
     (known-show : Triple 𝓤 (𝓣 .C #test-walker·show) (ShowC 𝓤 H A mem run)) where
   walks : Walks 𝓤 H A this.ended stayed (WpFn 𝓤 H (𝓣 .C) (𝓣 .Λ) code.function) (this.clauses 𝓤 H A mem run)
   walks =
@@ -382,6 +382,6 @@ walk-spec 𝓤 H 𝓜 𝓖 𝓡 =
     entered 𝓤 H (tripleOf 𝓤 H (𝓖 .A) this.signature (this.spec 𝓤 H (𝓖 .A) (𝓜 .mem) (𝓡 .run)))
     (tables 𝓤 H 𝓜 𝓡 code.env .C) (tables 𝓤 H 𝓜 𝓡 code.env .Λ) #test-walker·walk code.function (code.unfolded 𝓤 H 𝓜 𝓡)
     (walk-does 𝓤 H (𝓖 .A) (givenOf 𝓤 H 𝓜 𝓖) (𝓜 .mem) (𝓡 .run) (tablesOf 𝓤 H 𝓜 (tables 𝓤 H 𝓜 𝓡 code.env))
-    (cited 𝓤 H (NewC 𝓤 H (𝓖 .A) (𝓜 .mem) (𝓡 .run)) 𝓜 𝓡 code.env #walker·new new-def.routine code.calls-walker·new (new-thm.met 𝓤 H 𝓜 𝓖 𝓡))
-    (cited 𝓤 H (NextC 𝓤 H (𝓖 .A) (𝓜 .mem) (𝓡 .run)) 𝓜 𝓡 code.env #walker·next next-def.routine code.calls-walker·next (next-thm.met 𝓤 H 𝓜 𝓖 𝓡))
+    (cited 𝓤 H (NewC 𝓤 H (𝓖 .A) (𝓜 .mem) (𝓡 .run)) 𝓜 𝓡 code.env #tag-walker·new new-def.routine code.calls-tag-walker·new (new-thm.met 𝓤 H 𝓜 𝓖 𝓡))
+    (cited 𝓤 H (NextC 𝓤 H (𝓖 .A) (𝓜 .mem) (𝓡 .run)) 𝓜 𝓡 code.env #tag-walker·next next-def.routine code.calls-tag-walker·next (next-thm.met 𝓤 H 𝓜 𝓖 𝓡))
     (cited 𝓤 H (ShowC 𝓤 H (𝓖 .A) (𝓜 .mem) (𝓡 .run)) 𝓜 𝓡 code.env #test-walker·show show-def.routine code.calls-test-walker·show (show-thm.met 𝓤 H 𝓜 𝓖 𝓡)))

@@ -8,7 +8,7 @@ use borrow.Fn.PlainCycle.{Measures, is, falls, and}
 use Rattle.format.specs.Order.{decodeQueryIn}
 use Rattle.format.specs.Truth.{holds}
 use Rattle.query.proofs.Nodes.{query-left}
-use Rattle.truth.specs.Meaning.{tagMeets, truths}
+use Rattle.truth.specs.TruthAnswers.{tagMeets, truths}
 use Rattle.truth.proofs.Joins.{truth-join}
 use Rattle.truth.proofs.evaluate.Reads as evaluate
 use Rattle.truth.proofs.evaluate.Kinds as kinds

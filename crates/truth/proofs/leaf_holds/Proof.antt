@@ -1,7 +1,7 @@
 use mathlib.Core.Path.{refl, sym}
 use denote.Ref.{now}
-use Rattle.tags.specs.Meaning.{tagsIn}
-use Rattle.truth.specs.Meaning.{tagMeets}
+use Rattle.tags.specs.TagAnswers.{tagsIn}
+use Rattle.truth.specs.TruthAnswers.{tagMeets}
 use Rattle.truth.proofs.Candidates.{looks-for-number, looks-for-text}
 use Rattle.truth.proofs.Found.{some-never}
 use borrow.Author.Needs.{needs}

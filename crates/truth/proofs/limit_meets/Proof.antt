@@ -1,5 +1,5 @@
 use mathlib.Core.Path.{refl}
-use Rattle.query.specs.Meaning.{boundOf}
+use Rattle.query.specs.QueryAnswers.{boundOf}
 use Rattle.format.specs.Truth.{dwordTag, within}
 use Rattle.truth.proofs.Values.{no-number}
 use borrow.Author.Needs.{needs}

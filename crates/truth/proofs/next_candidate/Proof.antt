@@ -1,7 +1,7 @@
 use mathlib.Core.Path.{sym, _∙_}
 use borrow.Author.Needs.{needs}
 use Rattle.format.specs.Order.{decodeTag}
-use Rattle.truth.specs.Meaning.{Passes}
+use Rattle.truth.specs.TruthAnswers.{Passes}
 use Rattle.truth.proofs.Candidates.{passes-none, passes-one}
 use Rattle.truth.proofs.Found.{first-lies}
 use Rattle.truth.proofs.next_candidate.Statement.{statement}

@@ -6,8 +6,8 @@ use denote.Ref.{now}
 use Rattle.format.specs.Decoding.{decodeMany, itemsOf}
 use Rattle.format.specs.Order.{decodeTag}
 use Rattle.format.specs.Truth.{some}
-use Rattle.query.specs.Meaning.{nodeIn}
-use Rattle.truth.specs.Meaning.{Lies, tagMeets}
+use Rattle.query.specs.QueryAnswers.{nodeIn}
+use Rattle.truth.specs.TruthAnswers.{Lies, tagMeets}
 use Rattle.truth.proofs.Found.{ended-lies, first-lies, rest-lies, some-here, some-none, some-step}
 use Rattle.truth.proofs.some_tag.Statement.{statement}
 use Rattle.truth.proofs.some_tag.Tie as tie

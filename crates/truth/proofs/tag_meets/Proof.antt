@@ -1,5 +1,5 @@
 use mathlib.Core.Path.{refl}
-use Rattle.truth.specs.Meaning.{tagMeets}
+use Rattle.truth.specs.TruthAnswers.{tagMeets}
 use borrow.Author.Needs.{needs}
 use Rattle.truth.proofs.tag_meets.Statement.{statement}
 use Rattle.truth.proofs.tag_meets.Tie as tie

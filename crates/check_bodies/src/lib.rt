@@ -1,0 +1,395 @@
+// What has to be known of a body before a byte of it is written. Bodies are given as the readers hand them out: numbers, and places
+// in lent bytes. What lies at a place is looked at again, whoever made the body.
+ghost use mathlib.Core.Path.{_≡_};
+ghost use Prim.Native.Nat.{_+_};
+ghost use lib.ListN.{length};
+ghost use Rattle.format.specs.Bits.{packedBytes};
+ghost use Rattle.format.specs.Layout.{encodeAddress, encodeAll, encodeHash, encodeQuery, encodeRecord, encodeString, encodeTag};
+ghost use Rattle.format.specs.Rules.{Byte, Word};
+ghost use Rattle.format.specs.Decoding.{ends};
+ghost use Rattle.format.specs.Order.{decodeAddress, decodeHash, decodeRecord, decodeTag};
+ghost use Rattle.format.specs.PacketOrder.{decodeBits};
+ghost use Rattle.format.specs.Writing.{QueryFits, RecordsFit, StringFits, TagsFit, ValuesFit};
+ghost use Rattle.wire.specs.WireAnswers.{hashAt, itemsIn, placeBytes};
+ghost use Rattle.query.specs.QueryAnswers.{queryIn};
+ghost use Rattle.bodies.specs.BodyAnswers.{bodyIn};
+ghost use Rattle.write_items.specs.There.{bothThere, hashThere, itemsThere, placeThere};
+ghost use Rattle.check_bodies.specs.Extents.{Adds, BothAdd, Extends, NoEnd, behindBytes, behindTooLong, bothExtents, listBound};
+ghost use Rattle.check_bodies.specs.Extents.{Bounded, brokenRule, flagRule, formRule, rangeRule, rangesRule};
+ghost use Rattle.check_bodies.specs.declared.Extent.{Extent};
+ghost use Rattle.check_bodies.specs.Bodies.{BodyChecked, BodyEnds, EndsAt, bodyThere, bytesOf, queryThere};
+use bodies::BitsStep;
+use bodies::Body;
+use bodies::Form;
+use bodies::Triple;
+use query::Query;
+use query::QueryStep;
+use wire::Cursor;
+use wire::DoneStep;
+use wire::HashStep;
+use wire::Items;
+use wire::ItemsStep;
+use wire::Place;
+use wire::PlaceStep;
+
+// What check_body finds: the number of a refusal that comes before the byte ceiling, or 0; the size of the body's bytes; the
+// place behind its list or query; and the number of the rule that its values break, which comes behind the byte ceiling.
+pub struct BodyCheck {
+    pub number: u8,
+    pub size: usize,
+    pub end: usize,
+    pub rule: u8,
+}
+
+// How far a part of a body extends: the number of a place that does not hold what it should; that the part is too long for its
+// count field; or its size and the place behind its list or query.
+enum Extent {
+    Absent(u8),
+    TooLong,
+    Sized(usize, usize),
+}
+
+// n bytes more.
+fn behind_bytes(n: usize, part: Extent) -> Extent
+    requires { ⌜ Adds n part ⌝ }
+    ensures { λ r. ⌜ r ≡ behindBytes n part ⌝ }
+{
+    match part {
+        Extent::Absent(number) => Extent::Absent(number),
+        Extent::TooLong => Extent::TooLong,
+        Extent::Sized(size, end) => Extent::Sized(n + size, end),
+    }
+}
+
+fn behind_too_long(part: Extent) -> Extent
+    ensures { λ r. ⌜ r ≡ behindTooLong part ⌝ }
+{
+    match part {
+        Extent::Absent(number) => Extent::Absent(number),
+        Extent::TooLong => Extent::TooLong,
+        Extent::Sized(_, _) => Extent::TooLong,
+    }
+}
+
+// Two parts, of which only the second may have a list or query.
+fn both(first: Extent, second: Extent) -> Extent
+    requires { ⌜ BothAdd first second ⌝ }
+    ensures { λ r. ⌜ r ≡ bothExtents first second ⌝ }
+{
+    match first {
+        Extent::Absent(number) => Extent::Absent(number),
+        Extent::TooLong => behind_too_long(second),
+        Extent::Sized(size, _) => behind_bytes(size, second),
+    }
+}
+
+fn hash_extent(src: &[u8], at: usize) -> Extent
+    ensures { λ r. ⌜ Extends (hashThere (now (src .entry)) at) (Unit {0}) (length (hashAt (now (src .entry)) at)) NoEnd 16 r ⌝ }
+{
+    let c = Cursor { at };
+    let h = c.hash(src);
+    let HashStep::Got(_, _) = h else {
+        return Extent::Absent(h.fault().number());
+    };
+    Extent::Sized(16, 0)
+}
+
+fn place_extent(src: &[u8], p: Place) -> Extent
+    ensures { λ r. ⌜ Extends (placeThere (now (src .entry)) p) (Unit {0}) (length (placeBytes (now (src .entry)) p)) NoEnd listBound r ⌝ }
+{
+    let c = Cursor { at: p.at };
+    let len = p.len;
+    let x = c.run(src, len);
+    let PlaceStep::Got(_, _) = x else {
+        return Extent::Absent(x.fault().number());
+    };
+    Extent::Sized(len, 0)
+}
+
+fn text_extent(src: &[u8], t: Place) -> Extent
+    ensures { λ r. ⌜ Extends (placeThere (now (src .entry)) t) (StringFits (placeBytes (now (src .entry)) t)) (length (encodeString (placeBytes (now (src .entry)) t))) NoEnd 65537 r ⌝ }
+{
+    let c = Cursor { at: t.at };
+    let len = t.len;
+    let x = c.run(src, len);
+    let PlaceStep::Got(_, _) = x else {
+        return Extent::Absent(x.fault().number());
+    };
+    if 65535 < len {
+        return Extent::TooLong;
+    }
+    Extent::Sized(2 + len, 0)
+}
+
+// The bits of so many parts, which a WORD counts.
+fn bits_extent(src: &[u8], at: usize, parts: usize) -> Extent
+    ensures { λ r. ⌜ Extends (ends (decodeBits parts (now (src .entry)) at)) (Word parts) (packedBytes parts) NoEnd 65537 r ⌝ }
+{
+    let b = bodies::read_bits(src, Cursor { at }, parts);
+    let BitsStep::Got(_, _) = b else {
+        return Extent::Absent(b.fault().number());
+    };
+    if 65535 < parts {
+        return Extent::TooLong;
+    }
+    let size = (parts + 7) / 8;
+    Extent::Sized(size, 0)
+}
+
+// Lists and queries are read again: the end that the body gives is not trusted.
+
+fn query_extent(src: &[u8], q: Query) -> Extent
+    ensures { λ r. ⌜ Extends (queryThere (now (src .entry)) q) (QueryFits (queryIn (now (src .entry)) q))
+        (length (encodeQuery (queryIn (now (src .entry)) q))) (EndsAt (queryThere (now (src .entry)) q)) listBound r ⌝ }
+{
+    let at = q.at;
+    let e = query::read_query(src, Cursor { at });
+    let QueryStep::Got(_, next) = e else {
+        return Extent::Absent(e.fault().number());
+    };
+    let end = next.at;
+    let n = end - at;
+    Extent::Sized(n, end)
+}
+
+// BYTE count, then the addresses.
+fn addresses_extent(src: &[u8], l: Items) -> Extent
+    ensures { λ r. ⌜ Extends (itemsThere decodeAddress (now (src .entry)) l) (Byte (length (itemsIn decodeAddress (now (src .entry)) l)))
+        (1 + length (encodeAll encodeAddress (itemsIn decodeAddress (now (src .entry)) l))) (EndsAt (itemsThere decodeAddress (now (src .entry)) l)) listBound r ⌝ }
+{
+    let at = l.at;
+    let count = l.count;
+    let e = records::addresses_from(src, Cursor { at }, count);
+    let ItemsStep::Got(_, next) = e else {
+        return Extent::Absent(e.fault().number());
+    };
+    if 255 < count {
+        return Extent::TooLong;
+    }
+    let end = next.at;
+    let n = end - at;
+    Extent::Sized(1 + n, end)
+}
+
+// WORD count, then the hashes.
+fn hashes_extent(src: &[u8], l: Items) -> Extent
+    ensures { λ r. ⌜ Extends (itemsThere decodeHash (now (src .entry)) l) (Word (length (itemsIn decodeHash (now (src .entry)) l)))
+        (2 + length (encodeAll encodeHash (itemsIn decodeHash (now (src .entry)) l))) (EndsAt (itemsThere decodeHash (now (src .entry)) l)) listBound r ⌝ }
+{
+    let at = l.at;
+    let count = l.count;
+    let e = records::hashes_from(src, Cursor { at }, count);
+    let ItemsStep::Got(_, next) = e else {
+        return Extent::Absent(e.fault().number());
+    };
+    if 65535 < count {
+        return Extent::TooLong;
+    }
+    let end = next.at;
+    let n = end - at;
+    Extent::Sized(2 + n, end)
+}
+
+// DWORD count, then the tags. Every count fits.
+fn tags_extent(src: &[u8], l: Items) -> Extent
+    ensures { λ r. ⌜ Extends (itemsThere decodeTag (now (src .entry)) l) (TagsFit (itemsIn decodeTag (now (src .entry)) l))
+        (4 + length (encodeAll encodeTag (itemsIn decodeTag (now (src .entry)) l))) (EndsAt (itemsThere decodeTag (now (src .entry)) l)) listBound r ⌝ }
+{
+    let at = l.at;
+    let count = l.count;
+    let e = write_items::tags_end(src, Cursor { at }, count);
+    let DoneStep::Got(next) = e else {
+        return Extent::Absent(e.fault().number());
+    };
+    let end = next.at;
+    let n = end - at;
+    Extent::Sized(4 + n, end)
+}
+
+// DWORD count, then the records.
+fn records_extent(src: &[u8], l: Items) -> Extent
+    ensures { λ r. ⌜ Extends (itemsThere decodeRecord (now (src .entry)) l) (RecordsFit (itemsIn decodeRecord (now (src .entry)) l))
+        (4 + length (encodeAll encodeRecord (itemsIn decodeRecord (now (src .entry)) l))) (EndsAt (itemsThere decodeRecord (now (src .entry)) l)) listBound r ⌝ }
+{
+    let at = l.at;
+    let count = l.count;
+    let e = records::records_from(src, Cursor { at }, count);
+    let ItemsStep::Got(_, next) = e else {
+        return Extent::Absent(e.fault().number());
+    };
+    let end = next.at;
+    let n = end - at;
+    Extent::Sized(4 + n, end)
+}
+
+// The rules that the values of a body can break. What lies at its places was decoded there and keeps the rules.
+
+fn flag_rule(flag: u8) -> u8
+    ensures { λ r. ⌜ r ≡ flagRule flag ⌝ }
+{
+    if flag <= 1 { 0 } else { 5 }
+}
+
+fn range_rule(start: u32, end: u32, size: usize) -> u8
+    ensures { λ r. ⌜ r ≡ rangeRule start end size ⌝ }
+{
+    if end < start {
+        return 8;
+    }
+    let wanted = (end - start) as usize;
+    if size == wanted { 0 } else { 8 }
+}
+
+fn ranges_rule(starts: Triple, ends: Triple) -> u8
+    ensures { λ r. ⌜ r ≡ rangesRule starts ends ⌝ }
+{
+    if ends.first < starts.first {
+        return 8;
+    }
+    if ends.second < starts.second {
+        return 8;
+    }
+    if ends.third < starts.third { 8 } else { 0 }
+}
+
+fn form_rule(form: Form, number: u32) -> u8
+    ensures { λ r. ⌜ r ≡ formRule form number ⌝ }
+{
+    match form {
+        Form::Plain => {
+            if number / 65536 == 0x5AAA {
+                return 5;
+            }
+            0
+        }
+        Form::Extended => {
+            if number / 65536 == 0x5AAA {
+                return 0;
+            }
+            5
+        }
+    }
+}
+
+// The rule that a body of its shape breaks, or 0; most shapes have none. Numbers are bound, used or not, since that they keep to
+// their fields is known where they are.
+fn broken_rule(b: Body) -> u8
+    ensures rule { λ r. ⌜ r ≡ brokenRule b ⌝ }
+    ensures bounded { λ _. ⌜ Bounded b ⌝ }
+{
+    match b {
+        Body::Nothing => 0,
+        Body::Query(_) => 0,
+        Body::Hash(_) => 0,
+        Body::Dword(_n) => 0,
+        Body::TwoDwords(_n, _m) => 0,
+        Body::Text(_) => 0,
+        Body::TwoTexts(_, _) => 0,
+        Body::Address(_a) => 0,
+        Body::Addresses(_) => 0,
+        Body::HashAddresses(_, _) => 0,
+        Body::AddressDword(_a, _n) => 0,
+        Body::HashAddressTags(_, _a, _) => 0,
+        Body::Record(_r) => 0,
+        Body::Records(_) => 0,
+        Body::RecordsFlag(_, flag) => flag_rule(flag),
+        Body::RecordAddress(_r, _a) => 0,
+        Body::Hello(_r, _a) => 0,
+        Body::HashText(_, _) => 0,
+        Body::Hashset(_, _) => 0,
+        Body::SendingPart(p) => range_rule(p.start, p.end, p.data.len),
+        Body::RequestParts(p) => ranges_rule(p.starts, p.ends),
+        Body::FileStatus(_) => 0,
+        Body::StatusRequest(p) => {
+            let form = p.form;
+            form_rule(form, p.number)
+        }
+        Body::Status(_t) => 0,
+        Body::ExtendedStatus(_p) => 0,
+    }
+}
+
+// A hash, six more bytes, and a tag list.
+fn entry_extent(src: &[u8], hash: usize, tags: Items) -> Extent
+    ensures { λ r. ⌜ Extends (bothThere (hashThere (now (src .entry)) hash) (itemsThere decodeTag (now (src .entry)) tags))
+        (Unit {0} × TagsFit (itemsIn decodeTag (now (src .entry)) tags))
+        (6 + (length (hashAt (now (src .entry)) hash) + (4 + length (encodeAll encodeTag (itemsIn decodeTag (now (src .entry)) tags)))))
+        (EndsAt (itemsThere decodeTag (now (src .entry)) tags)) (6 + (16 + listBound)) r ⌝ }
+{
+    let h = hash_extent(src, hash);
+    let t = tags_extent(src, tags);
+    behind_bytes(6, both(h, t))
+}
+
+fn fixed(n: usize) -> Extent
+    ensures { λ r. ⌜ r ≡ Extent.Sized n 0 ⌝ }
+{
+    Extent::Sized(n, 0)
+}
+
+fn body_extent(src: &[u8], b: Body) -> Extent
+    ensures { λ r. ⌜ Extends (bodyThere (now (src .entry)) b) (ValuesFit (bodyIn (now (src .entry)) b .0) (bodyIn (now (src .entry)) b .1))
+        (length (bytesOf (bodyIn (now (src .entry)) b))) (BodyEnds (now (src .entry)) b) (64 + listBound) r ⌝ }
+{
+    match b {
+        Body::Nothing => fixed(0),
+        Body::Query(q) => query_extent(src, q),
+        Body::Hash(h) => hash_extent(src, h),
+        Body::Dword(_) => fixed(4),
+        Body::TwoDwords(_, _) => fixed(8),
+        Body::Text(t) => text_extent(src, t),
+        Body::TwoTexts(t, u) => both(text_extent(src, t), text_extent(src, u)),
+        Body::Address(_) => fixed(6),
+        Body::Addresses(l) => addresses_extent(src, l),
+        Body::HashAddresses(h, l) => both(hash_extent(src, h), addresses_extent(src, l)),
+        Body::AddressDword(_, _) => fixed(10),
+        Body::HashAddressTags(h, _, l) => entry_extent(src, h, l),
+        Body::Record(r) => entry_extent(src, r.hash, r.tags),
+        Body::Records(l) => records_extent(src, l),
+        Body::RecordsFlag(l, _) => behind_bytes(1, records_extent(src, l)),
+        Body::RecordAddress(r, _) => behind_bytes(6, entry_extent(src, r.hash, r.tags)),
+        Body::Hello(r, _) => behind_bytes(7, entry_extent(src, r.hash, r.tags)),
+        Body::HashText(h, t) => both(hash_extent(src, h), text_extent(src, t)),
+        Body::Hashset(h, l) => both(hash_extent(src, h), hashes_extent(src, l)),
+        Body::SendingPart(p) => behind_bytes(
+            8,
+            both(hash_extent(src, p.hash), place_extent(src, p.data)),
+        ),
+        Body::RequestParts(p) => behind_bytes(24, hash_extent(src, p.hash)),
+        Body::FileStatus(p) => behind_bytes(
+            2,
+            both(hash_extent(src, p.hash), bits_extent(src, p.bits, p.parts)),
+        ),
+        Body::StatusRequest(_) => fixed(4),
+        Body::Status(_) => fixed(12),
+        Body::ExtendedStatus(_) => fixed(16),
+    }
+}
+
+// What is found out about a body before it is written: whether its places hold what they should, whether its counts fit, how many
+// bytes it takes, and whether its values keep the rules.
+pub fn check_body(src: &[u8], b: Body) -> BodyCheck
+    ensures { λ r. ⌜ BodyChecked (now (src .entry)) b r ⌝ }
+{
+    let extent = body_extent(src, b);
+    match extent {
+        Extent::Absent(number) => BodyCheck {
+            number,
+            size: 0,
+            end: 0,
+            rule: 0,
+        },
+        Extent::TooLong => BodyCheck {
+            number: 6,
+            size: 0,
+            end: 0,
+            rule: 0,
+        },
+        Extent::Sized(size, end) => BodyCheck {
+            number: 0,
+            size,
+            end,
+            rule: broken_rule(b),
+        },
+    }
+}

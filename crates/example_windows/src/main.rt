@@ -1,0 +1,114 @@
+// Two windows of an editor open one part.met, mark different ranges and save: the first save is accepted, the second is refused
+// as a conflict (11), and the stored bytes are the first's. Each step prints one line.
+use gaps::mark;
+use met::read_gaps;
+use output::same;
+use put_gaps::put_gaps;
+use save::SaveAnswer;
+use save::save;
+use wire::bytes_at;
+
+// A part.met of 100 bytes, all missing.
+const OPENED: [u8; 53] = [
+    0xE0,
+    0x10,
+    0x20,
+    0x30,
+    0x40,
+    0x41,
+    0x42,
+    0x43,
+    0x44,
+    0x45,
+    0x46,
+    0x47,
+    0x48,
+    0x49,
+    0x4A,
+    0x4B,
+    0x4C,
+    0x4D,
+    0x4E,
+    0x4F,
+    0x50,
+    0x00,
+    0x00,
+    0x03,
+    0x00,
+    0x00,
+    0x00,
+    0x03,
+    0x01,
+    0x00,
+    0x02,
+    0x64,
+    0x00,
+    0x00,
+    0x00,
+    0x03,
+    0x02,
+    0x00,
+    0x09,
+    0x30,
+    0x00,
+    0x00,
+    0x00,
+    0x00,
+    0x03,
+    0x02,
+    0x00,
+    0x0A,
+    0x30,
+    0x64,
+    0x00,
+    0x00,
+    0x00,
+];
+
+fn say(words: &[u8], n: u64) {
+    io::write_all(1, words);
+    io::print_decimal(1, n);
+    io::write_all(1, b"\n");
+}
+
+// What a window makes of the opened file when the bytes from start up to end arrive: how many bytes it wants to save.
+fn edit(opened: &[u8], start: u64, end: u64, out: &mut [u8]) -> usize {
+    let read = read_gaps(opened);
+    let given = read.gaps;
+    let m = mark(given, start, end);
+    let after = m.after;
+    say(b"window marks; bytes missing: ", m.missing);
+    let p = put_gaps(opened, after, out);
+    say(b"window puts its gaps; answer: ", p.number as u64);
+    p.length
+}
+
+// Saves the first n bytes of what a window made, over what is stored.
+fn save_window(stored: &[u8], opened: &[u8], made: &[u8], n: usize, out: &mut [u8]) -> SaveAnswer {
+    let new = bytes_at(made, 0, n);
+    let a = save(stored, opened, new, out);
+    say(b"save: answer ", a.number as u64);
+    a
+}
+
+fn show_same(a: &[u8], b: &[u8]) {
+    if same(a, b) {
+        io::write_all(1, b"the stored file is the first window's\n");
+    } else {
+        io::write_all(1, b"the stored file is another\n");
+    }
+}
+
+fn main() {
+    let mut first = [0; 128];
+    let mut second = [0; 128];
+    let mut stored = [0; 128];
+    let mut unused = [0; 128];
+    let n = edit(&OPENED, 0, 40, &mut first);
+    let m = edit(&OPENED, 60, 100, &mut second);
+    let a = save_window(&OPENED, &OPENED, &first, n, &mut stored);
+    let now = bytes_at(&stored, 0, a.length);
+    let b = save_window(now, &OPENED, &second, m, &mut unused);
+    say(b"bytes written by the second save: ", b.length as u64);
+    show_same(now, bytes_at(&first, 0, n));
+}

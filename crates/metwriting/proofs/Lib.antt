@@ -1,5 +1,0 @@
-pub mod Lists
-pub mod Known
-pub mod Servers
-pub mod Entries
-pub mod ReadBack

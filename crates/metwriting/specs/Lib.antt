@@ -1,3 +1,0 @@
-pub mod Files
-pub mod Lengths
-pub mod Entries

@@ -1,0 +1,2 @@
+pub mod PartTagAnswers
+pub mod PartTagSteps

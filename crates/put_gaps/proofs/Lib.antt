@@ -1,0 +1,9 @@
+pub mod Decimals
+pub mod Regapped
+pub mod Pieces
+pub mod PutReadBack
+pub mod RecordBack
+pub mod Kept
+pub mod Pairs
+pub mod Lengths
+pub mod Puts

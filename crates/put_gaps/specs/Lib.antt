@@ -1,0 +1,2 @@
+pub mod PutAnswers
+pub mod Pieces

@@ -1,9 +1,0 @@
-pub mod Decimals
-pub mod Regapped
-pub mod Pieces
-pub mod ReadBack
-pub mod RecordBack
-pub mod Kept
-pub mod Pairs
-pub mod Lengths
-pub mod Puts

@@ -1,0 +1,71 @@
+use mathlib.Core.Path.{refl}
+use borrow.Author.Tests.{le-leb, lt-leb, eq-eqb, ne-eqb}
+use Rattle.format.specs.Rules.{packetCeiling}
+use Rattle.tag_walker.specs.Walk.{walkAt}
+use borrow.Author.Needs.{needs}
+use Rattle.tag_walker.proofs.walk_at.Statement.{statement}
+use Rattle.tag_walker.proofs.walk_at.Tie as tie
+
+walk-from-requires : tie.Need-walk-from-requires
+walk-from-requires c κs = search needs
+
+returns : tie.Need-returns
+unfolding walkAt
+returns c = rw (ne-eqb _ _ (c .before .if1 .taken)) (c .walk-from .ensures)
+
+number-requires : tie.Need-number-requires
+number-requires c κs = search needs
+
+returns-2 : tie.Need-returns-2
+unfolding walkAt
+returns-2 c =
+    rw (c .number .ensures, eq-eqb _ 0 (c .before .before .if1 .left), lt-leb _ packetCeiling (c .before .if2 .taken)) (refl, ((refl, refl), tt))
+
+dword-requires : tie.Need-dword-requires
+dword-requires c κs = search needs
+
+enum-known-d : tie.Need-enum-known-d
+enum-known-d c = search needs
+
+enum-told : tie.Need-enum-told
+enum-told c = search needs
+
+fault-requires : tie.Need-fault-requires
+fault-requires c κs = search needs
+
+number-requires-2 : tie.Need-number-requires-2
+number-requires-2 c κs = search needs
+
+returns-3 : tie.Need-returns-3
+unfolding walkAt
+returns-3 c =
+    let b = c .before .before .before .before in
+    rw (c .number2 .ensures, c .before .fault .ensures, eq-eqb _ 0 (b .before .before .if1 .left), le-leb _ packetCeiling (b .before .if2 .left))
+    (rw (← b .dword .ensures, c .before .before .enum-told .given .1) (refl, ((refl, refl), tt)))
+
+walk-from-requires-2 : tie.Need-walk-from-requires-2
+walk-from-requires-2 c κs = search needs
+
+returns-4 : tie.Need-returns-4
+unfolding walkAt
+returns-4 c =
+    let b = c .before .before .before .before in
+    rw (eq-eqb _ 0 (b .before .before .if1 .left), le-leb _ packetCeiling (b .before .if2 .left), ← b .dword .ensures, c .before .before .d .given .1)
+    (c .walk-from2 .ensures)
+
+pub walk-at-spec : {M : Type 1} → statement M
+walk-at-spec =
+    tie.close
+    (tie.spec
+    walk-from-requires
+    returns
+    number-requires
+    returns-2
+    dword-requires
+    enum-known-d
+    enum-told
+    fault-requires
+    number-requires-2
+    returns-3
+    walk-from-requires-2
+    returns-4)

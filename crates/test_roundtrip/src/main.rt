@@ -1,0 +1,140 @@
+// Writes again each packet and file that is read from two files (the data of the program `vectors`): made inputs of every kind, and what
+// a stock client sent or wrote. Prints for each kind how many were read, and how many of them were written as the same bytes.
+use console::Input;
+use console::next_input;
+use libc::STDOUT_FILENO;
+use write_met::write_known_met;
+use write_met::write_server_met;
+use packets::Link;
+use packets::Packet;
+use write_packets::write_packet;
+use write_part::write_part_met;
+use output::same;
+use read_any::Answer;
+use read_any::Kind;
+use read_any::Message;
+use read_any::read;
+use std::num::wrapping_add_u64;
+use wire::bytes_at;
+use write_items::WriteAnswer;
+
+struct Tally {
+    read: u64,
+    same: u64,
+}
+
+// A packet of a kind that is a link.
+fn write_link(kind: Kind, s: &[u8], p: Packet, out: &mut [u8]) -> WriteAnswer {
+    match kind {
+        Kind::ClientLink => write_packet(s, Link::Client, p, out),
+        Kind::UdpLink => write_packet(s, Link::Udp, p, out),
+        _ => write_packet(s, Link::Server, p, out),
+    }
+}
+
+// What was read from s as a kind.
+fn write_message(kind: Kind, s: &[u8], m: Message, out: &mut [u8]) -> WriteAnswer {
+    match m {
+        Message::Packet(p) => write_link(kind, s, p, out),
+        Message::KnownMet(k) => write_known_met(s, k, out),
+        Message::ServerMet(v) => write_server_met(s, v, out),
+        Message::PartMet(p, _) => write_part_met(s, p, out),
+    }
+}
+
+// Counts the message that is read from the bytes of s, if there is one, and whether it is written as these.
+fn tally_message(t: Tally, kind: Kind, s: &[u8], out: &mut [u8]) -> Tally {
+    let a = read(kind, s);
+    let Answer::Accepted(m) = a else {
+        return t;
+    };
+    let w = write_message(kind, s, m, out);
+    let read = wrapping_add_u64(t.read, 1);
+    let length = w.length;
+    if w.number == 0 && same(bytes_at(out, 0, length), s) {
+        return Tally {
+            read,
+            same: wrapping_add_u64(t.same, 1),
+        };
+    }
+    Tally { read, same: t.same }
+}
+
+// The same for an input that is of the kind, or is not.
+fn tally_input(t: Tally, of_kind: bool, kind: Kind, s: &[u8], out: &mut [u8]) -> Tally {
+    if of_kind {
+        return tally_message(t, kind, s, out);
+    }
+    t
+}
+
+// A loop must end, and nothing says that a file does: it counts its turns down, from a number that no file uses up.
+fn tally_inputs(
+    tally: Tally,
+    fd: i32,
+    letter: u8,
+    kind: Kind,
+    bytes: &mut [u8],
+    out: &mut [u8],
+) -> Tally {
+    let mut t = tally;
+    let mut turns = u64::MAX;
+    while turns > 0 {
+        let i = next_input(fd, bytes);
+        let Input::Of(found, n) = i else {
+            return t;
+        };
+        t = tally_input(t, found == letter, kind, bytes_at(bytes, 0, n), out);
+        turns -= 1;
+    }
+    t
+}
+
+fn tally_file(
+    t: Tally,
+    path: &[u8],
+    letter: u8,
+    kind: Kind,
+    bytes: &mut [u8],
+    out: &mut [u8],
+) -> Tally {
+    let fd = os::open_read(path);
+    if fd < 0 {
+        os::fail(path);
+        return t;
+    }
+    let after = tally_inputs(t, fd, letter, kind, bytes, out);
+    libc::close(fd);
+    after
+}
+
+fn print_kind(name: &[u8], letter: u8, kind: Kind, bytes: &mut [u8], out: &mut [u8]) {
+    let none = Tally { read: 0, same: 0 };
+    let made = tally_file(none, b"vectors.bin", letter, kind, bytes, out);
+    let all = tally_file(made, b"samples.bin", letter, kind, bytes, out);
+    io::write_all(STDOUT_FILENO, name);
+    io::write_all(STDOUT_FILENO, b": ");
+    io::print_decimal(STDOUT_FILENO, all.read);
+    io::write_all(STDOUT_FILENO, b" read, ");
+    io::print_decimal(STDOUT_FILENO, all.same);
+    io::write_all(STDOUT_FILENO, b" written the same\n");
+}
+
+fn print_links(bytes: &mut [u8], out: &mut [u8]) {
+    print_kind(b"server link", b's', Kind::ServerLink, bytes, out);
+    print_kind(b"client link", b'c', Kind::ClientLink, bytes, out);
+    print_kind(b"UDP", b'u', Kind::UdpLink, bytes, out);
+}
+
+fn print_met_files(bytes: &mut [u8], out: &mut [u8]) {
+    print_kind(b"known.met", b'k', Kind::KnownMet, bytes, out);
+    print_kind(b"server.met", b'v', Kind::ServerMet, bytes, out);
+    print_kind(b"part.met", b'p', Kind::PartMet, bytes, out);
+}
+
+fn main() {
+    let mut bytes = [0u8; 65536];
+    let mut out = [0u8; 65536];
+    print_links(&mut bytes, &mut out);
+    print_met_files(&mut bytes, &mut out);
+}

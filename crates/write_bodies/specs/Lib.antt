@@ -1,0 +1,2 @@
+pub mod PutBodies
+pub mod RecordEntries

@@ -1,0 +1,10 @@
+pub mod There
+pub mod Answers
+pub mod Pieces
+pub mod Leaves
+pub mod Joins
+pub mod Copies
+pub mod Item
+pub mod Back
+pub mod LoneReadBack
+pub mod Once

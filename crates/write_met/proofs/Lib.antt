@@ -1,0 +1,5 @@
+pub mod Lists
+pub mod Known
+pub mod Servers
+pub mod MetEntries
+pub mod MetReadBack

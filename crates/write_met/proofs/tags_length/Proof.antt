@@ -1,0 +1,47 @@
+use Prim.Native.Nat.{ℕ}
+use mathlib.Core.Path.{ap, _∙_}
+use native.Mathlib.Omega.{arith}
+use denote.Ref.{now}
+use Rattle.format.specs.Decoding.{got}
+use Rattle.format.proofs.Items.{codec-tag}
+use Rattle.format.proofs.Writing.{tag-needed}
+use Rattle.write_met.proofs.Lists.{end-behind}
+use borrow.Author.Needs.{needs}
+use Rattle.write_met.proofs.tags_length.Statement.{statement}
+use Rattle.write_met.proofs.tags_length.Tie as tie
+
+tags-end-requires : tie.Need-tags-end-requires
+tags-end-requires c κs = search needs
+
+enum-known-e : tie.Need-enum-known-e
+enum-known-e c = search needs
+
+enum-told : tie.Need-enum-told
+enum-told c = search needs
+
+fault-requires : tie.Need-fault-requires
+fault-requires c κs = search needs
+
+returns : tie.Need-returns
+returns c =
+    let told = c .before .enum-told .given .1 in
+    rw (c .fault .ensures, told) (rw told at (c .before .before .before .tags-end .ensures))
+
+sub-t9 : tie.Need-sub-t9
+sub-t9 c =
+    let b4 = c .before .before .before .before in
+    let a = b4 .before .args in
+    end-behind codec-tag tag-needed (now (a .s)) (b4 .shared-slice-known .given) (a .l) (rw (c .before .e .given .1) at (c .before .before .before .tags-end .ensures))
+
+returns-2 : tie.Need-returns-2
+returns-2 c =
+    let b4 = c .before .before .before .before in
+    let a = b4 .before .args in
+    let read = rw (c .before .e .given .1) at (c .before .before .before .tags-end .ensures) in
+    let behind = end-behind codec-tag tag-needed (now (a .s)) (b4 .shared-slice-known .given) (a .l) read in
+    ap (λ (n : ℕ). got tt n) (omega (arith, behind)) ∙ read
+
+pub tags-length-spec : {M : Type 1} → statement M
+tags-length-spec =
+    tie.close
+    (tie.spec tags-end-requires enum-known-e enum-told fault-requires returns sub-t9 returns-2)

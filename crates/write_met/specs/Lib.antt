@@ -1,0 +1,3 @@
+pub mod MetWrites
+pub mod Lengths
+pub mod MetEntries

@@ -1,0 +1,19 @@
+use mathlib.Core.Path.{refl}
+use borrow.Author.Needs.{needs}
+use Rattle.write_part.proofs.one_block.Statement.{statement}
+use Rattle.write_part.proofs.one_block.Tie as tie
+
+enum-known-n : tie.Need-enum-known-n
+enum-known-n c = search needs
+
+enum-known-n-2 : tie.Need-enum-known-n-2
+enum-known-n-2 c = search needs
+
+returns : tie.Need-returns
+returns c = rw (c .before .n .given .1) refl
+
+returns-2 : tie.Need-returns-2
+returns-2 c = rw (c .before .n2 .given .1) refl
+
+pub one-block-spec : {M : Type 1} → statement M
+one-block-spec = tie.close (tie.spec enum-known-n enum-known-n-2 returns returns-2)

@@ -1,0 +1,2 @@
+pub mod PartWrites
+pub mod BlockSteps
