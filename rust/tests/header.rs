@@ -224,9 +224,6 @@ fn the_header_serves_c_plus_plus() {
     compiler
         .args(["-std=c++11", "-Wall", "-Wextra", "-Werror", "-fsyntax-only", "-I"])
         .arg(repository("include"));
-    let Ok(made) = compiler.arg(&source).output() else {
-        println!("skipped: c++ is not here");
-        return;
-    };
+    let made = compiler.arg(&source).output().expect("c++ is needed for this test");
     assert!(made.status.success(), "{}", String::from_utf8_lossy(&made.stderr));
 }

@@ -244,10 +244,11 @@ fn least_limit(input: &[u8]) -> (usize, String) {
 /// may need 64 KiB more, for the library. (They need at most 8 KiB more, which is also how far the system moves the stack by chance.)
 #[test]
 fn reading_program_within_its_limit() {
-    if !reading_program().exists() {
-        println!("skipped: `rt check reading` has not built {}", reading_program().display());
-        return;
-    }
+    assert!(
+        reading_program().exists(),
+        "{} is not there: `rt check reading` makes it, and this test needs it",
+        reading_program().display()
+    );
     let (alone, line) = least_limit(b"");
     assert_eq!(line, "refused 1");
     for (letter, bytes) in reading_inputs() {
