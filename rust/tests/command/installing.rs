@@ -42,11 +42,12 @@ fn done(command: &mut Command) -> Output {
     output
 }
 
-/// Runs a target with the archive that these tests are linked with.
-fn make(target: &str, variables: &[String]) {
+/// `make` in the repository, also where these tests were started by it.
+fn make(words: &[&str], variables: &[String]) -> String {
     let mut make = Command::new("make");
-    make.arg(target).args(variables).current_dir(samples().join("..")).env_remove("MAKEFLAGS");
-    done(&mut make);
+    make.arg("--no-print-directory").args(words).args(variables).current_dir(samples().join(".."));
+    make.env_remove("MAKEFLAGS").env_remove("MAKELEVEL");
+    String::from_utf8(done(&mut make).stdout).expect("what make says")
 }
 
 /// All files below a folder, by their paths there, in order.
@@ -72,7 +73,7 @@ fn make_installs_below_prefix_and_destdir_and_takes_it_away_again() {
     let studio = Studio::new();
     let root = studio.path("a root");
     let variables = ["PREFIX=/opt/ed2k".into(), format!("DESTDIR={}", root.display())];
-    make("install", &variables);
+    make(&["install"], &variables);
     let prefix = root.join("opt/ed2k");
     assert_eq!(files_below(&prefix), INSTALLED.map(|(name, _)| PathBuf::from(name)));
     for (name, mode) in INSTALLED {
@@ -92,7 +93,7 @@ fn make_installs_below_prefix_and_destdir_and_takes_it_away_again() {
     let version = done(Command::new(prefix.join("bin/ed2k")).arg("--version")).stdout;
     let version = String::from_utf8(version).unwrap();
     assert!(flags.contains(&format!("\nVersion: {}", version.trim_start_matches("ed2k "))), "{flags}");
-    make("uninstall", &variables);
+    make(&["uninstall"], &variables);
     assert!(files_below(&root).is_empty());
 }
 
@@ -123,7 +124,7 @@ fn a_c_program_is_made_with_what_is_installed() {
     let studio = Studio::new();
     // A name without a space: compilers' flags are words.
     let prefix = std::env::temp_dir().join(format!("ed2k-installed-{}", std::process::id()));
-    make("install", &[format!("PREFIX={}", prefix.display())]);
+    make(&["install"], &[format!("PREFIX={}", prefix.display())]);
     studio.file("program.c", PROGRAM.as_bytes());
     let mut words = flags(&prefix);
     words.sort();
@@ -147,9 +148,7 @@ fn a_c_program_is_made_with_what_is_installed() {
 /// All that the gate may ask beside `rt ci`, which proves from nothing.
 #[test]
 fn make_test_asks_what_the_gate_asks() {
-    let mut make = Command::new("make");
-    make.args(["-n", "test"]).current_dir(samples().join("..")).env_remove("MAKEFLAGS");
-    let planned = String::from_utf8(done(&mut make).stdout).unwrap();
+    let planned = make(&["-n", "test"], &[]);
     let asked = [
         "rt fmt --check",
         "rt check reading",
