@@ -1,4 +1,4 @@
--- A tag that is decoded ends inside the bytes, behind the place where it begins.
+-- A tag that is decoded ends inside the bytes, after the place where it begins.
 use Prim.Native.Nat.{ℕ, _<_, _≤_}
 use mathlib.Core.Path.{_≡_}
 use mathlib.Core.List.{List}

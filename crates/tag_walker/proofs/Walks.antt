@@ -54,7 +54,7 @@ told-cons s t (got l p) h = go (eqb p (length s)) h
     go false (refuses e) = refuses e
 
 module _ (s : List ℕ) where
-  -- Behind the beginning a step depends on the place and what is left.
+  -- After the beginning a step depends on the place and what is left.
   behind : (at left : ℕ) → 0 < at → walkAt s at left ≡ walkFrom s at left
   unfolding walkAt
   behind at left h = rw (ne-eqb at 0 (λ e. omega arith)) refl
@@ -156,7 +156,7 @@ told-stops (accepts e) = tt
 told-stops (refuses e) = tt
 
 module _ {s : List ℕ} where
-  -- Behind one tag two walks go on from one place.
+  -- After one tag two walks go on from one place.
   same-place : {last : Walk} {t u : messages.Tag} {at left next more : ℕ} {l : List messages.Tag} →
       tag t at left ≡ tag u next more → Walks s last at left l → Walks s last next more l
   same-place {last} {at = at} {left} {next} {more} {l} e w =
@@ -264,7 +264,7 @@ calls-tell next keeps tags =
       comes = found next keeps tags (x .comes .0) (x .comes .1);
     }
 
--- The step at a place that is behind the count, or is not.
+-- The step at a place that is after the count, or is not.
 from-moves : (s : List ℕ) (at left : ℕ) {t : messages.Tag} {next more : ℕ} → walkFrom s at left ≡ tag t next more → (at < next) × (next ≤ length s)
 unfolding walkFrom
 from-moves s at left {t} {next} {more} e = go (eqb left 0) e

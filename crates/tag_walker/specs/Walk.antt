@@ -16,7 +16,7 @@ use Rattle.tag_walker.specs.declared.WalkStep.{WalkStep}
 use Rattle.tag_walker.specs.declared.TagWalker.{TagWalker}
 use Rattle.tag_walker.specs.declared.Moved.{Moved}
 
--- What stands at a place: a tag, with the place behind it and how many tags are left there.
+-- What stands at a place: a tag, with the offset after it and how many tags are left there.
 pub data Walk : Type 0 where
   tag : Tag → (next left : ℕ) → Walk
   end : Walk
@@ -26,7 +26,7 @@ abbrev pub walkOf : Outcome Tag → (left : ℕ) → Walk
 walkOf (refused f) left = refusal (number (f .rule))
 walkOf (got t next) left = tag t next left
 
--- Behind the count: a tag while some are left, then 7 or the end.
+-- After the count: a tag while some are left, then 7 or the end.
 unfoldable pub walkFrom : List ℕ → (at left : ℕ) → Walk
 walkFrom s at left =
     pick (eqb left 0)
@@ -56,6 +56,10 @@ StepInside s (WalkStep.Tag t) = TagInside s t
 StepInside s WalkStep.End = Unit {0}
 StepInside s (WalkStep.Refused n) = Unit {0}
 
+-- A step and the place afterwards, as code hands them on.
+abbrev pub moved : WalkStep → (at left : ℕ) → Moved
+moved step at left = record { step = step; at = at; left = left }
+
 -- At the end and at a refusal the walker stays at its place.
 abbrev pub Stays : WalkStep → (at left atAfter leftAfter : ℕ) → Type 0
 Stays (WalkStep.Tag t) at left atAfter leftAfter = Unit {0}
@@ -75,4 +79,4 @@ begun tags = record { tags = tags; at = 0; left = 0 }
 abbrev pub Next : TagWalker → WalkStep → TagWalker → Type 0
 Next w step after =
     (after .tags ≡ w .tags) ×
-    Walked (now (w .tags)) (walkAt (now (w .tags)) (w .at) (w .left)) (w .at) (w .left) (record { step = step; at = after .at; left = after .left })
+    Walked (now (w .tags)) (walkAt (now (w .tags)) (w .at) (w .left)) (w .at) (w .left) (moved step (after .at) (after .left))

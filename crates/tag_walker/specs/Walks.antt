@@ -15,7 +15,7 @@ use Rattle.tag_walker.specs.declared.TagWalker.{TagWalker}
 use Rattle.tag_walker.specs.declared.WalkStep.{WalkStep}
 use Rattle.tag_walker.specs.Walk.{Walk, tag, end, refusal, walkAt, begun, Next}
 
--- A walk from a place on: these tags, each at the place behind the one before, and then the last step.
+-- A walk from a place on: these tags, each at the offset after the one before, and then the last step.
 pub data Walks (s : List ℕ) (last : Walk) : (at left : ℕ) → List messages.Tag → Type 0 where
   stops : {at left : ℕ} → walkAt s at left ≡ last → Walks s last at left []
   goes : {at left next more : ℕ} {t : messages.Tag} {l : List messages.Tag} →

@@ -1,6 +1,6 @@
 // The tag walker: it holds a lent tag list and a place in it, and gives tag after tag.
 //
-// A walker is made of the bytes of a tag list with its count. `next` gives the tag at its place and moves it behind that tag; or it says that
+// A walker is made of the bytes of a tag list with its count. `next` gives the tag at its place and moves it after that tag; or it says that
 // there are no more, or gives the number of a refusal:
 //
 //     let mut w = tag_walker::new(tags);
@@ -13,10 +13,9 @@
 //     }
 //
 // At the end and at a refusal the walker stays at its place, and the next call gives the same again. A walk from `new` gives the tags that
-// `tags::read_tag_list` accepts, and then the end; or it comes to the number with which that refuses the bytes (specs/Walk.antt).
-ghost use denote.Ref.{now};
-ghost use Rattle.tag_walker.specs.Walk.{walkFrom, walkAt, Walked, begun, Next};
+// `tags::read_tag_list` accepts, and then the end; or it comes to the number with which that refuses the bytes (specs/Walks.antt).
 ghost use mathlib.Core.Path.{_≡_};
+ghost use Rattle.tag_walker.specs.Walk.{walkFrom, walkAt, moved, Walked, begun, Next};
 use tags::Tag;
 use tags::TagStep;
 use tags::read_tag;
@@ -46,36 +45,33 @@ struct Moved {
     left: u32,
 }
 
+// A step that is no tag leaves the walker at its place.
+fn stay(step: WalkStep, at: usize, left: u32) -> Moved
+    ensures { λ r. ⌜ r ≡ moved step at left ⌝ }
+{
+    Moved { step, at, left }
+}
+
 // The step of a walker whose next tag is at `from`, the first of `count`. It stands at `at`, with `left`, and stays there if it gets no tag.
 fn walk_from(s: &[u8], from: usize, count: u32, at: usize, left: u32) -> Moved
     ensures { λ r. ⌜ Walked (now (s .entry)) (walkFrom (now (s .entry)) from count) at left r ⌝ }
 {
     if count == 0 {
         if from < s.len() {
-            return Moved {
-                step: WalkStep::Refused(number(Rule::Rest)),
-                at,
-                left,
-            };
+            return stay(WalkStep::Refused(number(Rule::Rest)), at, left);
         }
-        return Moved {
-            step: WalkStep::End,
-            at,
-            left,
-        };
+        return stay(WalkStep::End, at, left);
     }
     let t = read_tag(s, Cursor { at: from });
     let TagStep::Got(tag, next) = t else {
-        return Moved {
-            step: WalkStep::Refused(t.fault().number()),
-            at,
-            left,
-        };
+        return stay(WalkStep::Refused(t.fault().number()), at, left);
     };
+    let behind = next.at;
+    let more = count - 1;
     Moved {
         step: WalkStep::Tag(tag),
-        at: next.at,
-        left: count - 1,
+        at: behind,
+        left: more,
     }
 }
 
@@ -87,19 +83,11 @@ fn walk_at(s: &[u8], at: usize, left: u32) -> Moved
         return walk_from(s, at, left, at, left);
     }
     if 65536 < s.len() {
-        return Moved {
-            step: WalkStep::Refused(number(Rule::BytesCeiling)),
-            at,
-            left,
-        };
+        return stay(WalkStep::Refused(number(Rule::BytesCeiling)), at, left);
     }
     let d = Cursor { at: 0 }.dword(s);
     let DwordStep::Got(count, first) = d else {
-        return Moved {
-            step: WalkStep::Refused(d.fault().number()),
-            at,
-            left,
-        };
+        return stay(WalkStep::Refused(d.fault().number()), at, left);
     };
     walk_from(s, first.at, count, at, left)
 }
@@ -115,7 +103,7 @@ pub fn new<'a>(tags: &'a [u8]) -> TagWalker<'a>
     }
 }
 
-// The tag at the walker's place, or the end, or a refusal; a tag moves the walker behind it.
+// The tag at the walker's place, or the end, or a refusal; a tag moves the walker after it.
 pub fn next(w: &mut TagWalker) -> WalkStep
     ensures { λ r. ⌜ Next (now (w .entry)) r (now (w .exit)) ⌝ }
 {

@@ -418,16 +418,20 @@ fn show_query(bytes: &[u8]) {
     }
 }
 
-// Marks a range, and prints the number of the answer, how many gaps are left and how many bytes are missing.
-fn show_mark(g: GapRecord, start: u64, end: u64) -> GapRecord {
-    let m = mark(g, start, end);
-    let after = m.after;
-    io::write_all(1, b"mark ");
+fn show_answer(words: &[u8], start: u64, end: u64, number: u8) {
+    io::write_all(1, words);
     io::print_decimal(1, start);
     io::write_all(1, b" to ");
     io::print_decimal(1, end);
     io::write_all(1, b": answer ");
-    io::print_decimal(1, m.number as u64);
+    io::print_decimal(1, number as u64);
+}
+
+// Marks a range, and prints the number of the answer, how many gaps are left and how many bytes are missing.
+fn show_mark(g: GapRecord, start: u64, end: u64) -> GapRecord {
+    let m = mark(g, start, end);
+    let after = m.after;
+    show_answer(b"mark ", start, end, m.number);
     io::write_all(1, b", gaps ");
     io::print_decimal(1, after.count as u64);
     say(b", missing ", m.missing);
@@ -443,13 +447,8 @@ fn show_gap(g: GapRecord, i: usize) {
     }
 }
 
-fn show_answer(answer: MarkAnswer, start: u64, end: u64) {
-    io::write_all(1, b"mark in place ");
-    io::print_decimal(1, start);
-    io::write_all(1, b" to ");
-    io::print_decimal(1, end);
-    io::write_all(1, b": answer ");
-    io::print_decimal(1, answer.number as u64);
+fn show_in_place(answer: MarkAnswer, start: u64, end: u64) {
+    show_answer(b"mark in place ", start, end, answer.number);
     say(b", missing ", answer.missing);
 }
 
@@ -458,7 +457,7 @@ fn mark_lent(mut g: GapRecord, start: u64, end: u64) -> GapRecord
     ensures { λ r. ⌜ r ≡ marked sizeLimit g start end .after ⌝ }
 {
     let answer = mark_in_place(&mut g, start, end);
-    show_answer(answer, start, end);
+    show_in_place(answer, start, end);
     g
 }
 
@@ -512,7 +511,7 @@ fn many_gaps() -> GapRecord {
 }
 
 // The marking in place: a refusal leaves the record equal.
-fn show_in_place() {
+fn show_lent() {
     let halves = mark_lent(all_missing(100), 40, 60);
     show_gap(halves, 0);
     show_gap(halves, 1);
@@ -551,5 +550,5 @@ fn main() {
     let first = show_mark(beyond, 0, 50);
     show_gap(first, 0);
     show_mark(first, 0, 100);
-    show_in_place();
+    show_lent();
 }

@@ -3,11 +3,11 @@
 ghost use mathlib.Core.Path.{_≡_};
 ghost use Prim.Native.Nat.{_<_};
 ghost use Rattle.test_walker.specs.Stops.{stopsAfter};
-use tags::Tag;
-use tags::TagValue;
 use tag_walker::WalkStep;
 use tag_walker::new;
 use tag_walker::next;
+use tags::Tag;
+use tags::TagValue;
 use wire::bytes_at;
 
 fn write(bytes: &[u8]) {
@@ -79,6 +79,7 @@ fn show(list: &[u8], step: WalkStep, stops: u8) -> u8
     }
 }
 
+// Asks a walker until it has twice given no tag.
 fn walk(list: &[u8]) {
     let mut w = new(list);
     let mut stops = 0;

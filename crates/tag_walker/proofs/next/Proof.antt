@@ -1,5 +1,5 @@
 -- `tag_walker::next` meets its contract: a walk of its MIR, by hand, since the borrow checker covers no reference to a struct. The borrow is opened,
--- `walk_at` is called on the slice and the numbers, the numbers that it hands back are stored beside the slice, and the borrow is closed at the walker with them.
+-- `walk_at` is called on the slice and the numbers, the numbers that it returns are stored beside the slice, and the borrow is closed at the walker with them.
 -- All that the walk knows of `walk_at` is that it meets its contract. Assumes nothing.
 use mathlib.Core.Path.{_≡_, refl, ap}
 use Prim.Native.Nat.{ℕ, _<_, _^_}

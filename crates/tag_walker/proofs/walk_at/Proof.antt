@@ -16,10 +16,14 @@ returns c = rw (ne-eqb _ _ (c .before .if1 .taken)) (c .walk-from .ensures)
 number-requires : tie.Need-number-requires
 number-requires c κs = search needs
 
+stay-requires : tie.Need-stay-requires
+stay-requires c κs = search needs
+
 returns-2 : tie.Need-returns-2
 unfolding walkAt
 returns-2 c =
-    rw (c .number .ensures, eq-eqb _ 0 (c .before .before .if1 .left), lt-leb _ packetCeiling (c .before .if2 .taken)) (refl, ((refl, refl), tt))
+    let b = c .before .before in
+    rw (c .stay .ensures, c .before .number .ensures, eq-eqb _ 0 (b .before .if1 .left), lt-leb _ packetCeiling (b .if2 .taken)) (refl, ((refl, refl), tt))
 
 dword-requires : tie.Need-dword-requires
 dword-requires c κs = search needs
@@ -36,12 +40,16 @@ fault-requires c κs = search needs
 number-requires-2 : tie.Need-number-requires-2
 number-requires-2 c κs = search needs
 
+stay-requires-2 : tie.Need-stay-requires-2
+stay-requires-2 c κs = search needs
+
 returns-3 : tie.Need-returns-3
 unfolding walkAt
 returns-3 c =
-    let b = c .before .before .before .before in
-    rw (c .number2 .ensures, c .before .fault .ensures, eq-eqb _ 0 (b .before .before .if1 .left), le-leb _ packetCeiling (b .before .if2 .left))
-    (rw (← b .dword .ensures, c .before .before .enum-told .given .1) (refl, ((refl, refl), tt)))
+    let f = c .before .before in
+    let b = f .before .before .before in
+    rw (c .stay2 .ensures, c .before .number2 .ensures, f .fault .ensures, eq-eqb _ 0 (b .before .before .if1 .left), le-leb _ packetCeiling (b .before .if2 .left))
+    (rw (← b .dword .ensures, f .before .enum-told .given .1) (refl, ((refl, refl), tt)))
 
 walk-from-requires-2 : tie.Need-walk-from-requires-2
 walk-from-requires-2 c κs = search needs
@@ -60,12 +68,14 @@ walk-at-spec =
     walk-from-requires
     returns
     number-requires
+    stay-requires
     returns-2
     dword-requires
     enum-known-d
     enum-told
     fault-requires
     number-requires-2
+    stay-requires-2
     returns-3
     walk-from-requires-2
     returns-4)

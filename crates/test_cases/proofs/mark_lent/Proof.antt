@@ -1,6 +1,6 @@
 -- `test_cases::mark_lent` meets its contract: a walk of its MIR, by hand, since the borrow checker covers no reference to a struct. The record's local is lent to
 -- `mark_in_place` for a lifetime that is made for the call, and comes back as the call left it.
--- All that the walk knows of `mark_in_place` and of `show_answer` is that each meets its contract. Assumes nothing.
+-- All that the walk knows of `mark_in_place` and of `show_in_place` is that each meets its contract. Assumes nothing.
 use mathlib.Core.Path.{_≡_, refl}
 use Prim.Native.Nat.{ℕ, _<_, _^_}
 use mathlib.Core.List.{List, [], _∷_}
@@ -53,10 +53,10 @@ use Rattle.gaps.proofs.mark_in_place as mark
 use Rattle.gaps.proofs.mark_in_place.Symbol as mark-def
 use Rattle.gaps.proofs.mark_in_place.Symbol.{name as #gaps·mark-in-place}
 use Rattle.gaps.proofs.mark_in_place.Met as mark-thm
-use Rattle.test_cases.proofs.show_answer as tell
-use Rattle.test_cases.proofs.show_answer.Symbol as tell-def
-use Rattle.test_cases.proofs.show_answer.Symbol.{name as #test-cases·show-answer}
-use Rattle.test_cases.proofs.show_answer.Met as tell-thm
+use Rattle.test_cases.proofs.show_in_place as tell
+use Rattle.test_cases.proofs.show_in_place.Symbol as tell-def
+use Rattle.test_cases.proofs.show_in_place.Symbol.{name as #test-cases·show-in-place}
+use Rattle.test_cases.proofs.show_in_place.Met as tell-thm
 use Rattle.test_cases.proofs.mark_lent.Key.{name as #test-cases·mark-lent}
 use Rattle.test_cases.proofs.mark_lent as this
 use Rattle.test_cases.proofs.mark_lent.Statement as stated
@@ -145,7 +145,7 @@ module _ {M : Type 1} (𝓤 : URA M) (H : Heap 𝓤) (A : Atoms 𝓤) (W : Given
   abbrev Fact : MarkAnswer → GapRecord → Type 0
   Fact a h = (a ≡ answerOf (marked sizeLimit g s e)) × (h ≡ marked sizeLimit g s e .after)
 
-  -- the call of `show_answer`, at the answer a with the machine value u
+  -- the call of `show_in_place`, at the answer a with the machine value u
   abbrev to-tell : MarkAnswer → Val → TellC 𝓤 H A at-mem run .Ghost
   to-tell a u = ((tt, tt, tt, (a, (s, (e, tt))), (u ∷ [], (vint w64 s ∷ [], (vint w64 e ∷ [], tt)))), tt)
 
@@ -161,7 +161,7 @@ module _ {M : Type 1} (𝓤 : URA M) (H : Heap 𝓤) (A : Atoms 𝓤) (W : Given
       use0 W (‵ numbers) fit $ owned ! T.the-row (Is T.the-row) (LL.makes T.the-type T′.the-plain 𝓤 H A) g _ g-is $ fjoin ! $ nothing ! $ frame ! $ frame ! $ done !
 
   module _ (C : Calls 𝓤 H) (Λ : Loops 𝓤 H) (fm : FmC 𝓤 H (W .laws) C)
-      (known-mark : Triple 𝓤 (C #gaps·mark-in-place) (MarkC 𝓤 H A at-mem run)) (known-tell : Triple 𝓤 (C #test-cases·show-answer) (TellC 𝓤 H A at-mem run)) where
+      (known-mark : Triple 𝓤 (C #gaps·mark-in-place) (MarkC 𝓤 H A at-mem run)) (known-tell : Triple 𝓤 (C #test-cases·show-in-place) (TellC 𝓤 H A at-mem run)) where
     walk : ent 𝓤 (onEntry 𝓤 H A this.signature tt tt (g, (s, (e, tt))) at) (WpFn 𝓤 H C Λ code.function (only (vals g) ∷ vint w64 s ∷ vint w64 e ∷ []) Post)
     walk =
         qed W (raw (onEntry 𝓤 H A this.signature tt tt (g, (s, (e, tt))) at) ∷ []) ∵ drop ! $ enter ! C Λ code.function (only (vals g) ∷ vint w64 s ∷ vint w64 e ∷ []) _ $
@@ -204,7 +204,7 @@ module _ {M : Type 1} (𝓤 : URA M) (H : Heap 𝓤) (A : Atoms 𝓤) (W : Given
 
 module _ {M : Type 1} (𝓤 : URA M) (H : Heap 𝓤) (A : Atoms 𝓤) (W : Given 𝓤 H A) (mem : Memory → SProp 𝓤) (run : Routine → Fun 𝓤) where
   walks : (C : Calls 𝓤 H) (Λ : Loops 𝓤 H) → FmC 𝓤 H (W .laws) C
-      → Triple 𝓤 (C #gaps·mark-in-place) (MarkC 𝓤 H A mem run) → Triple 𝓤 (C #test-cases·show-answer) (TellC 𝓤 H A mem run)
+      → Triple 𝓤 (C #gaps·mark-in-place) (MarkC 𝓤 H A mem run) → Triple 𝓤 (C #test-cases·show-in-place) (TellC 𝓤 H A mem run)
       → Walks 𝓤 H A this.ended stayed (WpFn 𝓤 H C Λ code.function) (this.clauses 𝓤 H A mem run)
   walks C Λ fm known-mark known-tell =
       walked 𝓤 H A this.ended stayed (this.clauses 𝓤 H A mem run) (WpFn 𝓤 H C Λ code.function)
@@ -213,7 +213,7 @@ module _ {M : Type 1} (𝓤 : URA M) (H : Heap 𝓤) (A : Atoms 𝓤) (W : Given
       (λ κs qs bounds a g are. via 𝓤 _ (fst∗ 𝓤 _ (emp 𝓤))
       (walk 𝓤 H A W mem run (a .0) (are .0) (a .1 .0) (a .1 .1 .0) (are .1 .0 .1) (are .1 .1 .0 .1) C Λ fm known-mark known-tell))
 
-  mark-lent-meets : (𝓣 : Tables 𝓤 H) → Triple 𝓤 (𝓣 .C #gaps·mark-in-place) (MarkC 𝓤 H A mem run) → Triple 𝓤 (𝓣 .C #test-cases·show-answer) (TellC 𝓤 H A mem run)
+  mark-lent-meets : (𝓣 : Tables 𝓤 H) → Triple 𝓤 (𝓣 .C #gaps·mark-in-place) (MarkC 𝓤 H A mem run) → Triple 𝓤 (𝓣 .C #test-cases·show-in-place) (TellC 𝓤 H A mem run)
       → Meets 𝓤 H A this.signature (WpFn 𝓤 H (𝓣 .C) (𝓣 .Λ) code.function) (this.spec 𝓤 H A mem run)
   mark-lent-meets 𝓣 known-mark known-tell =
       walk-meets 𝓤 H A this.ended stayed W (
@@ -233,4 +233,4 @@ mark-lent-spec 𝓤 H 𝓜 𝓖 𝓡 =
     (tables 𝓤 H 𝓜 𝓡 code.env .C) (tables 𝓤 H 𝓜 𝓡 code.env .Λ) #test-cases·mark-lent code.function (code.unfolded 𝓤 H 𝓜 𝓡)
     (mark-lent-meets 𝓤 H (𝓖 .A) (givenOf 𝓤 H 𝓜 𝓖) (𝓜 .mem) (𝓡 .run) (tablesOf 𝓤 H 𝓜 (tables 𝓤 H 𝓜 𝓡 code.env))
     (cited 𝓤 H (MarkC 𝓤 H (𝓖 .A) (𝓜 .mem) (𝓡 .run)) 𝓜 𝓡 code.env #gaps·mark-in-place mark-def.routine code.calls-gaps·mark-in-place (mark-thm.met 𝓤 H 𝓜 𝓖 𝓡))
-    (cited 𝓤 H (TellC 𝓤 H (𝓖 .A) (𝓜 .mem) (𝓡 .run)) 𝓜 𝓡 code.env #test-cases·show-answer tell-def.routine code.calls-test-cases·show-answer (tell-thm.met 𝓤 H 𝓜 𝓖 𝓡)))
+    (cited 𝓤 H (TellC 𝓤 H (𝓖 .A) (𝓜 .mem) (𝓡 .run)) 𝓜 𝓡 code.env #test-cases·show-in-place tell-def.routine code.calls-test-cases·show-in-place (tell-thm.met 𝓤 H 𝓜 𝓖 𝓡)))

@@ -100,13 +100,13 @@ Nearer u t = ahead (u .0) (u .1 .0) < ahead (t .0) (t .1 .0)
 Nearer-wf : WellFounded Nearer
 Nearer-wf = InvImage·wf (λ (t : Turn). ahead (t .0) (t .1 .0)) (Nat·lt-wfRel .wf)
 
+lengths : (w after : TagWalker) → after .tags ≡ w .tags → length (now (after .tags)) ≡ length (now (w .tags))
+lengths w after e = ap (λ (x : RefT (List ℕ)). length (now x)) e
+
 nearer : (w after : TagWalker) (r : WalkStep) (n : ℕ) → n < 2 → Next w r after → (stopsAfter r n ≤ 2) × (ahead after (stopsAfter r n) < ahead w n)
-nearer w after (WalkStep.Tag t) n less p =
-    let m = tag-moves w t after p in
-    let l = ap (λ (x : RefT (List ℕ)). length (now x)) (p .0) in
-    omega (arith, m .0, m .1, l)
-nearer w after WalkStep.End n less p = let l = ap (λ (x : RefT (List ℕ)). length (now x)) (p .0) in omega (arith, p .1 .1 .0 .0, l)
-nearer w after (WalkStep.Refused k) n less p = let l = ap (λ (x : RefT (List ℕ)). length (now x)) (p .0) in omega (arith, p .1 .1 .0 .0, l)
+nearer w after (WalkStep.Tag t) n less p = let m = tag-moves w t after p in omega (arith, m .0, m .1, lengths w after (p .0))
+nearer w after WalkStep.End n less p = omega (arith, p .1 .1 .0 .0, lengths w after (p .0))
+nearer w after (WalkStep.Refused k) n less p = omega (arith, p .1 .1 .0 .0, lengths w after (p .0))
 
 -- ---- the walk
 
@@ -127,8 +127,8 @@ module _ {M : Type 1} (𝓤 : URA M) (H : Heap 𝓤) (A : Atoms 𝓤) (W : Given
   abbrev v : Val
   v = sliceVal (s .ptr) (length (s .now))
 
-  abbrev List· : Fml
-  List· = ShrSlice (named 0) κ u8 .own s (v ∷ [])
+  abbrev OwnList : Fml
+  OwnList = ShrSlice (named 0) κ u8 .own s (v ∷ [])
 
   -- the walker's type at the list's lifetime, what a walker owns, and its cell in a local, where the lifetime has no name
   abbrev R : RattleType
@@ -222,10 +222,10 @@ module _ {M : Type 1} (𝓤 : URA M) (H : Heap 𝓤) (A : Atoms 𝓤) (W : Given
   abbrev to-new : NewC 𝓤 H A at-mem run .Ghost
   to-new = (((κ, tt), (q, tt), tt, (s, tt), (v ∷ [], tt)), tt)
 
-  asks-new : ent 𝓤 (onEntry 𝓤 H A this.signature (κ, tt) (q, tt) (s, tt) (v ∷ [], tt)) (sep 𝓤 (NewC 𝓤 H A at-mem run .pre to-new) (sem 𝓤 H A List·))
+  asks-new : ent 𝓤 (onEntry 𝓤 H A this.signature (κ, tt) (q, tt) (s, tt) (v ∷ [], tt)) (sep 𝓤 (NewC 𝓤 H A at-mem run .pre to-new) (sem 𝓤 H A OwnList))
   asks-new =
       qed W ((‵ (flft κ q) ⊛ ‵ ftrue) ∷ ‵ (owns (ShrSlice (named 0) κ u8 ∷ []) (s, tt) (v ∷ [], tt)) ∷ []) ∵
-      move ! (1 ∷ []) $ fsplit ! $ use1 W (‵ List· ⊛ ‵ List·) (shr-slice-copy 𝓤 H A W (named 0) κ u8 .twice s (v ∷ [])) $ split ! $
+      move ! (1 ∷ []) $ fsplit ! $ use1 W (‵ OwnList ⊛ ‵ OwnList) (shr-slice-copy 𝓤 H A W (named 0) κ u8 .twice s (v ∷ [])) $ split ! $
       move ! (0 ∷ 2 ∷ []) $ fjoin ! $ move ! (2 ∷ 0 ∷ []) $
       use2 W (raw (NewC 𝓤 H A at-mem run .pre to-new))
       (qed W ((‵ (flft κ q) ⊛ ‵ ftrue) ∷ ‵ (owns (ShrSlice (named 0) κ u8 ∷ []) (s, tt) (v ∷ [], tt)) ∷ []) ∵ join ! $ frame ! $ done !) $ frame ! $ done !
@@ -235,10 +235,10 @@ module _ {M : Type 1} (𝓤 : URA M) (H : Heap 𝓤) (A : Atoms 𝓤) (W : Given
   to-show r u n = (((κ, tt), (q, tt), tt, (s, (r, (n, tt))), (v ∷ [], (u ∷ [], (vint w8 n ∷ [], tt)))), tt)
 
   asks-show : (r : WalkStep) (u : Val) (n : ℕ) → n < 2
-      → ent 𝓤 (⋆ 𝓤 H A (‵ (flft κ q) ∷ ‵ (S.the-row .own r (u ∷ [])) ∷ ‵ List· ∷ [])) (sep 𝓤 (ShowC 𝓤 H A at-mem run .pre (to-show r u n)) (sem 𝓤 H A List·))
+      → ent 𝓤 (⋆ 𝓤 H A (‵ (flft κ q) ∷ ‵ (S.the-row .own r (u ∷ [])) ∷ ‵ OwnList ∷ [])) (sep 𝓤 (ShowC 𝓤 H A at-mem run .pre (to-show r u n)) (sem 𝓤 H A OwnList))
   asks-show r u n less =
-      qed W (‵ (flft κ q) ∷ ‵ (S.the-row .own r (u ∷ [])) ∷ ‵ List· ∷ []) ∵
-      move ! (2 ∷ []) $ use1 W (‵ List· ⊛ ‵ List·) (shr-slice-copy 𝓤 H A W (named 0) κ u8 .twice s (v ∷ [])) $ split ! $
+      qed W (‵ (flft κ q) ∷ ‵ (S.the-row .own r (u ∷ [])) ∷ ‵ OwnList ∷ []) ∵
+      move ! (2 ∷ []) $ use1 W (‵ OwnList ⊛ ‵ OwnList) (shr-slice-copy 𝓤 H A W (named 0) κ u8 .twice s (v ∷ [])) $ split ! $
       nothing ! $ owned ! u8 (Is u8) (uint-makes 𝓤 H A W w8) n _ (refl, omega arith) $ fjoin ! $ move ! (4 ∷ 0 ∷ []) $ fjoin ! $ move ! (1 ∷ 0 ∷ []) $ fjoin ! $
       nothing ! $ move ! (3 ∷ 0 ∷ []) $ join ! $
       use2 W (raw (ShowC 𝓤 H A at-mem run .pre (to-show r u n)))
@@ -249,9 +249,9 @@ module _ {M : Type 1} (𝓤 : URA M) (H : Heap 𝓤) (A : Atoms 𝓤) (W : Given
   shown : (r : WalkStep) (n m : ℕ) → ent 𝓤 (ensured 𝓤 H A show.ended (show.clauses 𝓤 H A at-mem run) (κ, tt) (s, (r, (n, tt))) tt m) (fact 𝓤 (m ≡ stopsAfter r n))
   shown r n m = exE 𝓤 _ (λ ws. snd∗ 𝓤 (sem 𝓤 H A (lasts show.ended (κ, tt) (s, (r, (n, tt))) ws)) (fact 𝓤 (m ≡ stopsAfter r n)))
 
-  exits : ent 𝓤 (⋆ 𝓤 H A (‵ (flft κ q) ∷ ‵ List· ∷ [])) (Post vunit)
+  exits : ent 𝓤 (⋆ 𝓤 H A (‵ (flft κ q) ∷ ‵ OwnList ∷ [])) (Post vunit)
   exits =
-      qed W (‵ (flft κ q) ∷ ‵ List· ∷ []) ∵
+      qed W (‵ (flft κ q) ∷ ‵ OwnList ∷ []) ∵
       suffices ! _ (ends-at 𝓤 H A this.ended stayed (this.clauses 𝓤 H A at-mem run) W (((κ, tt), (q, tt), tt, (s, tt), (v ∷ [], tt)), tt) vunit tt (tt, tt) (tt, tt)) $
       nothing ! $ move ! (2 ∷ 0 ∷ []) $ fjoin ! $ feqI ! (List Val) (vunit ∷ []) (vunit ∷ []) refl $ move ! (1 ∷ 0 ∷ []) $ join ! $
       nothing ! $ move ! (2 ∷ 0 ∷ []) $ join ! $ join ! $ frame ! $ done !
@@ -270,7 +270,7 @@ module _ {M : Type 1} (𝓤 : URA M) (H : Heap 𝓤) (A : Atoms 𝓤) (W : Given
 
       -- what holds where a turn begins
       abbrev At : Turn → List (Item 𝓤)
-      At t = ‵ (Own (t .0)) ∷ ‵ (flft κ q) ∷ ‵ List· ∷
+      At t = ‵ (Own (t .0)) ∷ ‵ (flft κ q) ∷ ‵ OwnList ∷
           ‵ (froom refTy l₇ 0) ∷ ‵ (fdies refTy l₇) ∷ ‵ (froom S′.mir l₆ 0) ∷ ‵ (fdies S′.mir l₆) ∷ ‵ (froom tyBool l₅ 0) ∷ ‵ (fdies tyBool l₅) ∷
           ‵ (froom (T′.mir erased) l₄ 0) ∷ ‵ (fdies (T′.mir erased) l₄) ∷ ‵ (fat fullShare (tyInt w8) l₃ 0 (vint w8 (t .1 .0))) ∷ ‵ (fdies (tyInt w8) l₃) ∷
           ‵ (cell l₂ (t .0)) ∷ ‵ (fdies (T′.mir erased) l₂) ∷ ‵ (fat fullShare listTy l₁ 0 v) ∷ ‵ (fdies listTy l₁) ∷ ‵ (froom tyUnit l₀ 0) ∷ ‵ (fdies tyUnit l₀) ∷ []
@@ -315,7 +315,7 @@ module _ {M : Type 1} (𝓤 : URA M) (H : Heap 𝓤) (A : Atoms 𝓤) (W : Given
           move ! (1 ∷ 2 ∷ 3 ∷ []) $ use3 W (later (‵ (cell l₂ (ws .0)) ⊛ ‵ (Own (ws .0)) ⊛ ‵ (flft κ q))) (comes-back ν δ l₂ (ws .0)) $ await ! tt $
           split ! $ move ! (1 ∷ []) $ split ! $
           -- the step is shown: [what the walker owns; the token; its cell; what the step owns; the list; …]
-          move ! (1 ∷ 3 ∷ 4 ∷ []) $ use3 W (raw (ShowC 𝓤 H A at-mem run .pre (to-show r u (t .1 .0))) ⊛ ‵ List·) (asks-show r u (t .1 .0) (ltb-true (t .1 .0) 2 e)) $ split ! $
+          move ! (1 ∷ 3 ∷ 4 ∷ []) $ use3 W (raw (ShowC 𝓤 H A at-mem run .pre (to-show r u (t .1 .0))) ⊛ ‵ OwnList) (asks-show r u (t .1 .0) (ltb-true (t .1 .0) 2 e)) $ split ! $
           calls-at-last ! (fmOf 𝓤 H (W .laws) 𝓣) (ShowC 𝓤 H A at-mem run) known-show (to-show r u (t .1 .0))
           (and-then ! (load ! (from ! (stop !)) (look ! 15 refl)) (and-then ! (load ! (from ! (stop !)) (look ! 6 refl)) (and-then ! (load ! (from ! (stop !)) (look ! 12 refl)) (no-more !)))) (λ u′.
           use1 W (later (some (λ (m : ℕ). ((‵ (flft κ q) ⊛ ‵ ftrue) ⊛ ‵ (u8 .own m (u′ ∷ []))) ⊛
@@ -346,7 +346,7 @@ module _ {M : Type 1} (𝓤 : URA M) (H : Heap 𝓤) (A : Atoms 𝓤) (W : Given
         qed W (raw (onEntry 𝓤 H A this.signature (κ, tt) (q, tt) (s, tt) (v ∷ [], tt)) ∷ []) ∵ enter ! (𝓣 .C) (𝓣 .Λ) code.function (v ∷ []) _ $
         alloc1 ! (λ l₀. alloc1 ! (λ l₁. alloc1 ! (λ l₂. alloc1 ! (λ l₃. alloc1 ! (λ l₄. alloc1 ! (λ l₅. alloc1 ! (λ l₆. alloc1 ! (λ l₇. alloc0 ! $ params1 ! $
         pass1 ! (init ! 12 refl (shr-slice-lawful 𝓤 H A W (named 0) κ u8 .typed s (v ∷ []) p .0)) $ pass0 ! $
-        move ! (16 ∷ []) $ use1 W (raw (NewC 𝓤 H A at-mem run .pre to-new) ⊛ ‵ List·) asks-new $ split ! $
+        move ! (16 ∷ []) $ use1 W (raw (NewC 𝓤 H A at-mem run .pre to-new) ⊛ ‵ OwnList) asks-new $ split ! $
         calls-at ! (fmOf 𝓤 H (W .laws) 𝓣) (NewC 𝓤 H A at-mem run) known-new to-new (and-then ! (load ! (from ! (stop !)) (look ! 14 refl)) (no-more !)) (λ u.
         use1 W (later (some (λ (w : TagWalker). ((‵ (flft κ q) ⊛ ‵ ftrue) ⊛ ‵ (R .own w (u ∷ []))) ⊛
         raw (ensured 𝓤 H A new.ended (new.clauses 𝓤 H A at-mem run) (κ, tt) (s, tt) tt w)))) (id⊢ 𝓤 _) $ await ! tt $ pick ! (λ w.
