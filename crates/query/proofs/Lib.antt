@@ -1,2 +1,3 @@
 pub mod Nodes
 pub mod Depths
+pub mod Skips

@@ -1,4 +1,4 @@
--- A query is its first node and, behind a join, its two sides.
+-- A query is its first node and, after a join, its two sides.
 use Prim.Native.Nat.{ℕ, suc, _-_}
 use mathlib.Core.Path.{_≡_, sym, ap, _∙_}
 use mathlib.Core.List.{List}

@@ -31,13 +31,13 @@ decodeNodeOf isLimit = do
   n ← decodeName
   pure (limit v b n)
 
--- The first byte of a query and what stands behind it, up to the operator of a join.
+-- The first byte of a query and what stands after it, up to the operator of a join.
 unfoldable pub decodeNode : Decoder Node
 decodeNode = do
   c ← decodeCode queryCases
   decodeNodeOf c
 
--- The query of a node: the sides of a join are decoded behind it, a leaf is whole.
+-- The query of a node: the sides of a join are decoded after it, a leaf is whole.
 abbrev pub decodeSides : Decoder Query → Node → Decoder Query
 decodeSides side (join o) = do
   q ← side

@@ -91,7 +91,7 @@ abbrev pub QueryAnswerPlaced : List ℕ → QueryAnswer → Type 0
 QueryAnswerPlaced s (QueryAnswer.Accepted q) = QueryPlaced s q
 QueryAnswerPlaced s (QueryAnswer.Refused n) = Unit {0}
 
--- What the methods `fault` hand up. Nothing asks for the fault of a step that is no refusal.
+-- What the methods `fault` propagate. Nothing asks for the fault of a step that is no refusal.
 abbrev pub operatorFault : OperatorStep → Fault
 operatorFault (OperatorStep.Got o c) = noFault
 operatorFault (OperatorStep.Refused f) = f

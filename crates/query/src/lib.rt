@@ -6,14 +6,16 @@
 // specs/Nodes.antt takes a query apart in the format's terms, specs/QueryAnswers.antt says what each answer stands for.
 ghost use mathlib.Core.Path.{_≡_};
 ghost use mathlib.Core.Logic.{_↔_};
-ghost use Prim.Native.Nat.{max, _-_, _<_};
+ghost use Prim.Native.Nat.{max, _+_, _-_, _≤_, _<_};
+ghost use lib.ListN.{length};
 ghost use Rattle.format.specs.Messages as messages;
 ghost use Rattle.format.specs.Layout.{encodeQuery};
-ghost use Rattle.format.specs.Rules.{Valid};
+ghost use Rattle.format.specs.Rules.{Valid, packetCeiling, depthLimit};
 ghost use Rattle.format.specs.Decoding.{message, reply};
-ghost use Rattle.format.specs.Order.{decodeCode, operators, bounds, isJoin, isKeyword, isField, isLimit, decodeCase, decodeQueryIn, decodeQuery};
+ghost use Rattle.format.specs.Order.{decodeCode, decodeName, operators, bounds, isJoin, isKeyword, isField, isLimit, decodeCase, decodeQueryIn, decodeQuery};
 ghost use Rattle.format.specs.MetOrder.{decode};
 ghost use Rattle.query.specs.Nodes.{decodeNodeOf, decodeNode, decodeLeaf, depths};
+ghost use Rattle.query.specs.Skips.{Passes, Spans, places, endIn, depthIn};
 ghost use Rattle.query.specs.QueryAnswers.{operatorMeaning, boundMeaning, nodeMeaning, NodeStepInside, depthMeaning, queryMeaning, queryReply};
 ghost use Rattle.query.specs.QueryAnswers.{operatorFault, boundFault, nodeFault, depthFault, queryFault};
 ghost use Rattle.query.specs.QueryAnswers.{QueryStepPlaced, QueryAnswerPlaced};
@@ -30,19 +32,22 @@ const PACKET_CEILING: usize = 65536;
 
 const DEPTH_LIMIT: usize = 24;
 
+// More than there are places in a packet.
+const PLACES: usize = 4294967296;
+
 pub enum Operator {
     And,
     Or,
     AndNot,
 }
 
-// The papers' min and max.
+// Document 01's min and max.
 pub enum Bound {
     AtLeast,
     AtMost,
 }
 
-// The first byte of a query and what stands behind it. The two sides of a join are queries of their own: they follow.
+// The first byte of a query and what stands after it. The two sides of a join are queries of their own: they follow.
 pub enum Node {
     Join(Operator),
     Keyword(Place),
@@ -72,7 +77,7 @@ pub enum NodeStep {
     Refused(Fault),
 }
 
-// The depth of a query that was read over, and the cursor behind it.
+// The depth of a query that was skipped, and the cursor after it.
 pub enum DepthStep {
     Got(usize, Cursor),
     Refused(Fault),
@@ -182,7 +187,7 @@ pub fn read_bound(s: &[u8], c: Cursor) -> BoundStep
     }
 }
 
-// What stands behind the first byte of each case of a query.
+// What stands after the first byte of each case of a query.
 
 fn read_join(s: &[u8], c: Cursor) -> NodeStep
     ensures { λ r. ⌜ nodeMeaning (now (s .entry)) r ≡ decodeNodeOf isJoin (now (s .entry)) (c .at) ⌝ }
@@ -240,7 +245,7 @@ fn read_limit(s: &[u8], c: Cursor) -> NodeStep
     NodeStep::Got(Node::Limit(value, bound, name), next)
 }
 
-// The node at the cursor. Behind a join stand its two sides, behind a leaf nothing of the query.
+// The node at the cursor. After a join stand its two sides, after a leaf nothing of the query.
 pub fn read_node(s: &[u8], c: Cursor) -> NodeStep
     ensures { λ r. ⌜ nodeMeaning (now (s .entry)) r ≡ decodeNode (now (s .entry)) (c .at) ⌝ }
     ensures inside { λ r. ⌜ NodeStepInside (now (s .entry)) r ⌝ }
@@ -268,7 +273,7 @@ fn larger(m: usize, n: usize) -> usize
     if m < n { n } else { m }
 }
 
-// The leaf at the cursor: its depth, and the cursor behind it.
+// The leaf at the cursor: its depth, and the cursor after it.
 fn read_leaf(s: &[u8], c: Cursor) -> DepthStep
     ensures { λ r. ⌜ depthMeaning r ≡ decodeLeaf (now (s .entry)) (c .at) ⌝ }
 {
@@ -279,9 +284,9 @@ fn read_leaf(s: &[u8], c: Cursor) -> DepthStep
     DepthStep::Got(1, next)
 }
 
-// A query of at most `left` depth: its own depth, and the cursor behind it. One that would begin below `left` is refused before its
-// first byte is looked at. A query asks for the reading of its operator, an operator for that of two queries with one less left, one
-// behind the other, so every byte is read once and the calls are at most as deep as `left`, whatever the bytes are.
+// A query of at most `left` depth: its own depth, and the cursor after it. One that would begin below `left` is refused before its
+// first byte is read. A query asks for the reading of its operator, an operator for that of two queries with one less left, one
+// after the other, so every byte is read once and the calls are at most as deep as `left`, whatever the bytes are.
 pub fn read_query_in(s: &[u8], c: Cursor, left: usize) -> DepthStep
     ensures { λ r. ⌜ depthMeaning r ≡ depths (decodeQueryIn left (now (s .entry)) (c .at)) ⌝ }
 {
@@ -302,7 +307,7 @@ pub fn read_query_in(s: &[u8], c: Cursor, left: usize) -> DepthStep
     read_leaf(s, c)
 }
 
-// The operator and the two sides of a join of at most `left` depth: the depth of the join, and the cursor behind it.
+// The operator and the two sides of a join of at most `left` depth: the depth of the join, and the cursor after it.
 fn read_operator(s: &[u8], c: Cursor, left: usize) -> DepthStep
     requires { ⌜ 0 < left ⌝ }
     ensures { λ r. ⌜ depthMeaning r ≡ depths (decodeCase (decodeQueryIn (left - 1)) isJoin (now (s .entry)) (c .at)) ⌝ }
@@ -324,21 +329,187 @@ fn read_operator(s: &[u8], c: Cursor, left: usize) -> DepthStep
     DepthStep::Got(depth, end)
 }
 
-// A query as packets hold it.
+// To skip a query that is accepted needs neither a fault nor the places of its texts. Each function below answers with one number, in
+// a register, where the answers of readers are handed over in memory; or with 0 where its tests do not decide: nothing ends at 0.
+
+fn name_end(s: &[u8], at: usize) -> usize
+    requires { ⌜ at ≤ length (now s) ⌝ }
+    ensures { λ r. ⌜ Passes decodeName (now (s .entry)) at r ⌝ }
+{
+    let room = s.len() - at;
+    if room < 2 {
+        return 0;
+    }
+    let high = s[at + 1];
+    if high != 0 {
+        return 0;
+    }
+    let low = s[at];
+    if low == 0 {
+        return 0;
+    }
+    let n = low as usize;
+    if room - 2 < n {
+        return 0;
+    }
+    at + 2 + n
+}
+
+fn limit_end(s: &[u8], at: usize) -> usize
+    requires { ⌜ at ≤ length (now s) ⌝ }
+    ensures { λ r. ⌜ Passes (decodeNodeOf isLimit) (now (s .entry)) at r ⌝ }
+{
+    if s.len() - at < 5 {
+        return 0;
+    }
+    let bound = s[at + 4];
+    if bound == 0 {
+        return 0;
+    }
+    if 2 < bound {
+        return 0;
+    }
+    name_end(s, at + 5)
+}
+
+fn leaf_end(s: &[u8], at: usize) -> usize
+    ensures { λ r. ⌜ Passes decodeNode (now (s .entry)) at r ⌝ }
+{
+    if s.len() < 3 {
+        return 0;
+    }
+    if s.len() - 3 < at {
+        return 0;
+    }
+    let code = s[at];
+    if code == 3 {
+        return limit_end(s, at + 1);
+    }
+    let n = wire::pair(s[at + 1], s[at + 2]) as usize;
+    let text = at + 3;
+    if s.len() - text < n {
+        return 0;
+    }
+    let end = text + n;
+    if code == 1 {
+        return end;
+    }
+    if code != 2 {
+        return 0;
+    }
+    name_end(s, end)
+}
+
+// The extent of a query: the offset after it and its depth, in one number. The place is the low half, which is reported in no time: the next
+// query waits for it.
+fn extent(end: usize, depth: usize) -> usize
+    requires { ⌜ end < places ⌝ }
+    requires { ⌜ depth < places ⌝ }
+    ensures { λ r. ⌜ (endIn r ≡ end) × (depthIn r ≡ depth) ⌝ }
+{
+    end + PLACES * depth
+}
+
+fn end_of(e: usize) -> usize
+    ensures { λ r. ⌜ r ≡ endIn e ⌝ }
+{
+    e % PLACES
+}
+
+fn depth_of(e: usize) -> usize
+    ensures { λ r. ⌜ r ≡ depthIn e ⌝ }
+{
+    e / PLACES
+}
+
+// The extent of a join, by those of its sides.
+fn join_extent(a: usize, b: usize) -> usize
+    requires { ⌜ depthIn a < depthLimit ⌝ }
+    requires { ⌜ depthIn b < depthLimit ⌝ }
+    ensures { λ r. ⌜ (endIn r ≡ endIn b) × (depthIn r ≡ max (depthIn a) (depthIn b) + 1) ⌝ }
+{
+    let depth = larger(depth_of(a), depth_of(b)) + 1;
+    extent(end_of(b), depth)
+}
+
+// A query of at most `left` depth is skipped in the form in which it is read: by its operator, and an operator by two queries.
+fn query_extent(s: &[u8], at: usize, left: usize) -> usize
+    requires { ⌜ length (now s) ≤ packetCeiling ⌝ }
+    requires { ⌜ left ≤ depthLimit ⌝ }
+    ensures { λ r. ⌜ Spans (depths (decodeQueryIn left (now (s .entry)) at)) r ⌝ }
+{
+    if left == 0 {
+        return 0;
+    }
+    if s.len() <= at {
+        return 0;
+    }
+    let code = s[at];
+    if code == 0 {
+        return operator_extent(s, at + 1, left);
+    }
+    let end = leaf_end(s, at);
+    if end == 0 {
+        return 0;
+    }
+    extent(end, 1)
+}
+
+fn operator_extent(s: &[u8], at: usize, left: usize) -> usize
+    requires { ⌜ length (now s) ≤ packetCeiling ⌝ }
+    requires { ⌜ (0 < left) × (left ≤ depthLimit) ⌝ }
+    ensures { λ r. ⌜ Spans (depths (decodeCase (decodeQueryIn (left - 1)) isJoin (now (s .entry)) at)) r ⌝ }
+{
+    if s.len() <= at {
+        return 0;
+    }
+    let operator = s[at];
+    if 2 < operator {
+        return 0;
+    }
+    let side = left - 1;
+    let a = query_extent(s, at + 1, side);
+    if a == 0 {
+        return 0;
+    }
+    let b = query_extent(s, end_of(a), side);
+    if b == 0 {
+        return 0;
+    }
+    join_extent(a, b)
+}
+
+// Of more bytes than a packet has, nothing is reported: an extent may have no room for a place in them.
+fn whole_extent(s: &[u8], at: usize) -> usize
+    ensures { λ r. ⌜ Spans (depths (decodeQuery (now (s .entry)) at)) r ⌝ }
+{
+    if PACKET_CEILING < s.len() {
+        return 0;
+    }
+    query_extent(s, at, DEPTH_LIMIT)
+}
+
+// A query as packets hold it. It is skipped, and read for its fault where its tests do not decide.
 pub fn read_query(s: &[u8], c: Cursor) -> QueryStep
     ensures meaning { λ r. ⌜ queryMeaning (now (s .entry)) r ≡ decodeQuery (now (s .entry)) (c .at) ⌝ }
     ensures placed { λ r. ⌜ QueryStepPlaced (now (s .entry)) r ⌝ }
 {
+    let at = c.at;
+    let e = whole_extent(s, at);
+    if e != 0 {
+        let end = end_of(e);
+        let depth = depth_of(e);
+        return QueryStep::Got(Query { at, end, depth }, Cursor { at: end });
+    }
     let d = read_query_in(s, c, DEPTH_LIMIT);
     let DepthStep::Got(depth, next) = d else {
         return QueryStep::Refused(d.fault());
     };
-    let at = c.at;
     let end = next.at;
     QueryStep::Got(Query { at, end, depth }, next)
 }
 
-// The lent bytes as one query: the byte ceiling first, then the query, then that nothing is left behind it. `demand3` says that
+// The lent bytes as one query: the byte ceiling first, then the query, then that nothing is left after it. `demand3` says that
 // exactly the bytes of a valid query are accepted, and that it is that query.
 pub fn read_lone_query(s: &[u8]) -> QueryAnswer
     ensures meaning { λ r. ⌜ queryReply (now (s .entry)) r ≡ reply (decode messages.loneQuery (now (s .entry))) ⌝ }

@@ -1,9 +1,25 @@
 use mathlib.Core.Path.{sym}
 use Rattle.format.specs.Order.{decodeQuery}
 use Rattle.query.proofs.Depths.{depths-query, depths-refused}
+use Rattle.query.proofs.Skips.{told}
 use borrow.Author.Needs.{needs}
 use Rattle.query.proofs.read_query.Statement.{statement}
 use Rattle.query.proofs.read_query.Tie as tie
+
+whole-extent-requires : tie.Need-whole-extent-requires
+whole-extent-requires c κs = search needs
+
+end-of-requires : tie.Need-end-of-requires
+end-of-requires c κs = search needs
+
+depth-of-requires : tie.Need-depth-of-requires
+depth-of-requires c κs = search needs
+
+returns : tie.Need-returns
+returns c =
+    let b = c .before .before in
+    let e = rw (← c .before .end-of .ensures, ← c .depth-of .ensures) at (told (b .before .whole-extent .ensures) (b .if1 .taken)) in
+    (depths-query _ e, e)
 
 read-query-in-requires : tie.Need-read-query-in-requires
 read-query-in-requires c κs = search needs
@@ -17,18 +33,28 @@ enum-told c = search needs
 fault-requires : tie.Need-fault-requires
 fault-requires c κs = search needs
 
-returns : tie.Need-returns
-unfolding decodeQuery
-returns c =
-    let told = c .before .enum-told .given .1 in
-    (rw (c .fault .ensures, told) (depths-refused _ (rw told at (c .before .before .before .read-query-in .ensures))), tt)
-
 returns-2 : tie.Need-returns-2
 unfolding decodeQuery
 returns-2 c =
+    let told = c .before .enum-told .given .1 in
+    (rw (c .fault .ensures, told) (depths-refused _ (rw told at (c .before .before .before .read-query-in .ensures))), tt)
+
+returns-3 : tie.Need-returns-3
+unfolding decodeQuery
+returns-3 c =
     let e = sym (rw (c .before .d .given .1) at (c .before .before .before .read-query-in .ensures)) in (depths-query _ e, e)
 
 pub read-query-spec : {M : Type 1} → statement M
 read-query-spec =
     tie.close
-    (tie.spec read-query-in-requires enum-known-d enum-told fault-requires returns returns-2)
+    (tie.spec
+    whole-extent-requires
+    end-of-requires
+    depth-of-requires
+    returns
+    read-query-in-requires
+    enum-known-d
+    enum-told
+    fault-requires
+    returns-2
+    returns-3)
