@@ -15,7 +15,7 @@ use Rattle.wire.specs.WireAnswers.{Inside}
 pub to-the-end : (s : List ℕ) (at : ℕ) → bytesAt s at (length s - at) ≡ drop at s
 to-the-end s at = take-all (length s - at) (drop at s) (simp length-drop (omega arith))
 
--- They begin inside, behind a start and an end that were read.
+-- They begin inside, after a start and an end that were read.
 pub data-inside : (s : List ℕ) (at : ℕ) {range : ℕ × ℕ} {next : ℕ} → got range next ≡ decodeRange s at → Inside s next (length s - next)
 unfolding decodeRange
 data-inside s at e =

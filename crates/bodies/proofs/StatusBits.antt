@@ -1,4 +1,4 @@
--- Status bits, judged by the last of their bytes alone.
+-- Status bits, checked by the last of their bytes alone.
 use Prim.Native.Nat.{ℕ, _+_, _/_, _%_, _^_, _≤_, _<_}
 use mathlib.Core.Path.{_≡_, refl, sym, ap, _∙_}
 use mathlib.Core.Bool.{Bool, true, false}

@@ -164,7 +164,7 @@ abbrev pub extendedStatusMeaning : ExtendedStatusStep → Outcome messages.Exten
 extendedStatusMeaning (ExtendedStatusStep.Got p c) = got (record { first = p .first; second = p .second; numbers = tripleOf (p .numbers) }) (c .at)
 extendedStatusMeaning (ExtendedStatusStep.Refused f) = refused (faultMeaning f)
 
--- What the methods `fault` hand up.
+-- What the methods `fault` propagate.
 
 abbrev pub bodyFault : BodyStep → Fault
 bodyFault (BodyStep.Got b c) = noFault

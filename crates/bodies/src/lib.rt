@@ -1,6 +1,6 @@
 // The bodies of packets: a reader for each shape that a body can have.
 //
-// Numbers are handed back as numbers, and texts, hashes, lists and data as places in the lent bytes.
+// Numbers are returned as numbers, and texts, hashes, lists and data as places in the lent bytes.
 ghost use mathlib.Core.Path.{_≡_};
 ghost use Prim.Native.Nat.{_-_, _^_, _<_};
 ghost use lib.ListN.{length};
@@ -242,7 +242,7 @@ impl BitsStep {
     }
 }
 
-// How many bytes come behind the cursor.
+// How many bytes come after the cursor.
 pub fn remaining(s: &[u8], c: Cursor) -> usize
     ensures { λ r. ⌜ r ≡ length (now (s .entry)) - c .at ⌝ }
 {
@@ -252,7 +252,7 @@ pub fn remaining(s: &[u8], c: Cursor) -> usize
 
 // 46
 
-// Start and end are judged together, by themselves and then by the number of bytes behind them.
+// Start and end are checked together, by themselves and then by the number of bytes after them.
 fn read_range(s: &[u8], c: Cursor) -> RangeStep
     ensures { λ r. ⌜ rangeMeaning r ≡ decodeRange (now (s .entry)) (c .at) ⌝ }
 {
@@ -333,7 +333,7 @@ pub fn read_triple(s: &[u8], c: Cursor) -> TripleStep
     )
 }
 
-// All six numbers must be there before the pairs are judged.
+// All six numbers must be there before the pairs are checked.
 fn read_ranges(s: &[u8], c: Cursor) -> RangesStep
     ensures { λ r. ⌜ rangesMeaning r ≡ decodeRanges (now (s .entry)) (c .at) ⌝ }
 {
@@ -395,7 +395,7 @@ fn packed_bytes(n: usize) -> usize
     n / 8 + (n % 8 + 7) / 8
 }
 
-// The bits of n parts. All their bytes must be there before the unused bits of the last one are judged.
+// The bits of n parts. All their bytes must be there before the unused bits of the last one are checked.
 pub fn read_bits(s: &[u8], c: Cursor, n: usize) -> BitsStep
     ensures { λ r. ⌜ bitsMeaning n (now (s .entry)) r ≡ decodeBits n (now (s .entry)) (c .at) ⌝ }
     ensures inside { λ r. ⌜ BitsStepInside n (now (s .entry)) r ⌝ }

@@ -52,7 +52,7 @@ bodyThere s (Body.StatusRequest p) = got tt 0
 bodyThere s (Body.Status t) = got tt 0
 bodyThere s (Body.ExtendedStatus p) = got tt 0
 
--- The place behind the list or the query of a body, which is worked out anew: the end that a body gives is not trusted. A body
+-- The offset after the list or the query of a body, which is worked out anew: the end that a body gives is not trusted. A body
 -- has one list or query at most.
 abbrev pub EndsAt : Outcome (Unit {0}) → ℕ → Type 0
 EndsAt there end = there ≡ got tt end
@@ -97,7 +97,7 @@ pub data BodyRule (v : (shape : messages.Shape) × messages.Values shape) : ℕ 
       ((s : List ℕ) (at : ℕ) → at ≤ length s → drop at s ≡ bytesOf v → decodeBody (v .0) s at ≡ got w (length s)) → BodyRule v 5
 
 -- The findings: the number of a place that does not hold what it should; 6 for a text or list that its count field cannot hold; or the
--- size of the bytes, the place behind the list, and what the reader says of the values.
+-- size of the bytes, the offset after the list, and what the reader says of the values.
 pub data BodyChecked (s : List ℕ) (b : Body) : BodyCheck → Type 0 where
   absent : (f : Fault) → bodyThere s b ≡ refused f → BodyChecked s b (record { number = number (f .rule); size = 0; end = 0; rule = 0 })
   overflows : IsThere (bodyThere s b) → (ValuesFit (bodyIn s b .0) (bodyIn s b .1) → ⊥) → BodyChecked s b (record { number = 6; size = 0; end = 0; rule = 0 })

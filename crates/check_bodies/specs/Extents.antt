@@ -14,7 +14,7 @@ use Rattle.format.specs.RoundTrip.{IsThere}
 use Rattle.check_bodies.specs.declared.Extent.{Extent}
 
 -- The extent of a part: the number of a place that does not hold what it should; that a count field cannot hold it; or its size, which is
--- at most `bound`, and the place behind its list or query.
+-- at most `bound`, and the offset after its list or query.
 pub data Extends (there : Outcome (Unit {0})) (Fits : Type 0) (size : ℕ) (Ends : ℕ → Type 0) (bound : ℕ) : Extent → Type 0 where
   absent : (f : Fault) → there ≡ refused f → Extends there Fits size Ends bound (Extent.Absent (number (f .rule)))
   tooLong : IsThere there → (Fits → ⊥) → Extends there Fits size Ends bound Extent.TooLong
@@ -33,13 +33,13 @@ Adds n (Extent.Absent k) = Unit {0}
 Adds n Extent.TooLong = Unit {0}
 Adds n (Extent.Sized m end) = n + m < 18446744073709551616
 
--- A part behind n more bytes.
+-- A part after n more bytes.
 abbrev pub behindBytes : ℕ → Extent → Extent
 behindBytes n (Extent.Absent k) = Extent.Absent k
 behindBytes n Extent.TooLong = Extent.TooLong
 behindBytes n (Extent.Sized m end) = Extent.Sized (n + m) end
 
--- A part behind one that is too long.
+-- A part after one that is too long.
 abbrev pub behindTooLong : Extent → Extent
 behindTooLong (Extent.Absent k) = Extent.Absent k
 behindTooLong Extent.TooLong = Extent.TooLong

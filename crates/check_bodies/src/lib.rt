@@ -1,5 +1,5 @@
 // What has to be known of a body before a byte of it is written. Bodies are given as the readers hand them out: numbers, and places
-// in lent bytes. What lies at a place is looked at again, whoever made the body.
+// in lent bytes. What lies at a place is read again, whoever made the body.
 ghost use mathlib.Core.Path.{_≡_};
 ghost use Prim.Native.Nat.{_+_};
 ghost use lib.ListN.{length};
@@ -33,7 +33,7 @@ use wire::Place;
 use wire::PlaceStep;
 
 // What check_body finds: the number of a refusal that comes before the byte ceiling, or 0; the size of the body's bytes; the
-// place behind its list or query; and the number of the rule that its values break, which comes behind the byte ceiling.
+// offset after its list or query; and the number of the rule that its values break, which comes after the byte ceiling.
 pub struct BodyCheck {
     pub number: u8,
     pub size: usize,
@@ -42,7 +42,7 @@ pub struct BodyCheck {
 }
 
 // How far a part of a body extends: the number of a place that does not hold what it should; that the part is too long for its
-// count field; or its size and the place behind its list or query.
+// count field; or its size and the offset after its list or query.
 enum Extent {
     Absent(u8),
     TooLong,

@@ -1,4 +1,4 @@
--- What `ed2k_read` handed out as numbers, and `ed2k_write` is given by these numbers, is written back as its bytes, whatever its kind: from
+-- What `ed2k_read` returned as numbers, and `ed2k_write` is given by these numbers, is written back as its bytes, whatever its kind: from
 -- the contracts of the two calls, and no other fact.
 use Prim.Native.Nat.{ℕ, _≤_}
 use native.Mathlib.Omega.{arith}
@@ -98,7 +98,7 @@ module _ (s : List ℕ) (bytes : Bytes s) where
     abbrev Back : Type 0
     Back = w ≡ record { number = 0; length = length s; output = overwritten s output }
 
-    -- The numbers that were handed out for a message are taken for it.
+    -- The numbers that were returned for a message are taken for it.
     taken : {M : Type 0} (find : List ℕ → M) (numbers : M → List ℕ) (Writes : M → Written → Type 0) (m : M) → ((rest : List ℕ) → Found find (filled 16 (numbers m)) rest m) →
         r ≡ fieldsOut (numbers m) old → GivenWrites (numbers (find (r .numbers))) (r .numbers) output (Writes (find (r .numbers))) w → Writes m w
     taken find numbers Writes m back e write =

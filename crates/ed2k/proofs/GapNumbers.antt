@@ -26,7 +26,7 @@ last-pair (suc n) l =
     let b : 2 + 2 * n + 1 ≡ 2 + (2 * n + 1) = omega arith in
     ap (λ r. place (getD l 0 0) (getD l 1 0) ∷ r) (last-pair n (drop 2 l)) ∙ rw (a, b, getD-drop 2 l (2 * n) 0, getD-drop 2 l (2 * n + 1) 0) refl
 
--- the first n pairs behind the size and the count, and 0 in the other places
+-- the first n pairs after the size and the count, and 0 in the other places
 abbrev pub placesIn : ℕ → List ℕ → List Gap
 placesIn n l = pairsIn n (drop 2 l) ++ replicate (64 - n) (place 0 0)
 

@@ -46,7 +46,7 @@ use Rattle.fields.specs.Fields.{filled, itemsNumbers, queryNumbers, recordNumbe
 use Rattle.fields.specs.Fields.{tagNumbers, fileEntryNumbers, serverEntryNumbers, nodeNumbers}
 use Rattle.fields.specs.Given.{itemsAt, queryAt, packetGiven, knownGiven, serverGiven, partGiven, sizeGiven}
 
--- The answer of a call that hands out numbers: its own number, and the array afterwards.
+-- The answer of a call that returns numbers: its own number, and the array afterwards.
 pub record Numbered : Type 0 where
   pub number : ℕ
   pub numbers : List ℕ
@@ -65,7 +65,7 @@ fieldsOut numbers old = handedOut (filled 16 numbers) old
 abbrev pub faultNumber : Fault → ℕ
 faultNumber f = decoding.number (ruleMeaning (f .rule))
 
--- Reading. Each call has an answer of the reader that it calls, as that reader ensures it, and hands out its numbers.
+-- Reading. Each call has an answer of the reader that it calls, as that reader ensures it, and returns its numbers.
 
 abbrev pub messageNumbers : Message → List ℕ
 messageNumbers (Message.Packet p) = packetNumbers p
@@ -168,7 +168,7 @@ NodeRead s at old r = (a : NodeStep) × (nodeMeaning s a ≡ decodeNode s at) ×
 abbrev pub leaves : (number length : ℕ) → (output : List ℕ) → Written
 leaves number length output = record { number = number; length = length; output = output }
 
--- A message that is told by its numbers: the first 16 given ones are those of the message, which is written; or they are no message's, and
+-- A message that is reported by its numbers: the first 16 given ones are those of the message, which is written; or they are no message's, and
 -- the call refuses (5) before all else.
 pub data GivenWrites (numbers given output : List ℕ) (Writes : Written → Type 0) : Written → Type 0 where
   noMessage : (filled 16 numbers ≡ take 16 given → ⊥) → GivenWrites numbers given output Writes (unwritten 5 output)

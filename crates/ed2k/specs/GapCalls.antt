@@ -14,7 +14,7 @@ use Rattle.gap_numbers.specs.Numbers.{numbersOf}
 use Rattle.met.specs.declared.GapsAnswer.{GapsAnswer}
 use Rattle.ed2k.specs.Calls.{Numbered, numbered}
 
--- A record that is handed out: 10 where the array has fewer than 130 places.
+-- A record that is returned: 10 where the array has fewer than 130 places.
 abbrev pub recordOut : GapRecord → List ℕ → Numbered
 recordOut g old = pick (leb 130 (length old)) (numbered 0 (overwritten (numbersOf g) old)) (numbered 10 old)
 
@@ -29,6 +29,6 @@ pub record Counts (g : GapRecord) (number count : ℕ) : Type 0 where
   pub told : number ≡ pick (lawfulRecord sizeLimit g) 0 8
   pub missing : count ≡ missingCount sizeLimit g
 
--- What a marking hands out beside the record: its number, and how many bytes are left, 0 where it is refused.
+-- What a marking returns beside the record: its number, and how many bytes are left, 0 where it is refused.
 abbrev pub counted : (number missing : ℕ) → MarkAnswer
 counted number missing = record { number = number; missing = missing }

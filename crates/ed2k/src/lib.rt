@@ -34,12 +34,12 @@ ghost use Rattle.ed2k.specs.Calls.{QueryWritten, TagListWritten, PiecesW
 ghost use Rattle.ed2k.specs.Calls.{WriteOf, PacketWrites, KnownWrites, ServerWrites, PartWrites, QueryWrites, TagListWrites};
 ghost use Rattle.gap_numbers.specs.Numbers.{MarksNumbers, pairNumbers, numbersOf, recordIn};
 ghost use Rattle.ed2k.specs.GapCalls.{gapsRead, allMissingOut, Counts, counted};
+use gap_numbers::GAP_NUMBERS;
+use gap_numbers::mark_numbers;
 use gaps::Gap;
 use gaps::GapRecord;
 use gaps::SIZE_LIMIT;
 use gaps::none_missing;
-use gap_numbers::GAP_NUMBERS;
-use gap_numbers::mark_numbers;
 use met::FileEntry;
 use met::FileEntryStep;
 use met::KnownAnswer;
@@ -63,7 +63,7 @@ use tags::TagStep;
 use wire::Cursor;
 use wire::Items;
 
-// Numbers that a call hands out.
+// Numbers that a call returns.
 
 fn copy_numbers(out: &mut [u64], src: &[u64])
     requires { ⌜ length (now src) ≤ length (now out) ⌝ }
@@ -389,7 +389,7 @@ pub extern "C" fn ed2k_mark(gaps: &mut [u64], start: u64, end: u64, missing: &mu
 
 // Writing.
 
-// What is told by 16 numbers, as ed2k_read hands them out.
+// What is reported by 16 numbers, as ed2k_read hands them out.
 
 fn write_link(link: Link, bytes: &[u8], given: &[u64], output: &mut [u8], written: &mut usize) -> u8
     ensures { λ r. ⌜ PacketWrites link (now (bytes .entry)) (now (given .entry)) (now (output .entry)) (leaves r (now (written .exit)) (now (output .exit))) ⌝ }
@@ -721,7 +721,7 @@ pub extern "C" fn ed2k_write_query(
     a.number
 }
 
-// Entries, to compose lists. A list's end is not looked at: the list is read again.
+// Entries, to compose lists. A list's end is not read: the list is read again.
 
 #[no_mangle]
 pub extern "C" fn ed2k_write_address(

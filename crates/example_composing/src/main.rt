@@ -1,13 +1,11 @@
-// Composes an offer of two files and a search for one of them from nothing: tags are written one by one behind a hash into a scratch
+// Composes an offer of two files and a search for one of them from nothing: tags are written one by one after a hash into a scratch
 // buffer, the records over these into a second one, and the packet over the records. Then all is read back, and each step prints one line.
 use bodies::Body;
-use write_bodies::write_record;
 use packets::Link;
 use packets::Packet;
 use packets::PacketAnswer;
 use packets::opcode;
 use packets::read_packet;
-use write_packets::write_packet;
 use query::Bound;
 use query::Operator;
 use query::Query;
@@ -21,12 +19,14 @@ use truth::truth_of;
 use wire::Cursor;
 use wire::Items;
 use wire::bytes_at;
+use write_bodies::write_record;
 use write_items::write_dword_tag;
 use write_items::write_join;
 use write_items::write_keyword;
 use write_items::write_limit;
 use write_items::write_tag_list;
 use write_items::write_text_tag;
+use write_packets::write_packet;
 ghost use Prim.Native.Nat.{_≤_};
 ghost use lib.ListN.{length};
 
@@ -35,7 +35,7 @@ const NAME: [u8; 1] = [0x01];
 
 const SIZE: [u8; 1] = [0x02];
 
-// The tags of a file stand behind its hash.
+// The tags of a file stand after its hash.
 const TAGS_AT: usize = 16;
 
 fn say(words: &[u8], n: u64) {
@@ -62,14 +62,14 @@ fn put_tags(out: &mut [u8], name: &[u8], size: u32) -> usize
     at + within(b.length, rest)
 }
 
-// The tags of a file, behind the hash that a scratch buffer begins with: how many bytes they have.
+// The tags of a file, after the hash that a scratch buffer begins with: how many bytes they have.
 fn put_file_tags(scratch: &mut [u8], name: &[u8], size: u32) -> usize
     requires { ⌜ 16 ≤ length (now scratch) ⌝ }
 {
     put_tags(&mut scratch[TAGS_AT..], name, size)
 }
 
-// The two tags behind the hash.
+// The two tags after the hash.
 fn file_tags(n: usize) -> Items {
     Items {
         at: TAGS_AT,
@@ -93,7 +93,7 @@ fn put_file(scratch: &[u8], tags: Items, out: &mut [u8]) -> usize
     within(a.length, out.len())
 }
 
-// The records of two files, one behind the other: how many bytes they have.
+// The records of two files, one after the other: how many bytes they have.
 fn put_files(first: &[u8], n: usize, second: &[u8], m: usize, out: &mut [u8]) -> usize {
     let at = put_file(first, file_tags(n), out);
     let more = put_file(second, file_tags(m), &mut out[at..]);
@@ -162,7 +162,7 @@ fn show_value(s: &[u8], value: TagValue) {
     }
 }
 
-// The tag at a place: the place behind it.
+// The tag at a place: the offset after it.
 fn show_tag(s: &[u8], at: usize) -> usize {
     let t = read_tag(s, Cursor { at });
     let TagStep::Got(tag, next) = t else {
@@ -174,7 +174,7 @@ fn show_tag(s: &[u8], at: usize) -> usize {
     next.at
 }
 
-// The record of a file at a place, with its two tags: the place behind it.
+// The record of a file at a place, with its two tags: the offset after it.
 fn show_record(s: &[u8], at: usize) -> usize {
     let r = read_record(s, Cursor { at });
     let RecordStep::Got(record, next) = r else {

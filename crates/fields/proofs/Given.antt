@@ -1,4 +1,4 @@
--- A message whose numbers its fields can hold is found again by its numbers, whatever stands behind them, and these are the first 16. So
+-- A message whose numbers its fields can hold is found again by its numbers, whatever stands after them, and these are the first 16. So
 -- no two such messages have the same numbers, and what is read is what is written back.
 use Prim.Native.Nat.{ℕ, _%_}
 use native.Mathlib.Omega.{arith}
@@ -19,7 +19,7 @@ use Rattle.fields.specs.Fields.{filled, bodyNumbers, itemsNumbers, query
 use Rattle.fields.specs.Given.{bodyGiven, itemsAt, queryAt, packetGiven, knownGiven, serverGiven, blocksGiven, partGiven, sizeGiven}
 use Rattle.fields.specs.Given.{BodyFits, ItemsFit, PacketFits, KnownFits, ServerFits, BlocksFit, PartFits}
 
--- The numbers n, and any behind them: m is what is given by all of them, and they are the first 16.
+-- The numbers n, and any after them: m is what is given by all of them, and they are the first 16.
 pub record Found {M : Type 0} (given : List ℕ → M) (n rest : List ℕ) (m : M) : Type 0 where
   pub again : given (n ++ rest) ≡ m
   pub first : n ≡ take 16 (n ++ rest)

@@ -1,4 +1,4 @@
--- The numbers that the reading calls hand out, in the order of include/ed2k.h. A place of the code is its numbers: where it begins, then
+-- The numbers that the reading calls return, in the order of include/ed2k.h. A place of the code is its numbers: where it begins, then
 -- where it ends or how long it is, then how many items it has.
 use Prim.Native.Nat.{ℕ, _-_}
 use mathlib.Core.List.{List, [], _∷_, _++_}
@@ -26,7 +26,7 @@ use Rattle.met.specs.declared.ServerMet.{ServerMet}
 use Rattle.met.specs.declared.HashBlocks.{HashBlocks}
 use Rattle.met.specs.declared.PartMet.{PartMet}
 
--- Numbers, and 0 behind them, n in all.
+-- Numbers, and 0 after them, n in all.
 abbrev pub filled : ℕ → List ℕ → List ℕ
 filled n l = l ++ replicate (n - length l) 0
 
@@ -107,7 +107,7 @@ partNumbers (PartMet.E0 e) size =
     0xE0 ∷ size ∷ e .date ∷ e .hash ∷ itemsNumbers (e .tags) ++ hashesNumbers 4 (e .parts) noItems
 partNumbers (PartMet.E1 f) size = 0xE1 ∷ size ∷ f .date ∷ f .hash ∷ itemsNumbers (f .tags) ++ blocksNumbers (f .blocks)
 
--- The single items, with the cursor behind them.
+-- The single items, with the cursor after them.
 
 -- the type of a value, then what it holds; the name stands between
 abbrev pub typeNumber : TagValue → ℕ

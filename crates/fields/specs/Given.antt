@@ -139,7 +139,7 @@ e1Given f = PartMet.E1 (record { date = dwordAt f 2; hash = numberAt f 3; tags =
 unfoldable pub partGiven : List ℕ → PartMet
 partGiven f = pick (eqb (numberAt f 0) 0xE0) (e0Given f) (e1Given f)
 
--- The size of a part.met is told by its tags, and is not a value of its own: any number that a size can be is taken.
+-- The size of a part.met is reported by its tags, and is not a value of its own: any number that a size can be is taken.
 abbrev pub sizeGiven : List ℕ → ℕ
 sizeGiven f = dwordAt f 1
 

@@ -45,7 +45,7 @@ use wire::Place;
 
 // The numbers of a packet: `o` and `c` are its opening byte and its opcode; the shape of its body and the body's values follow.
 
-// The shape and four values, and 0 behind them.
+// The shape and four values, and 0 after them.
 fn row(o: u8, c: u8, shape: u64, a: u64, b: u64, d: u64, e: u64) -> [u64; 16]
     ensures { λ r. ⌜ r ≡ filled 16 (o ∷ c ∷ shape ∷ a ∷ b ∷ d ∷ e ∷ []) ⌝ }
 {
@@ -337,7 +337,7 @@ pub fn packet_fields(p: Packet) -> [u64; 16]
 
 // The numbers of the other messages.
 
-// Nine numbers and 0 behind them.
+// Nine numbers and 0 after them.
 fn row_of_fields(
     a: u64,
     b: u64,
@@ -448,7 +448,7 @@ pub fn list_fields(l: Items) -> [u64; 16]
     row_of_fields(l.at as u64, l.end as u64, l.count as u64, 0, 0, 0, 0, 0, 0)
 }
 
-// The numbers of an item and of the place behind it.
+// The numbers of an item and of the offset after it.
 
 fn tag_row(next: Cursor, code: u64, tag: Tag, a: u64, b: u64) -> [u64; 16]
     ensures { λ r. ⌜ r ≡ filled 16 (next .at ∷ code ∷ tag .«name_at» ∷ tag .«name_len» ∷ a ∷ b ∷ []) ⌝ }
@@ -855,7 +855,7 @@ pub fn part_given(given: &[u64]) -> PartMet
     e1_given(given)
 }
 
-// The size that is handed out with a part.met.
+// The size that is returned with a part.met.
 pub fn size_given(given: &[u64]) -> u32
     ensures { λ r. ⌜ r ≡ sizeGiven (now (given .entry)) ⌝ }
 {

@@ -63,7 +63,7 @@ pub unambiguous : (k : Kind) (m n : Message k) → Valid k m → Valid k n → e
 unambiguous k m n hm hn e =
     whole.unambiguous (codec k) m n (encodable k m (hm .few) .0 (hm .content)) (encodable k n (hn .few) .0 (hn .content)) e
 
--- the same of what a caller is told
+-- the same of what a caller gets
 told : {A : Type 0} (a : Answer A) (m : A) → (reply a ≡ message m) ↔ (a ≡ accepted m)
 told (refusal f) m = (λ e. cc, λ e. cc)
 told (accepted b) m = (λ e. cc, λ e. cc)

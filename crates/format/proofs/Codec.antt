@@ -81,7 +81,7 @@ bytes-part s hb at n = bytes-left (take n (drop at s)) (drop n (drop at s)) (rw 
 pub glue : (x y rest : List ℕ) {bs mid : List ℕ} → bs ≡ x ++ mid → mid ≡ y ++ rest → bs ≡ (x ++ y) ++ rest
 glue x y rest p q = p ∙ ap (λ r. x ++ r) q ∙ sym (append-assoc x y rest)
 
--- What stands behind some bytes.
+-- What stands after some bytes.
 pub behind : (s : List ℕ) (at : ℕ) (x y : List ℕ) → drop at s ≡ x ++ y → drop (at + length x) s ≡ y
 behind s at x y e = sym (drop-drop (length x) at s) ∙ ap (drop (length x)) e ∙ drop-at x y (length x) refl
 

@@ -165,7 +165,7 @@ between-ordered size low a b l f o = go (decLt a b)
     go (yes t) = rw (lt-ltb a b t) (f t .0, t, f t .1, f t .2)
     go (no t) = rw (le-ltb a b (omega arith)) o
 
--- what is left of one gap, before the gaps l behind it
+-- what is left of one gap, before the gaps l after it
 module _ (size low : ℕ) (g : Gap) (s e : ℕ) (l : List Gap) (h : s < e)
     (first : low ≤ g .start) (order : g .start < g .end) (inside : g .end ≤ size) (o : Ordered size (suc (g .end)) l) where
   right-ordered : (low′ : ℕ) → low′ ≤ suc (g .end) → (max (g .start) e < g .end → low′ ≤ max (g .start) e)

@@ -109,7 +109,7 @@ nine tags = (there, λ h. rw (sole-none (sizes tags) (λ n e. h n (sizes-means n
     there : andCheck {B = ℕ × List Tag} (sole (sizes tags)) (λ size. andCheck (scan size (between []) tags) (λ _. passes (size, tags))) ≡ violates Rule.sizeTag → (size : ℕ) → SizeIs size tags → ⊥
     there e size h = no-scan size (rw (size-sizes size tags h) at e)
 
--- 6: a gap tag behind 64 whole lawful pairs.
+-- 6: a gap tag after 64 whole lawful pairs.
 abbrev GapBehind64 : List GapPair → List Tag → Type 0
 GapBehind64 ps l = (64 ≤ length ps) × ((t : Tag) × ((rest : List Tag) × ((l ≡ t ∷ rest) × (NoGapTag t → ⊥))))
 

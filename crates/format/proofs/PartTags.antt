@@ -225,7 +225,7 @@ unfoldable pub Good : ℕ → List GapPair → List GapPair → Type 0
 Good size ps [] = Unit {0}
 Good size ps (p ∷ new) = Next size ps p × Good size (p ∷ ps) new
 
--- A front of whole lawful pairs, and what stands behind them.
+-- A front of whole lawful pairs, and what stands after them.
 pub record Front (size : ℕ) (ps : List GapPair) (l : List Tag) (Q : List GapPair → List Tag → Type 0) : Type 0 where
   pub new : List GapPair
   pub front : List Tag
@@ -310,7 +310,7 @@ module _ (size : ℕ) (Q : List GapPair → List Tag → Type 0) (t : Tag) (l : 
         later = subst (λ s. Left size s l Q) (sym (o .0)) h;
       }
 
--- A scan that passes ends behind whole lawful pairs.
+-- A scan that passes ends after whole lawful pairs.
 abbrev Ends : List GapPair → List GapPair → List Tag → Type 0
 Ends qs ps l = (ps ≡ qs) × (l ≡ [])
 

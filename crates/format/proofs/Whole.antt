@@ -18,7 +18,7 @@ use Rattle.format.specs.PacketOrder.{bySize, checkLength, decodeLength}
 use Rattle.format.proofs.Differ.{differ}
 use Rattle.format.proofs.Codec.{anywhere, atEnd, Codec, Found, same-value, same-place, moved, went, glue, behind, fits, settled-got, codec-via, regroup, no-more, same, recast, codec-dword, unless-violates, if-passes}
 
--- What is checked by the number of bytes behind it, and then these.
+-- What is checked by the number of bytes after it, and then these.
 pub codec-before : {A : Type 0} {B : A → Type 0} {r : Decoder A} {q : (a : A) → Decoder (B a)} {encode : A → List ℕ} {Valid : A → Type 0}
     {encode′ : (a : A) → B a → List ℕ} {Valid′ : (a : A) → B a → Type 0} (k : ℕ) (check : ℕ → A → Check A) → ((n : ℕ) (a b : A) → check n a ≡ passes b → a ≡ b) →
     Codec anywhere r encode Valid → ((a : A) → Codec atEnd (q a) (encode′ a) (Valid′ a)) →
@@ -58,7 +58,7 @@ codec-before {A} {B} {r} {q} {encode} {Valid} {encode′} {Valid′} k check sam
       );
 }
 
--- A DWORD with the number of bytes behind it, of which there are some.
+-- A DWORD with the number of bytes after it, of which there are some.
 length-same : (n a b : ℕ) → checkLength n a ≡ passes b → a ≡ b
 length-same n a b e = if-passes Rule.frameLength a (eqb a n) (unless-violates Rule.frameLength (pick (eqb a n) (passes a) (violates Rule.frameLength)) (eqb a 0) e .1) .1
 

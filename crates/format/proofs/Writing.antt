@@ -232,7 +232,7 @@ module _ (k : Kind) (m : Message k) where
       go true j = tries j
       go false j = refuses 6 j (λ z. omega arith)
 
--- A value by its place: what was decoded there lies there as its encoding, up to the place behind it.
+-- A value by its place: what was decoded there lies there as its encoding, up to the offset after it.
 pub record Lies {A : Type 0} (encode : A → List ℕ) (Valid : A → Type 0) (s : List ℕ) (at : ℕ) (a : A) (next : ℕ) : Type 0 where
   pub end : next ≡ at + length (encode a)
   pub bytes : bytesAt s at (next - at) ≡ encode a
@@ -245,7 +245,7 @@ found-lies {encode = encode} {s = s} {at} {next} {a} i f =
     omega (arith, i, f .inside, ap length (f .bytes), length-append (encode a) (drop next s), length-drop at s, length-drop next s) in
     record { end = end; bytes = rw (f .bytes) (take-at (encode a) (drop next s) (next - at) (omega arith)); valid = f .valid }
 
--- A decoder that needs a byte finds nothing at a place behind the end.
+-- A decoder that needs a byte finds nothing at an offset after the end.
 abbrev pub NeedsByte : {A : Type 0} → Decoder A → Type 0
 NeedsByte {A} r = (s : List ℕ) (at : ℕ) (a : A) (next : ℕ) → r s at ≡ got a next → at ≤ length s
 

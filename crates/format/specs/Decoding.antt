@@ -1,5 +1,5 @@
--- How bytes are decoded: item by item, each there before it is checked and checked before the next is looked at (01, "Order").
--- A decoder takes the whole bytes and a place in them. It finds a fault, or a value and the place behind it.
+-- How bytes are decoded: item by item, each there before it is checked and checked before the next is read (01, "Order").
+-- A decoder takes the whole bytes and a place in them. It finds a fault, or a value and the offset after it.
 use mathlib.Core.Option.{Option, none, some}
 use mathlib.Core.List.{List, [], _∷_}
 use Prim.Native.Nat.{ℕ, zero, suc, _+_, _-_, _*_}
@@ -7,7 +7,7 @@ use lib.ListN.{length, take, drop}
 use lib.Dec.{leb, eqb}
 use Rattle.format.specs.Tables.{pick}
 
--- The rules that bytes can break, and 01's number for each. Where 01 gives one number to several rules, they are told apart.
+-- The rules that bytes can break, and 01's number for each. Where 01 gives one number to several rules, they are reported apart.
 pub data Rule : Type 0 where
   short opening frameLength kind choice statusBit : Rule
   bytesCeiling depthCeiling nameCeiling gapCeiling : Rule
@@ -45,7 +45,7 @@ pub data Outcome (A : Type 0) : Type 0 where
 abbrev pub Decoder : Type 0 → Type 0
 Decoder A = List ℕ → ℕ → Outcome A
 
--- One decoder after another; a fault goes up unchanged. `do` stands for a chain of these.
+-- One decoder after another; a fault is propagated unchanged. `do` stands for a chain of these.
 abbrev pub andThen : {A B : Type 0} → List ℕ → Outcome A → (A → Decoder B) → Outcome B
 andThen s (refused f) g = refused f
 andThen s (got a at) g = g a s at
@@ -74,7 +74,7 @@ decodeTail = λ s at. got (drop at s) (length s)
 abbrev pub remaining : Decoder ℕ
 remaining = λ s at. got (length s - at) at
 
--- Refused before a byte is looked at.
+-- Refused before a byte is read.
 abbrev pub refuse : {A : Type 0} → Rule → Decoder A
 refuse rule = λ s at. refused (fault rule at 0)
 
@@ -101,7 +101,7 @@ settled at k (violates rule) next = refused (fault rule at k)
 abbrev pub checked : {A B : Type 0} → ℕ → (A → Check B) → Decoder A → Decoder B
 checked k check r = λ s at. andThen s (r s at) (λ a s next. settled at k (check a) next)
 
--- The check also sees how many bytes come behind the item.
+-- The check also sees how many bytes come after the item.
 abbrev pub checkedBefore : {A B : Type 0} → ℕ → (ℕ → A → Check B) → Decoder A → Decoder B
 checkedBefore k check r = λ s at. andThen s (r s at) (λ a s next. settled at k (check (length s - next) a) next)
 
@@ -139,7 +139,7 @@ finish s (got a at) = pick (eqb at (length s)) (accepted a) (refusal (fault rest
 abbrev pub decodeWhole : {A : Type 0} → ℕ → Decoder A → List ℕ → Answer A
 decodeWhole ceiling r s = pick (leb (length s) ceiling) (finish s (r s 0)) (refusal (fault bytesCeiling 0 (length s)))
 
--- What a caller is told: the message, or the number alone.
+-- What a caller gets: the message, or the number alone.
 pub data Reply (A : Type 0) : Type 0 where
   refusedWith : (number : ℕ) → Reply A
   message : A → Reply A
@@ -148,7 +148,7 @@ abbrev pub reply : {A : Type 0} → Answer A → Reply A
 reply (refusal f) = refusedWith (number (f .rule))
 reply (accepted a) = message a
 
--- Code hands back places in the lent bytes: a place and a count stand for the items that are decoded there. Where none are, this
+-- Code returns places in the lent bytes: a place and a count stand for the items that are decoded there. Where none are, this
 -- alone would pass for an empty list, so a contract also says where they end (`ends`).
 abbrev pub itemsOf : {A : Type 0} → Outcome (List A) → List A
 itemsOf (refused f) = []

@@ -33,7 +33,7 @@ word n = littleEndian 2 n
 abbrev pub dword : ℕ → List ℕ
 dword n = littleEndian 4 n
 
--- A list behind its count.
+-- A list after its count.
 abbrev pub counted : {A : Type 0} → (ℕ → List ℕ) → (A → List ℕ) → List A → List ℕ
 counted count encode l = count (length l) ++ encodeAll encode l
 

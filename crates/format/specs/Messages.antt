@@ -22,7 +22,7 @@ TagValue stringType = List ℕ
 TagValue dwordType = ℕ
 TagValue floatType = ℕ
 
--- A one-byte name is the published special tag and nothing else (01): names are told apart by their bytes alone.
+-- A one-byte name is the published special tag and nothing else (01): names are reported apart by their bytes alone.
 pub record Tag : Type 0 where
   pub name : List ℕ
   pub value : (t : TagType) × TagValue t
@@ -124,7 +124,7 @@ pub record Packet : Type 0 where
   pub opcode : ℕ
   pub body : (s : Shape) × Values s
 
--- A link lists its opening bytes, each with the shape of the body behind each opcode.
+-- A link lists its opening bytes, each with the shape of the body after each opcode.
 abbrev pub Opcodes : Type 0
 Opcodes = List (ℕ × Shape)
 
@@ -207,7 +207,7 @@ udp = (0xE3, udpOpcodes) ∷ []
 
 -- Met files
 
--- An entry of known.met, and all that stands behind the opening byte of a part.met that opens with E0.
+-- An entry of known.met, and all that stands after the opening byte of a part.met that opens with E0.
 pub record FileEntry : Type 0 where
   pub date : ℕ
   pub hash : List ℕ

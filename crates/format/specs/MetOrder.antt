@@ -31,7 +31,7 @@ decodeServerEntry = do
   tags ← decodeTags
   pure (record { ip = ip; port = port; tags = tags })
 
--- All behind the last entry is tail, so 7 never occurs.
+-- All after the last entry is tail, so 7 never occurs.
 unfoldable pub decodeServerMet : Decoder ServerMet
 decodeServerMet = do
   opening ← decodeOpening metOpenings

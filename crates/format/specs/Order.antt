@@ -37,7 +37,7 @@ checkFixed b x = pick (eqb x b) (passes tt) (violates choice)
 unfoldable pub decodeFixed : ℕ → Decoder (Unit {0})
 decodeFixed b = checked 1 (checkFixed b) decodeByte
 
--- A name's length is checked before its bytes are looked at.
+-- A name's length is checked before its bytes are read.
 abbrev pub checkNameLength : ℕ → Check ℕ
 checkNameLength n = pick (eqb n 0) (violates choice) (pick (leb n nameLimit) (passes n) (violates nameCeiling))
 
@@ -112,7 +112,7 @@ caseCode isLimit = 3
 abbrev pub queryCases : List (ℕ × QueryCase)
 queryCases = tableOf caseCode (isJoin ∷ isKeyword ∷ isField ∷ isLimit ∷ [])
 
--- What stands behind the first byte of a query, given how its sides are decoded.
+-- What stands after the first byte of a query, given how its sides are decoded.
 abbrev pub decodeCase : Decoder Query → QueryCase → Decoder Query
 decodeCase side isJoin = do
   o ← decodeCode operators
@@ -132,7 +132,7 @@ decodeCase side isLimit = do
   n ← decodeName
   pure (limit v b n)
 
--- A query of at most so much depth. One that would begin below that is refused before its first byte is looked at.
+-- A query of at most so much depth. One that would begin below that is refused before its first byte is read.
 unfoldable pub decodeQueryIn : ℕ → Decoder Query
 decodeQueryIn zero = refuse depthCeiling
 decodeQueryIn (suc d) = do

@@ -18,7 +18,7 @@ both r q = do
   b ← q
   pure (a, b)
 
--- 46: start and end are checked together, by themselves and then by the number of bytes behind them.
+-- 46: start and end are checked together, by themselves and then by the number of bytes after them.
 abbrev pub checkRange : ℕ → ℕ × ℕ → Check (ℕ × ℕ)
 checkRange behind p =
     pick (leb (p .0) (p .1)) (pick (eqb behind (p .1 - p .0)) (passes p) (violates dataLength)) (violates order)

@@ -89,7 +89,7 @@ CountsFit partMet m = PartMetFits m
 CountsFit loneQuery m = QueryFits m
 CountsFit loneTags m = TagsFit m
 
--- The number that a writer gives for a message before it looks at the room.
+-- The number that a writer gives for a message before it checks the room.
 pub data Judged (k : Kind) (m : Message k) : ℕ → Type 0 where
   overflows : (CountsFit k m → ⊥) → Judged k m 6
   another : CountsFit k m → (n : Message k) → (n ≡ m → ⊥) → decode k (encode k m) ≡ accepted n → Judged k m 5

@@ -24,7 +24,7 @@ few-left : (l : List ℕ) (n s e : ℕ) → Holds l n → s < e → length (subt
 few-left l n s e h r =
     omega (arith, one-more (getD l 0 0) 0 (gapsIn l) s e r (h .ordered), length-gaps l n h, h .few)
 
--- Judging: the gap at i decides, or those behind it
+-- Judging: the gap at i decides, or those after it
 module _ (l : List ℕ) (i : ℕ) (h : i < getD l 1 0) (k : getD l 1 0 ≤ 64) where
   pub judge-next : (low : ℕ) → ordered (getD l 0 0) low (drop i (gapsIn l))
       ≡ (follows (getD l 0 0) low (gapAt l i) && ordered (getD l 0 0) (gapAt l i .end + 1) (drop (i + 1) (gapsIn l)))
@@ -35,7 +35,7 @@ module _ (l : List ℕ) (i : ℕ) (h : i < getD l 1 0) (k : getD l 1 0 ≤ 64) w
   unfolding total
   total-next = rw (drop-in l i h k) refl
 
-  -- Keeping: the gap at i is put behind those from `from` on
+  -- Keeping: the gap at i is put after those from `from` on
   pub keep-next : (from : ℕ) → from ≤ i → (kept : List Gap) → length kept + (i - from) < 65
       → putGap (filled (kept ++ slice from i (gapsIn l))) (length kept + (i - from)) (gapAt l i .start) (gapAt l i .end)
       ≡ filled (kept ++ slice from (i + 1) (gapsIn l))
@@ -58,7 +58,7 @@ module _ (l : List ℕ) (n : ℕ) (h : Holds l n) (s e : ℕ) (r : s < e) (i cou
   length-cut =
       rw (c .filled) (length-filled (c .kept) (omega (arith, simp length-append at (ap length (c .joined)), few-left l n s e h r)))
 
--- Cutting: the gap at i, and those behind it
+-- Cutting: the gap at i, and those after it
 module _ (l : List ℕ) (n : ℕ) (h : Holds l n) (i : ℕ) (k : i < n) where
   abbrev x : Gap
   x = gapAt l i
@@ -148,7 +148,7 @@ module _ (l : List ℕ) (n : ℕ) (h : Holds l n) (i : ℕ) (k : i < n) where
             w ∙ omega (arith, total-remaining x s e r, c .weighed, ap total first);
       }
 
--- The gaps behind the range are kept
+-- The gaps after the range are kept
 module _ (l : List ℕ) (n : ℕ) (h : Holds l n) (s e : ℕ) (r : s < e) (i count missing : ℕ) (made : List ℕ) (c : Cut l s e i count missing made)
     (behind : i < n → e ≤ getD l (2 * i + 2) 0) where
   kept-rest : subtract (drop i (gapsIn l)) s e ≡ drop i (gapsIn l)

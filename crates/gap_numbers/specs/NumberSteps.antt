@@ -29,7 +29,7 @@ pub record Holds (l : List ℕ) (n : ℕ) : Type 0 where
 unfoldable pub filled : List Gap → List ℕ
 filled kept = pairNumbers (map placeOf kept) ++ replicate (130 - 2 * length kept) 0
 
--- a gap is put behind `count` gaps
+-- a gap is put after `count` gaps
 abbrev pub putGap : List ℕ → ℕ → ℕ → ℕ → List ℕ
 putGap made count a b = set (set made (2 * count) a) (2 * count + 1) b
 

@@ -95,7 +95,7 @@ fn count_before(numbers: &[u64], n: usize, start: u64) -> usize
     i
 }
 
-// Puts a gap behind `count` gaps.
+// Puts a gap after `count` gaps.
 fn put_gap(made: &mut [u64], count: usize, a: u64, b: u64)
     requires { ⌜ 2 * count + 2 ≤ length (now made) ⌝ }
     ensures { λ _. ⌜ now (made .exit) ≡ putGap (now (made .entry)) count a b ⌝ }
@@ -117,7 +117,7 @@ fn put_piece(made: &mut [u64], count: usize, a: u64, b: u64) -> usize
     count + 1
 }
 
-// Puts the gaps from `from` up to `to` behind `count` gaps.
+// Puts the gaps from `from` up to `to` after `count` gaps.
 fn keep(numbers: &[u64], from: usize, to: usize, count: usize, made: &mut [u64])
     requires { ⌜ (from ≤ to) × (to ≤ getD (now numbers) 1 0) × (getD (now numbers) 1 0 ≤ 64) × (130 ≤ length (now numbers))
         × (length (now made) ≡ 130) × (count + (to - from) ≤ 65) ⌝ }
@@ -152,7 +152,7 @@ fn span(a: u64, b: u64) -> u64
     if a < b { b - a } else { 0 }
 }
 
-// Takes the range out of the gaps from `from` on, up to the first that begins at its end or behind it.
+// Takes the range out of the gaps from `from` on, up to the first that begins at its end or after it.
 fn cut(
     numbers: &[u64],
     n: usize,

@@ -75,7 +75,7 @@ module _ (g : GapRecord) (i : ℕ) (a : At g i) (h : i < g .count) where
 few-gaps : (g : GapRecord) → g .count ≤ 64 → length (gapsOf g) ≤ 64
 few-gaps g h = rw (length-map (take (g .count) (g .gaps)) gapOf) (simp length-take (omega arith))
 
--- a record with a lawful size and count is judged by its gaps
+-- a record with a lawful size and count is checked by its gaps
 pub lawful-by-gaps : (limit : ℕ) (g : GapRecord) → g .count ≤ 64 → g .size ≤ limit
     → lawfulRecord limit g ≡ ordered (g .size) 0 (gapsOf g)
 unfolding lawfulRecord lawful

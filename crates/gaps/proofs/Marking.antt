@@ -30,7 +30,7 @@ markable-exactly limit g s e = (
   λ m. rw (lawful-record-exactly limit g .1 (m .counted, m .lawful), lt-ltb s e (m .order), le-leb e (g .size) (m .inside)) refl,
 )
 
--- The steps of `mark` come to its answer: p is what its subtraction hands back.
+-- The steps of `mark` come to its answer: p is what its subtraction returns.
 module _ (limit : ℕ) (g : GapRecord) (s e : ℕ) (k : markable limit g s e ≡ true) (p : Pushed) (q : p ≡ subtracted g s e) where
   abbrev left : List Gap
   left = subtract (gapsOf g) s e
@@ -135,7 +135,7 @@ module _ (limit : ℕ) (g : GapRecord) (s e : ℕ) where
       back f (too-many m _ _) = absurd (f m)
       back f (barred _ q) = numbered q
 
-  -- a refusal hands back the record given and no count
+  -- a refusal returns the record given and no count
   pub refused-as-given : (answer .number ≡ 0 → ⊥) → answer ≡ refusal (answer .number) g
   refused-as-given h = go outcome
     where

@@ -32,7 +32,7 @@ noneMissing size = recordOf size []
 abbrev pub allMissing : ℕ → GapRecord
 allMissing size = recordOf size (between 0 size)
 
--- A lawful gap record, as document 01 says. Its unused places are not judged.
+-- A lawful gap record, as document 01 says. Its unused places are not checked.
 unfoldable pub lawfulRecord : ℕ → GapRecord → Bool
 lawfulRecord limit g = leb (g .count) gapLimit && lawful limit (g .size) (gapsOf g)
 

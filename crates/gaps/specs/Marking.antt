@@ -20,7 +20,7 @@ pub record Markable (limit : ℕ) (g : GapRecord) (start end : ℕ) : Type 0 whe
 unfoldable pub markable : ℕ → GapRecord → ℕ → ℕ → Bool
 markable limit g start end = lawfulRecord limit g && inside (g .size) start end
 
--- a refusal hands back the record given, and no count
+-- a refusal returns the record given, and no count
 abbrev pub refusal : ℕ → GapRecord → Marked
 refusal number g = record { number = number; missing = 0; after = g }
 

@@ -16,7 +16,7 @@ pub struct Gap {
     pub end: u64,
 }
 
-// The first `count` places hold the gaps. In every record made here the others hold 0; in a record given they are not judged.
+// The first `count` places hold the gaps. In every record made here the others hold 0; in a record given they are not checked.
 pub struct GapRecord {
     pub size: u64,
     pub count: usize,
@@ -61,7 +61,7 @@ pub fn all_missing(size: u64) -> GapRecord
     p.after
 }
 
-// Whether a gap may stand behind gaps that end before `low`.
+// Whether a gap may stand after gaps that end before `low`.
 fn may_follow(x: Gap, low: u64, size: u64) -> bool
     ensures { λ r. ⌜ r ≡ follows size low (gapOf x) ⌝ }
 {

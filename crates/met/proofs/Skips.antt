@@ -1,4 +1,4 @@
--- Laws of going over an entry: where it ends when its parts lie there.
+-- Laws of skipping an entry: where it ends when its parts lie there.
 use Prim.Native.Nat.{ℕ, _+_, _*_, _≤_}
 use mathlib.Core.Path.{_≡_, refl, sym}
 use mathlib.Core.Logic.{inl, inr}

@@ -70,7 +70,7 @@ abbrev pub KnownMetStepPlaced : List ℕ → KnownMetStep → Type 0
 KnownMetStepPlaced s (KnownMetStep.Got m c) = KnownMetPlaced s m
 KnownMetStepPlaced s (KnownMetStep.Refused f) = Unit {0}
 
--- What a caller is told of a whole file.
+-- What a caller gets of a whole file.
 abbrev pub knownReply : List ℕ → KnownAnswer → Reply messages.KnownMet
 knownReply s (KnownAnswer.Accepted m) = message (knownMetIn s m)
 knownReply s (KnownAnswer.Refused n) = refusedWith n
@@ -222,12 +222,12 @@ abbrev pub sizeFound : Check (ℕ × List messages.Tag) → ℕ
 sizeFound (passes p) = p .0
 sizeFound (violates rule) = 0
 
--- What a caller is told of the gaps of a part.met: 0 and the record of its gaps, or the number of the refusal and an empty record.
+-- What a caller gets of the gaps of a part.met: 0 and the record of its gaps, or the number of the refusal and an empty record.
 abbrev pub gapsAnswer : Reply messages.PartMet → GapsAnswer
 gapsAnswer (refusedWith n) = record { number = n; gaps = noneMissing 0 }
 gapsAnswer (message m) = record { number = 0; gaps = recordOf (sizeFound (checkPartTags (tagsOf m))) (gapsOf (tagsOf m)) }
 
--- What the methods `fault` hand up.
+-- What the methods `fault` propagate.
 abbrev pub fileEntryFault : FileEntryStep → Fault
 fileEntryFault (FileEntryStep.Got e c) = noFault
 fileEntryFault (FileEntryStep.Refused f) = f

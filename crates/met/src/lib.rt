@@ -98,7 +98,7 @@ fn read_opening(s: &[u8], c: Cursor) -> ByteStep
 
 // known.met
 
-// An entry of known.met, and all that stands behind the opening byte of a part.met that opens with E0. `hash` is the place
+// An entry of known.met, and all that stands after the opening byte of a part.met that opens with E0. `hash` is the place
 // of its 16 bytes, `parts` the list of the part hashes.
 pub struct FileEntry {
     pub date: u32,
@@ -155,7 +155,7 @@ pub fn read_file_entry(s: &[u8], c: Cursor) -> FileEntryStep
     )
 }
 
-// To go over entries without their values, as crates/tags goes over tags: the place behind what lies whole at a place, or 0 where the tests
+// To skip entries without their values, as crates/tags skips tags: the offset after what lies whole at a place, or 0 where the tests
 // do not tell.
 
 fn file_entry_end(s: &[u8], at: usize) -> usize
@@ -450,7 +450,7 @@ pub enum ServerAnswer {
     Refused(u8),
 }
 
-// All behind the last entry is tail, so that no bytes are left over.
+// All after the last entry is tail, so that no bytes are left over.
 pub fn read_server_met(s: &[u8]) -> ServerAnswer
     ensures meaning { λ r. ⌜ serverReply (now (s .entry)) r ≡ reply (decode serverMet (now (s .entry))) ⌝ }
     ensures placed { λ r. ⌜ ServerAnswerPlaced (now (s .entry)) r ⌝ }
@@ -496,7 +496,7 @@ fn block_hash_by_block_hash(s: &[u8], first: Cursor, n: u32) -> ItemsStep
     )
 }
 
-// Block hashes all have 8 bytes: where the bytes of all are there, none is looked at.
+// Block hashes all have 8 bytes: where the bytes of all are there, none is read.
 pub fn block_hashes_from(s: &[u8], first: Cursor, n: u32) -> ItemsStep
     ensures meaning { λ r. ⌜ itemsMeaning (decodeRun 8) (now (s .entry)) r ≡ decodeMany n (decodeRun 8) (now (s .entry)) (first .at) ⌝ }
     ensures placed { λ r. ⌜ ItemsStepPlaced (decodeRun 8) (now (s .entry)) r ⌝ }
@@ -513,7 +513,7 @@ pub fn block_hashes_from(s: &[u8], first: Cursor, n: u32) -> ItemsStep
     ItemsStep::Got(Items { at, end, count: n }, Cursor { at: end })
 }
 
-// Before each block stands a mark, and behind the last one the closing mark.
+// Before each block stands a mark, and after the last one the closing mark.
 enum Mark {
     Stop,
     More,
@@ -578,7 +578,7 @@ impl BlocksStep {
     }
 }
 
-// What stands behind the part hashes: the closing mark, or a second block and the closing mark.
+// What stands after the part hashes: the closing mark, or a second block and the closing mark.
 fn read_second_block(s: &[u8], c: Cursor, size: u32, parts: Items) -> BlocksStep
     requires { ⌜ ItemsInside decodeHash (now s) parts ⌝ }
     ensures meaning { λ r. ⌜ blocksMeaning (now (s .entry)) r
@@ -702,7 +702,7 @@ fn read_part_tags(s: &[u8], c: Cursor) -> PartTagsStep
     }
 }
 
-// What stands behind the opening byte E1.
+// What stands after the opening byte E1.
 pub struct PartE1 {
     pub date: u32,
     pub hash: usize,
@@ -744,7 +744,7 @@ impl PartMetStep {
     }
 }
 
-// Behind E0 stands one entry, as in known.met, whose tags are checked.
+// After E0 stands one entry, as in known.met, whose tags are checked.
 fn read_part_e0(s: &[u8], c: Cursor) -> PartMetStep
     ensures meaning { λ r. ⌜ partMetMeaning (now (s .entry)) r ≡ decodePartBody isE0 (now (s .entry)) (c .at) ⌝ }
     ensures placed { λ r. ⌜ PartMetStepPlaced (now (s .entry)) r ⌝ }
@@ -775,7 +775,7 @@ fn read_part_e0(s: &[u8], c: Cursor) -> PartMetStep
     PartMetStep::Got(PartMet::E0(entry), size, next)
 }
 
-// The tags are checked before the blocks are looked at, and their size says how many hashes a block has.
+// The tags are checked before the blocks are read, and their size says how many hashes a block has.
 fn read_part_e1(s: &[u8], c: Cursor) -> PartMetStep
     ensures meaning { λ r. ⌜ partMetMeaning (now (s .entry)) r ≡ decodePartBody isE1 (now (s .entry)) (c .at) ⌝ }
     ensures placed { λ r. ⌜ PartMetStepPlaced (now (s .entry)) r ⌝ }

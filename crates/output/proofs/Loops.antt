@@ -25,7 +25,7 @@ module _ (all old : List ℕ) where
       let n : wrote ≡ length all = omega (arith, w .within, ap length (w .ahead ∙ none), length-drop wrote all) in
       (n, w .holds ∙ ap (λ l. overwritten l old) (ap (λ k. take k all) n ∙ take-length all))
 
-  -- the next piece, and what is left behind it
+  -- the next piece, and what is left after it
   module _ (room : length all ≤ length old) (out : List ℕ) (wrote : ℕ) (left piece later : List ℕ)
       (w : WrittenSoFar out wrote left) (next : left ≡ piece ++ later) where
     pub piece-room : wrote + length piece ≤ length all

@@ -1,7 +1,7 @@
 // Writing at the front of a lent output: each function is lent the rest of the output from the present place on,
-// `&mut out[at..]`, writes there, and changes nothing behind what it wrote.
+// `&mut out[at..]`, writes there, and changes nothing after what it wrote.
 //
-// The functions that write are for the crates above alone: each requires that its caller has looked at the room before.
+// The functions that write are for the crates above alone: each requires that its caller has checked the room before.
 ghost use mathlib.Core.Path.{_≡_};
 ghost use mathlib.Core.Logic.{_↔_};
 ghost use Prim.Native.Nat.{_+_, _≤_, _<_};

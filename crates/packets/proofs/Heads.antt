@@ -1,4 +1,4 @@
--- The packet behind a head that ends with its opcode.
+-- The packet after a head that ends with its opcode.
 use Prim.Native.Nat.{ℕ}
 use mathlib.Core.Path.{_≡_, refl}
 use mathlib.Core.List.{List}

@@ -37,7 +37,7 @@ abbrev pub headMeaning : HeadStep → Outcome (ℕ × messages.Shape)
 headMeaning (HeadStep.Got n s c) = got (n, shapeOf s) (c .at)
 headMeaning (HeadStep.Refused f) = refused (faultMeaning f)
 
--- The packet whose head was read: its body lies behind.
+-- The packet whose head was read: its body lies after.
 abbrev pub packetBehind : List ℕ → HeadStep → Outcome messages.Packet
 packetBehind s (HeadStep.Got n shape c) = (decodeBody (shapeOf shape) >>= (λ body. pure (record { opening = 0xE3; opcode = n; body = body }))) s (c .at)
 packetBehind s (HeadStep.Refused f) = refused (faultMeaning f)
@@ -45,7 +45,7 @@ packetBehind s (HeadStep.Refused f) = refused (faultMeaning f)
 abbrev pub packetIn : List ℕ → Packet → messages.Packet
 packetIn s p = record { opening = p .opening; opcode = p .opcode; body = bodyIn s (p .body) }
 
--- What a caller is told.
+-- What a caller gets.
 abbrev pub packetReply : List ℕ → PacketAnswer → Reply messages.Packet
 packetReply s (PacketAnswer.Accepted p) = message (packetIn s p)
 packetReply s (PacketAnswer.Refused n) = refusedWith n

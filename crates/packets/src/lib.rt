@@ -142,7 +142,7 @@ fn udp_shape(code: u8) -> Listed
     }
 }
 
-// The shape of the body behind an opcode of a link.
+// The shape of the body after an opcode of a link.
 pub fn shape_of(link: Link, code: u8) -> Listed
     ensures { λ r. ⌜ shapeMeaning r ≡ lookup (opcodesOf link) code ⌝ }
 {
@@ -173,7 +173,7 @@ fn read_opening(s: &[u8], c: Cursor) -> ByteStep
     })
 }
 
-// The header's length, which must be the number of bytes behind it, and not 0.
+// The header's length, which must be the number of bytes after it, and not 0.
 fn read_length(s: &[u8], c: Cursor) -> DwordStep
     ensures { λ r. ⌜ dwordMeaning r ≡ decodeLength (now (s .entry)) (c .at) ⌝ }
 {
@@ -197,7 +197,7 @@ fn read_length(s: &[u8], c: Cursor) -> DwordStep
     DwordStep::Refused(fault)
 }
 
-// The opcode, and the shape of what stands behind it.
+// The opcode, and the shape of what stands after it.
 fn read_opcode(s: &[u8], c: Cursor, link: Link) -> HeadStep
     ensures { λ r. ⌜ headMeaning r ≡ decodeOpcode (opcodesOf link) (now (s .entry)) (c .at) ⌝ }
 {

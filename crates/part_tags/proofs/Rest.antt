@@ -56,7 +56,7 @@ module _ {A : Type 0} (d : Decoder A) (s : List ℕ) (n : ℕ) where
           next = rw (m, ← e) (items-cons s a (decodeMany (n - (i + 1)) d s p) (sym same ∙ placed));
         }
 
-    -- the next item and what lies behind it, by the place behind it alone
+    -- the next item and what lies after it, by the offset after it alone
     pub turn-behind : {p : ℕ} → p ≡ placeBehind (d s at) → (a : A) × ((got a p ≡ d s at) × Turn first i at a p)
     turn-behind {p} e = go (d s at) refl
       where

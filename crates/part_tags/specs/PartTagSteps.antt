@@ -65,7 +65,7 @@ joined Sizes.None (Number.Some n) = Sizes.One n
 joined (Sizes.One m) (Number.Some n) = Sizes.Many
 joined Sizes.Many (Number.Some n) = Sizes.Many
 
--- the check of the sizes seen, with others behind them
+-- the check of the sizes seen, with others after them
 abbrev pub soleAfter : Sizes → List ℕ → Check ℕ
 soleAfter Sizes.None l = sole l
 soleAfter (Sizes.One n) l = sole (n ∷ l)

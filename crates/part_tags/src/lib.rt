@@ -1,10 +1,10 @@
 // The check of a part.met's tag list: exactly one size tag; then the gap tags, from left to right; and the gap record
 // that they stand for.
 //
-// The list has been read before. Its tags are gone over again, one by one, in two passes: the first looks for the size, the
+// The list has been read before. Its tags are skipped again, one by one, in two passes: the first looks for the size, the
 // second goes through the gap tags and keeps their pairs, at most 64. A tag is read again only where the first byte of its
 // name says that it may be the size or a gap tag. A tag that is no gap tag leaves the pairs where they are. They are copied
-// at gap tags alone, of which at most 129 are looked at, so that the whole check is linear in the bytes.
+// at gap tags alone, of which at most 129 are read, so that the whole check is linear in the bytes.
 //
 // specs/PartTagAnswers.antt says what the answer stands for, specs/PartTagSteps.antt what the private steps answer.
 ghost use mathlib.Core.Path.{_≡_};
@@ -334,7 +334,7 @@ fn push(pairs: Pairs, pair: Pair) -> Pairs
     after
 }
 
-// A tag that breaks a rule. The pairs are handed back as they are.
+// A tag that breaks a rule. The pairs are returned as they are.
 fn violation(rule: Rule, pairs: Pairs) -> Stepped
     requires { ⌜ pairs .count ≤ gapLimit ⌝ }
     ensures { λ r. ⌜ ((s : List ℕ) → steppedMeaning s r ≡ violates (ruleMeaning rule)) ⌝ }
@@ -387,7 +387,7 @@ fn step_start(s: &[u8], pairs: Pairs, digits: Place, start: u32) -> Stepped
     }
 }
 
-// An end tag behind the start tag of a pending pair, with the digits `own` of its own.
+// An end tag after the start tag of a pending pair, with the digits `own` of its own.
 fn step_end(
     s: &[u8],
     size: u32,

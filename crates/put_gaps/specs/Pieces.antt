@@ -1,4 +1,4 @@
--- The pieces of a part.met's bytes: all before the tag list, the tag list, all behind it; and the pieces of a new tag list.
+-- The pieces of a part.met's bytes: all before the tag list, the tag list, all after it; and the pieces of a new tag list.
 use Prim.Native.Nat.{ℕ, _+_, _-_, _*_, _≤_}
 use mathlib.Core.Path.{_≡_}
 use mathlib.Core.List.{List, [], _∷_, _++_}
@@ -18,7 +18,7 @@ use Rattle.met.specs.declared.PartMet as code
 use Rattle.met.specs.MetAnswers.{partMetIn, PartMetPlaced, tagsPlace}
 use Rattle.put_gaps.specs.declared.Sizes.{Sizes}
 
--- The bytes before the tag list and behind it.
+-- The bytes before the tag list and after it.
 unfoldable pub headOf : PartMet → List ℕ
 headOf (e0 e) = byte 0xE0 ++ (dword (e .date) ++ (encodeHash (e .hash) ++ counted word encodeHash (e .parts)))
 headOf (e1 m) = byte 0xE1 ++ (byte 0x02 ++ (dword (m .date) ++ encodeHash (m .hash)))
@@ -27,7 +27,7 @@ unfoldable pub tailOf : PartMet → List ℕ
 tailOf (e0 e) = []
 tailOf (e1 m) = encodeHashBlocks (m .blocks)
 
--- Where the tag list begins: behind E0, date, hash, WORD count and the part hashes; or behind E1, 02, date and hash.
+-- Where the tag list begins: after E0, date, hash, WORD count and the part hashes; or after E1, 02, date and hash.
 abbrev pub tagsAt : code.PartMet → ℕ
 tagsAt (code.PartMet.E0 e) = 23 + 16 * (e .parts .count)
 tagsAt (code.PartMet.E1 m) = 22

@@ -1,7 +1,7 @@
 // Putting a gap record into a part.met: all but the gap tags stay, in order, and the gaps follow as pairs of tags.
 //
 // The new file is the old one with another tag list: the bytes before the list as they were, the new count, the tags that
-// are no gap tags copied one by one, the pairs of gap tags, and the bytes behind the list as they were. All is judged
+// are no gap tags copied one by one, the pairs of gap tags, and the bytes after the list as they were. All is checked
 // and the length of the new file is known before the first byte is written.
 //
 // specs/PutAnswers.antt says what the answer stands for, specs/Pieces.antt what the private steps write.
@@ -52,7 +52,7 @@ fn refused(number: u8) -> PutAnswer
     PutAnswer { number, length: 0 }
 }
 
-// Where the tag list begins: behind E0, date, hash, WORD count and the part hashes; or behind E1, 02, date and hash.
+// Where the tag list begins: after E0, date, hash, WORD count and the part hashes; or after E1, 02, date and hash.
 fn tags_at(part: PartMet) -> usize
     ensures { λ r. ⌜ r ≡ tagsAt part ⌝ }
 {

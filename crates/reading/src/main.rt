@@ -13,7 +13,7 @@ use read_any::summarize;
 ghost use Prim.Native.Nat.{_<_};
 ghost use lib.ListN.{length};
 
-// Whether more comes behind the n bytes that were read. Where they fill the buffer, the next one is read into the first
+// Whether more comes after the n bytes that were read. Where they fill the buffer, the next one is read into the first
 // place, which is restored.
 fn more_comes(bytes: &mut [u8], n: usize) -> bool
     requires { ⌜ 0 < length (now bytes) ⌝ }

@@ -1,6 +1,6 @@
 // Addresses, records and lists of these and of hashes: what packets and met files are made of besides tags.
 //
-// A list is handed back as its place (Items). To walk it, start a cursor at its first item and read item after item with
+// A list is returned as its place (Items). To walk it, start a cursor at its first item and read item after item with
 // the reader of one item, as many as the list counts.
 ghost use mathlib.Core.Path.{_≡_};
 ghost use Rattle.format.specs.Decoding.{decodeMany};
@@ -133,7 +133,7 @@ fn address_by_address(s: &[u8], first: Cursor, n: u32) -> ItemsStep
     )
 }
 
-// Addresses all have 6 bytes: where the bytes of all are there, none is looked at.
+// Addresses all have 6 bytes: where the bytes of all are there, none is read.
 pub fn addresses_from(s: &[u8], first: Cursor, n: u32) -> ItemsStep
     ensures meaning { λ r. ⌜ itemsMeaning decodeAddress (now (s .entry)) r ≡ decodeMany n decodeAddress (now (s .entry)) (first .at) ⌝ }
     ensures placed { λ r. ⌜ ItemsStepPlaced decodeAddress (now (s .entry)) r ⌝ }

@@ -20,7 +20,7 @@ fn refused(number: u8) -> SaveAnswer
 }
 
 // `stored` is the file as it is now, `opened` as it was read, both of any bytes; two empty ones are equal: a first save. The new
-// bytes are judged first. `out` takes them at its front and is not touched behind them, nor by a refusal.
+// bytes are checked first. `out` takes them at its front and is not touched after them, nor by a refusal.
 pub fn save(stored: &[u8], opened: &[u8], new: &[u8], out: &mut [u8]) -> SaveAnswer
     ensures { λ r. ⌜ savedMeaning r (now (out .exit))
         ≡ save (now (stored .entry)) (now (opened .entry)) (now (new .entry)) (now (out .entry)) ⌝ }

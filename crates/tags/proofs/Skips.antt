@@ -1,4 +1,4 @@
--- Laws of going over a tag: where it and its parts end when they lie there.
+-- Laws of skipping a tag: where it and its parts end when they lie there.
 use Prim.Native.Nat.{ℕ, _+_, _*_, _≤_, _<_}
 use mathlib.Core.Path.{_≡_, refl, sym, ap}
 use mathlib.Core.Bool.{Bool, true, false}
@@ -108,7 +108,7 @@ module _ (s : List ℕ) (at n code : ℕ) (is : code ≡ getD s at 0) (e : n ≡
       go none l (inr v) = differ cc
       go (some t) l (inr v) = inr (ends-with t l v)
 
--- What ends there has that place behind it; and what has a place behind it ends there.
+-- What ends there has that offset after it; and what has an offset after it ends there.
 pub ends-behind : {A : Type 0} (o : Outcome A) {r : ℕ} → EndsThere (ends o) r → (r ≡ 0 → ⊥) → r ≡ placeBehind o
 ends-behind o (inl z) other = absurd (other z)
 ends-behind o (inr e) other = rw (← ended-got o (sym e) .1) refl

@@ -1,4 +1,4 @@
--- Where what lies at a place ends, as the functions that go over a tag find it.
+-- Where what lies at a place ends, as the functions that skip a tag find it.
 use mathlib.Core.Path.{_≡_}
 use mathlib.Core.Logic.{_⊎_}
 use mathlib.Core.Option.{Option, none, some}
@@ -12,7 +12,7 @@ use Rattle.format.specs.Order.{decodeValueOf}
 abbrev pub EndsThere : Outcome (Unit {0}) → ℕ → Type 0
 EndsThere o r = (r ≡ 0) ⊎ (o ≡ got tt r)
 
--- The place behind what lies there, or 0 where it is refused.
+-- The offset after what lies there, or 0 where it is refused.
 abbrev pub placeBehind : {A : Type 0} → Outcome A → ℕ
 placeBehind (refused f) = 0
 placeBehind (got a next) = next

@@ -65,7 +65,7 @@ TagStepInside s (TagStep.Refused f) = Unit {0}
 abbrev pub tagsIn : List ℕ → Items → List messages.Tag
 tagsIn s l = itemsIn decodeTag s l
 
--- What a caller is told of a lone tag list.
+-- What a caller gets of a lone tag list.
 abbrev pub tagListReply : List ℕ → TagListAnswer → Reply (List messages.Tag)
 tagListReply s (TagListAnswer.Accepted l) = message (tagsIn s l)
 tagListReply s (TagListAnswer.Refused n) = refusedWith n
@@ -74,7 +74,7 @@ abbrev pub TagListPlaced : List ℕ → TagListAnswer → Type 0
 TagListPlaced s (TagListAnswer.Accepted l) = ItemsInside decodeTag s l
 TagListPlaced s (TagListAnswer.Refused n) = Unit {0}
 
--- What the methods `fault` hand up.
+-- What the methods `fault` propagate.
 abbrev pub typeFault : TypeStep → Fault
 typeFault (TypeStep.Got t c) = noFault
 typeFault (TypeStep.Refused f) = f

@@ -2,7 +2,7 @@
 //
 // A tag is a type byte, a name and a value; a tag list is a DWORD count and the tags. The readers copy nothing: a name, a
 // text and a hash are places in the lent bytes, and a list is the place of its tags and how many they are. A caller goes
-// through a list by `read_tag` from that place on, which answers with the cursor behind each tag.
+// through a list by `read_tag` from that place on, which answers with the cursor after each tag.
 //
 // specs/TagAnswers.antt says what each answer stands for.
 ghost use mathlib.Core.Path.{_≡_};
@@ -52,7 +52,7 @@ pub enum TagValue {
     Float(u32),
 }
 
-// A name of one byte is a published special tag; the others are texts. Names are told apart by their bytes alone.
+// A name of one byte is a published special tag; the others are texts. Names are reported apart by their bytes alone.
 pub struct Tag {
     pub name_at: usize,
     pub name_len: usize,
@@ -191,8 +191,8 @@ pub fn read_tag(s: &[u8], c: Cursor) -> TagStep
     )
 }
 
-// To go over tags without their values, most of them need a few tests and no step of the cursor. Each function below answers with the place
-// behind what lies whole at a place, or with 0 where its tests do not tell: nothing ends at 0.
+// To skip tags without their values, most of them need a few tests and no step of the cursor. Each function below answers with the place
+// after what lies whole at a place, or with 0 where its tests do not tell: nothing ends at 0.
 
 // How many bytes a value has that is no text.
 fn fixed_width(code: u8) -> usize
@@ -276,7 +276,7 @@ fn tag_end(s: &[u8], at: usize) -> usize
     value_end(s, name + n, code)
 }
 
-// The place behind a tag; 0 for one that is refused.
+// The offset after a tag; 0 for one that is refused.
 pub fn tag_behind(s: &[u8], at: usize) -> usize
     ensures { λ r. ⌜ r ≡ placeBehind (decodeTag (now (s .entry)) at) ⌝ }
 {
@@ -333,7 +333,7 @@ fn tag_by_tag(s: &[u8], first: Cursor, n: u32) -> ItemsStep
     )
 }
 
-// n tags one after the other. Every tag is gone over, so that the list handed back is known to lie there whole; where the tests do not tell,
+// n tags one after the other. Every tag is skipped, so that the list returned is known to lie there whole; where the tests do not tell,
 // the tags are read again one by one for the fault.
 pub fn tags_from(s: &[u8], first: Cursor, n: u32) -> ItemsStep
     ensures meaning { λ r. ⌜ itemsMeaning decodeTag (now (s .entry)) r ≡ decodeMany n decodeTag (now (s .entry)) (first .at) ⌝ }
@@ -347,7 +347,7 @@ pub fn tags_from(s: &[u8], first: Cursor, n: u32) -> ItemsStep
     ItemsStep::Got(Items { at, end, count: n }, Cursor { at: end })
 }
 
-// The place behind a tag list; 0 for one that is refused.
+// The offset after a tag list; 0 for one that is refused.
 pub fn tag_list_end(s: &[u8], at: usize) -> usize
     ensures { λ r. ⌜ r ≡ placeBehind (decodeTags (now (s .entry)) at) ⌝ }
 {

@@ -3,13 +3,9 @@
 use console::Input;
 use console::next_input;
 use libc::STDOUT_FILENO;
-use write_met::write_known_met;
-use write_met::write_server_met;
+use output::same;
 use packets::Link;
 use packets::Packet;
-use write_packets::write_packet;
-use write_part::write_part_met;
-use output::same;
 use read_any::Answer;
 use read_any::Kind;
 use read_any::Message;
@@ -17,6 +13,10 @@ use read_any::read;
 use std::num::wrapping_add_u64;
 use wire::bytes_at;
 use write_items::WriteAnswer;
+use write_met::write_known_met;
+use write_met::write_server_met;
+use write_packets::write_packet;
+use write_part::write_part_met;
 
 struct Tally {
     read: u64,

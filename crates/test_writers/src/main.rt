@@ -6,15 +6,15 @@ use bodies::StatusRequest;
 use met::HashBlocks;
 use met::PartE1;
 use met::PartMet;
+use output::same;
 use packets::Link;
 use packets::Packet;
 use packets::opcode;
-use write_packets::write_packet;
-use write_part::write_part_met;
-use output::same;
 use wire::Items;
 use wire::bytes_at;
 use write_items::WriteAnswer;
+use write_packets::write_packet;
+use write_part::write_part_met;
 
 // A hash, the size tag of 972,800 bytes (one part, two blocks), and 16 bytes that are one part hash or two block hashes.
 const SOURCE: [u8; 40] = [

@@ -1,4 +1,4 @@
--- The laws of the loops that compare bytes: i bytes are behind, and the rest decides.
+-- The laws of the loops that compare bytes: i bytes are after, and the rest decides.
 use Prim.Native.Nat.{ℕ, _+_, _-_, _<_, _≤_}
 use mathlib.Core.Path.{_≡_, refl, _∙_}
 use mathlib.Core.Bool.{Bool, true, false}

@@ -1,4 +1,4 @@
--- The value of a tag that has another type than the one that is looked for. Behind a `let .. else` the other types are known by
+-- The value of a tag that has another type than the one that is looked for. After a `let .. else` the other types are known by
 -- their places in the enum: 0 a hash, 1 a text, 2 a DWORD, 3 a FLOAT.
 use Prim.Native.Nat.{ℕ}
 use mathlib.Core.Path.{_≡_, refl}

@@ -65,7 +65,7 @@ truthStepMeaning (TruthStep.Refused f) = refused (faultMeaning f)
 abbrev pub truthMeaning : Truth → TruthReply
 truthMeaning t = record { number = t .number; holds = t .holds }
 
--- What the method `fault` hands up.
+-- What the method `fault` propagates.
 abbrev pub truthFault : TruthStep → Fault
 truthFault (TruthStep.Got b c) = noFault
 truthFault (TruthStep.Refused f) = f

@@ -1,6 +1,6 @@
 // The truth of a query on a tag list.
 //
-// The query and the tag list are read over once, and refused as their readers refuse them, the query first. Then the query is
+// The query and the tag list are skipped once, and refused as their readers refuse them, the query first. Then the query is
 // evaluated node by node: an operator asks the same question of its two sides, and a leaf looks for a tag of the list. Nothing is
 // copied: names and texts are compared where they lie in the lent bytes. The work is at most the number of leaves times the bytes
 // of the tag list times the length of the longest text that is looked for.
@@ -41,7 +41,7 @@ use wire::no_fault;
 use wire::number;
 use wire::pair;
 
-// The truth of a query, and the cursor behind the query.
+// The truth of a query, and the cursor after the query.
 enum TruthStep {
     Got(bool, Cursor),
     Refused(Fault),
@@ -189,7 +189,7 @@ fn tag_meets(query: &[u8], leaf: Node, tags: &[u8], tag: Tag) -> bool
 
 // A list is read before the leaves look into it, so that a tag lies whole at each of its places.
 
-// Whether the tag at a place has the type and the name. Its value is not looked at.
+// Whether the tag at a place has the type and the name. Its value is not read.
 fn is_candidate(tags: &[u8], at: usize, code: u8, name: &[u8]) -> bool
     requires { ⌜ Lies (decodeTag (now tags) at) ⌝ }
     ensures { λ r. ⌜ r ≡ onItem (isOf code (now (name .entry))) (decodeTag (now (tags .entry)) at) ⌝ }
@@ -204,7 +204,7 @@ fn is_candidate(tags: &[u8], at: usize, code: u8, name: &[u8]) -> bool
     equal(bytes_at(tags, at + 3, n), name)
 }
 
-// The place behind the tag at a place, whose name has n bytes. It jumps by the type: a list is gone through once for each leaf, so that the
+// The offset after the tag at a place, whose name has n bytes. It jumps by the type: a list is gone through once for each leaf, so that the
 // jumps are guessed right, unlike those of a list that is read once.
 fn behind_named(tags: &[u8], at: usize, n: usize) -> usize
     requires { ⌜ Lies (decodeTag (now tags) at) ⌝ }

@@ -28,7 +28,7 @@ module _ {A : Type 0} {d : Decoder A} {encode : A → List ℕ} {Valid : A → T
       (p .0, omega (arith, p .1, codec-many {p = anywhere} n C .sound s (slice-bytes s known) first h _ _ (sym read) tt .inside))
   items-inside (ItemsStep.Refused f) n first h read p = tt
 
-  -- The list behind a count of k bytes.
+  -- The list after a count of k bytes.
   pub counted-inside : (r : ItemsStep) (n first at k : ℕ) → (at + k ≤ length s) × (first ≡ at + k) →
       (itemsMeaning d s r ≡ decodeMany n d s first) × ItemsStepPlaced d s r → (itemsMeaning d s r ≡ decodeMany n d s first) × ItemsStepInside d s r
   counted-inside r n first at k count list = (list .0, items-inside r n first (omega (arith, count .0, count .1)) (list .0) (list .1))

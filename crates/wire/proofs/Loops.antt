@@ -43,7 +43,7 @@ module _ {A : Type 0} (d : Decoder A) (s : List ℕ) (first n : ℕ) where
         → (got (itemsOf (decodeMany n d s first)) at ≡ decodeMany n d s first) × ((ends (decodeMany n d s first) ≡ got tt at) × (at ≡ at))
     finishes h inv = (loop-done d s _ n i at h (inv .1), (loop-ends d s _ n i at h (inv .1), refl))
 
-    -- A step that goes over an item and keeps none of its values.
+    -- A step that skips an item and keeps none of its values.
     pub goes-over : {next : ℕ} → i < n → ReadUpTo d s first n i at → got tt next ≡ ends (d s at) → ReadUpTo d s first n (i + 1) next
     goes-over h inv read = goes-on h inv (ended-got (d s at) read .1)
 

@@ -1,4 +1,4 @@
--- Parts of the lent bytes that begin behind the end or run past it, and the bytes of a DWORD.
+-- Parts of the lent bytes that begin after the end or run past it, and the bytes of a DWORD.
 use Prim.Native.Nat.{ℕ, _+_, _-_, _*_, _≤_, _<_}
 use mathlib.Core.Path.{_≡_, refl, sym, _∙_}
 use mathlib.Core.List.{List, []}

@@ -106,7 +106,7 @@ abbrev pub doneMeaning : DoneStep → Outcome (Unit {0})
 doneMeaning (DoneStep.Got c) = got tt (c .at)
 doneMeaning (DoneStep.Refused f) = refused (faultMeaning f)
 
--- What the methods `fault` hand up. Nothing asks for the fault of a step that is no refusal.
+-- What the methods `fault` propagate. Nothing asks for the fault of a step that is no refusal.
 abbrev pub noFault : Fault
 noFault = record { rule = Rule.Short; at = 0; size = 0 }
 

@@ -1,10 +1,10 @@
 // The cursor, and the items that every packet and file is made of: BYTE, WORD, DWORD, HASH, String and name.
 //
 // A cursor is a place in bytes that the caller lends. It holds no reference to them: each step is lent the bytes, consumes
-// the cursor and answers with what it read and a new cursor, behind it; or with the fault it found. What lies in the bytes
+// the cursor and answers with what it read and a new cursor, after it; or with the fault it found. What lies in the bytes
 // is not copied: a hash, a text or a list is answered as the place where it lies.
 //
-// A fault goes up unchanged. A caller takes the answer apart at once, and hands the fault of a refusal to its own caller:
+// A fault is propagated unchanged. A caller takes the answer apart at once, and hands the fault of a refusal to its own caller:
 //
 //     let w = c.word(s);
 //     let WordStep::Got(n, next) = w else {
@@ -20,7 +20,7 @@ ghost use Rattle.format.specs.Order.{decodeByte, decodeWord, decodeDword, decod
 ghost use Rattle.wire.specs.WireAnswers.{ruleMeaning, byteMeaning, wordMeaning, dwordMeaning, hashMeaning, placeMeaning, PlaceStepInside, doneMeaning};
 ghost use Rattle.wire.specs.WireAnswers.{noFault, byteFault, wordFault, dwordFault, hashFault, placeFault, itemsFault, doneFault};
 
-// The rules that bytes can break. Where the papers give one number to several rules, they are told apart here.
+// The rules that bytes can break. Where document 01 gives one number to several rules, they are reported apart here.
 pub enum Rule {
     Short,
     Opening,
@@ -131,7 +131,7 @@ pub enum DoneStep {
     Refused(Fault),
 }
 
-// What a step that is no refusal hands up as its fault; no caller asks one.
+// What a step that is no refusal propagates as its fault; no caller asks one.
 pub fn no_fault() -> Fault
     ensures { λ r. ⌜ r ≡ noFault ⌝ }
 {
@@ -354,7 +354,7 @@ impl Cursor {
         next.run(s, n as usize)
     }
 
-    // A name is a String of 1 to 255 bytes. Its length is checked before its bytes are looked at.
+    // A name is a String of 1 to 255 bytes. Its length is checked before its bytes are read.
     pub fn name(self, s: &[u8]) -> PlaceStep
         ensures { λ r. ⌜ placeMeaning (now (s .entry)) r ≡ decodeName (now (s .entry)) (self .at) ⌝ }
         ensures inside { λ r. ⌜ PlaceStepInside (now (s .entry)) r ⌝ }

@@ -1,4 +1,4 @@
--- Laws of parts that are put one behind the other.
+-- Laws of parts that are put one after the other.
 use Prim.Native.Nat.{ℕ, _+_, _-_}
 use mathlib.Core.Path.{_≡_, refl, sym, ap, _∙_, subst}
 use mathlib.Core.List.{List, _++_}
@@ -22,7 +22,7 @@ module _ {old new : List ℕ} where
     output = subst (λ l. new ≡ overwritten l old) e (h .output);
   }
 
--- What is lent behind the first part holds the second.
+-- What is lent after the first part holds the second.
 pub then : {p b old e new : List ℕ} {m n k j : ℕ} → Puts p m old e k → Puts b n (midOf k (length e - k) e) new j →
     Puts (p ++ b) (m + n) old (putMid k (length e - k) e new) (k + j)
 then {p} {b} {old} {e} {new} {m} {n} {k} {j} h g = record {

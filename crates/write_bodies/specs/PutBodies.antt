@@ -22,7 +22,7 @@ ListRun s l end = (l .at ≤ end) × Run s (l .at) (end - l .at)
 abbrev pub listBytes : List ℕ → Items → ℕ → List ℕ
 listBytes s l end = bytesAt s (l .at) (end - l .at)
 
--- So many bytes were put at the front of an output, and nothing behind them changed.
+-- So many bytes were put at the front of an output, and nothing after them changed.
 pub record Puts (bytes : List ℕ) (size : ℕ) (old new : List ℕ) (r : ℕ) : Type 0 where
   pub written : r ≡ size
   pub sized : length bytes ≡ size

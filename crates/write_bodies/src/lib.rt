@@ -28,7 +28,7 @@ use wire::Place;
 use write_items::WriteAnswer;
 
 // The bytes of a body, put at the front of what is lent. Each function answers with how many bytes it wrote. They are for put_body
-// alone: each requires that the places were looked at before, that counts fit, and that there is room.
+// alone: each requires that the places were read before, that counts fit, and that there is room.
 
 fn put_run(src: &[u8], at: usize, n: usize, out: &mut [u8]) -> usize
     requires { ⌜ Run (now src) at n × (n ≤ length (now out)) ⌝ }
@@ -312,7 +312,7 @@ fn put_extended_status(p: ExtendedStatus, out: &mut [u8]) -> usize
     4 + wrote
 }
 
-// The bytes of a body that check_body found nothing against; `end` is the place behind its list or query that check_body gave.
+// The bytes of a body that check_body found nothing against; `end` is the offset after its list or query that check_body gave.
 // It is public for the crates above alone: it requires what check_body says, and room.
 pub fn put_body(src: &[u8], b: Body, end: usize, out: &mut [u8]) -> usize
     requires { ⌜ Puttable (now src) b end (now out) ⌝ }
@@ -348,10 +348,10 @@ pub fn put_body(src: &[u8], b: Body, end: usize, out: &mut [u8]) -> usize
     }
 }
 
-// Entries and lists that no reader gave: a caller writes them one behind the other into bytes of its own, and hands their place to a
+// Entries and lists that no reader gave: a caller writes them one after the other into bytes of its own, and hands their place to a
 // writer of messages. Each answers with the number of a refusal, which leaves the output as it was, or with how many bytes it wrote.
 
-// A body by itself. Its values may break a rule of its packet: only places, counts and room are looked at.
+// A body by itself. Its values may break a rule of its packet: only places, counts and room are read.
 fn write_bare(src: &[u8], b: Body, out: &mut [u8]) -> WriteAnswer
     ensures { λ r. ⌜ WritesBody (now (src .entry)) b (now (out .entry)) (answered r (now (out .exit))) ⌝ }
 {
@@ -392,14 +392,14 @@ pub fn write_record(src: &[u8], r: Record, out: &mut [u8]) -> WriteAnswer
     write_bare(src, Body::Record(r), out)
 }
 
-// The addresses that lie at a place of `src`, behind a BYTE that counts them.
+// The addresses that lie at a place of `src`, after a BYTE that counts them.
 pub fn write_addresses(src: &[u8], l: Items, out: &mut [u8]) -> WriteAnswer
     ensures { λ r. ⌜ answered r (now (out .exit)) ≡ writeAddresses (now (src .entry)) l (now (out .entry)) ⌝ }
 {
     write_bare(src, Body::Addresses(l), out)
 }
 
-// The records that lie at a place of `src`, behind a DWORD that counts them.
+// The records that lie at a place of `src`, after a DWORD that counts them.
 pub fn write_records(src: &[u8], l: Items, out: &mut [u8]) -> WriteAnswer
     ensures { λ r. ⌜ answered r (now (out .exit)) ≡ writeRecords (now (src .entry)) l (now (out .entry)) ⌝ }
 {

@@ -14,7 +14,7 @@ use Rattle.format.proofs.RoundTrip.{round-trip}
 use Rattle.write_items.specs.Item as item
 use Rattle.write_items.specs.Item.{ItemJudged, WritesItem}
 
--- What is owed is `W`, `n` is the number that code works out before it looks at the room, and these are the finished bytes.
+-- What is owed is `W`, `n` is the number that code works out before it checks the room, and these are the finished bytes.
 pub record Ready (W : List ℕ → Written → Type 0) (n : ℕ) (bytes : List ℕ) (size : ℕ) : Type 0 where
   pub refuses : (output : List ℕ) → (n ≡ 0 → ⊥) → W output (unwritten n output)
   pub tries : (output : List ℕ) → n ≡ 0 → W output (writtenInto bytes output)

@@ -1,4 +1,4 @@
--- What was read is written back: a place that a reader hands out is there for the writers, and a message that lies at such places of some bytes,
+-- What was read is written back: a place that a reader returns is there for the writers, and a message that lies at such places of some bytes,
 -- and is what these bytes say, is written as these bytes.
 use Prim.Native.Nat.{ℕ, _≤_}
 use mathlib.Core.Path.{_≡_, refl, subst}

@@ -24,7 +24,7 @@ use Rattle.write_items.specs.There.{itemsThere}
 use Rattle.write_items.specs.Numbers.{ceilingNumber}
 use Rattle.write_items.proofs.Answers.{Promised, Ready, faulty, message-ready, roomless, written}
 
--- What a writer copies from a place in s, behind bytes of its own: the place is in order, and the byte ceiling is the only rule that can be
+-- What a writer copies from a place in s, after bytes of its own: the place is in order, and the byte ceiling is the only rule that can be
 -- broken.
 pub record Copies (W : List ℕ → Written → Type 0) (s : List ℕ) (at end : ℕ) (own : List ℕ) (total : ℕ) : Type 0 where
   pub order : at ≤ end

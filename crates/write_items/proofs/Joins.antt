@@ -37,7 +37,7 @@ codec-operator : Codec anywhere (decodeCode operators) (λ o. byte (operatorCode
 codec-operator = codec-table operatorCode (and ∷ or ∷ andNot ∷ [])
     (elim [ and ↦ (refl, omega arith) | or ↦ (refl, omega arith) | andNot ↦ (refl, omega arith) ])
 
--- The bytes of a join stand at a place: its sides stand behind its two bytes.
+-- The bytes of a join stand at a place: its sides stand after its two bytes.
 module _ (o : Operator) (q r : Query) (s : List ℕ) (at : ℕ) (rest : List ℕ) (e : drop at s ≡ encodeQuery (join o q r) ++ rest) (i : at ≤ length s) where
   abbrev sides : List ℕ
   sides = encodeQuery q ++ (encodeQuery r ++ rest)

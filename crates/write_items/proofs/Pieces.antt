@@ -92,7 +92,7 @@ pub tag-fits : (n t : ℕ) → tagNumber n t ≡ 0 → (n < 65536) × (t < 65536
 unfolding tagNumber
 tag-fits n t e = let a = count-fits n _ e in (a .0, count-fits t _ (a .1) .0)
 
--- The numbers, one check after the other: `J` is what they are judged by, be it for a query or for a single item.
+-- The numbers, one check after the other: `J` is what they are checked by, be it for a query or for a single item.
 module _ (J : ℕ → Type 0) (n : ℕ) where
   pub count-judged : (next : ℕ) → ((n < 65536 → ⊥) → J 6) → (n < 65536 → J next) → J (countNumber n next)
   count-judged next over j = go (leb n 65535) refl

@@ -12,7 +12,7 @@ use Rattle.format.specs.Order.{decodeTag}
 use Rattle.format.specs.Writing.{TagFits, Written, unwritten, writtenInto}
 use Rattle.format.specs.RoundTrip.{IsThere}
 
--- The number for an item before the room is looked at. `Fits` says that its texts fit their count fields.
+-- The number for an item before the room is asked for. `Fits` says that its texts fit their count fields.
 pub data ItemJudged {A : Type 0} (Fits : A → Type 0) (encode : A → List ℕ) (decode : Decoder A) (a : A) : ℕ → Type 0 where
   overflows : (Fits a → ⊥) → ItemJudged Fits encode decode a 6
   refusedFor : Fits a → (f : Fault) → decode (encode a) 0 ≡ refused f → ItemJudged Fits encode decode a (number (f .rule))

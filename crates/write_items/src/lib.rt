@@ -47,7 +47,7 @@ const NAME_LIMIT: usize = 255;
 // The highest count that a WORD holds.
 const WORD_MOST: usize = 65535;
 
-// What the byte ceiling leaves for the tags of a list behind their count, and for the sides of a join behind its two bytes.
+// What the byte ceiling leaves for the tags of a list after their count, and for the sides of a join after its two bytes.
 const TAGS_CEILING: usize = PACKET_CEILING - 4;
 
 const SIDES_CEILING: usize = PACKET_CEILING - 2;
@@ -64,7 +64,7 @@ pub fn refused(number: u8) -> WriteAnswer
     WriteAnswer { number, length: 0 }
 }
 
-// The place behind `count` tags, each of which is read.
+// The offset after `count` tags, each of which is read.
 pub fn tags_end(s: &[u8], first: Cursor, count: u32) -> DoneStep
     ensures { λ r. ⌜ doneMeaning r ≡ ends (decodeMany count decodeTag (now (s .entry)) (first .at)) ⌝ }
 {
@@ -75,7 +75,7 @@ pub fn tags_end(s: &[u8], first: Cursor, count: u32) -> DoneStep
     DoneStep::Got(next)
 }
 
-// A count, and behind it the bytes of that many items. The answer is how many bytes were written.
+// A count, and after it the bytes of that many items. The answer is how many bytes were written.
 fn put_list(out: &mut [u8], count: u32, items: &[u8]) -> usize
     requires { ⌜ 4 + length (now items) ≤ length (now out) ⌝ }
     ensures written { λ r. ⌜ r ≡ 4 + length (now (items .entry)) ⌝ }
@@ -145,7 +145,7 @@ pub fn write_query(src: &[u8], q: Query, out: &mut [u8]) -> WriteAnswer
     }
 }
 
-// The numbers for pieces that have these lengths, in the order of document 01; the room comes last and is looked at by the writers.
+// The numbers for pieces that have these lengths, in the order of document 01; the room comes last and is read by the writers.
 
 fn name_number(n: usize) -> u8
     ensures { λ r. ⌜ r ≡ nameNumber n ⌝ }

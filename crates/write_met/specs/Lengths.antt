@@ -1,4 +1,4 @@
--- What the private steps answer: how many bytes a list has, and the number for a file before the room is looked at.
+-- What the private steps answer: how many bytes a list has, and the number for a file before the room is asked for.
 use Prim.Native.Nat.{ℕ, _+_, _≤_}
 use mathlib.Core.Path.{_≡_}
 use mathlib.Core.List.{List, _++_}

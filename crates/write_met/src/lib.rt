@@ -1,11 +1,11 @@
 // The writers of known.met and server.met, and of single entries.
 //
 // A file is given by its places in the lent bytes `src`, as the readers hand it out. Its lists are read again from their first
-// item on, and their bytes are copied as they lie there; the end that a list gives is not looked at. Everything is checked and
+// item on, and their bytes are copied as they lie there; the end that a list gives is not read. Everything is checked and
 // the size is known before the first store, so a refusal leaves the output as it was.
 //
 // specs/MetWrites.antt says what must lie at the places of a file. The functions that measure and put pieces of a file are also for the
-// writer of part.met; those that put require that their caller has looked at the room before.
+// writer of part.met; those that put require that their caller has checked the room before.
 ghost use mathlib.Core.Path.{_≡_};
 ghost use mathlib.Core.List.{_++_};
 ghost use Prim.Native.Nat.{_+_, _≤_};
@@ -108,7 +108,7 @@ pub fn tags_length(s: &[u8], l: Items) -> LengthStep
     LengthStep::Got(end - at)
 }
 
-// A DWORD count, and behind it the bytes of that many items. The answer is how many bytes were written.
+// A DWORD count, and after it the bytes of that many items. The answer is how many bytes were written.
 pub fn put_items(out: &mut [u8], count: u32, items: &[u8]) -> usize
     requires { ⌜ 4 + length (now items) ≤ length (now out) ⌝ }
     ensures written { λ r. ⌜ r ≡ 4 + length (now (items .entry)) ⌝ }
@@ -120,7 +120,7 @@ pub fn put_items(out: &mut [u8], count: u32, items: &[u8]) -> usize
     4 + n
 }
 
-// A WORD count, and behind it the bytes of that many hashes.
+// A WORD count, and after it the bytes of that many hashes.
 fn put_hashes(out: &mut [u8], count: u16, hashes: &[u8]) -> usize
     requires { ⌜ 2 + length (now hashes) ≤ length (now out) ⌝ }
     ensures written { λ r. ⌜ r ≡ 2 + length (now (hashes .entry)) ⌝ }
@@ -271,7 +271,7 @@ fn opening_number(opening: u8, n: usize) -> u8
     if opening == 0x0E { 0 } else { 2 }
 }
 
-// The same, where `n` bytes of entries and a tail stand behind the first five bytes.
+// The same, where `n` bytes of entries and a tail stand after the first five bytes.
 fn tailed_number(opening: u8, n: usize, tail: usize) -> u8
     ensures { λ r. ⌜ r ≡ openingNumber opening (5 + (n + tail)) ⌝ }
 {

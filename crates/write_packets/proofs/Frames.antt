@@ -19,7 +19,7 @@ use Rattle.format.proofs.Codec.{anywhere, behind, codec-byte, codec-dword, fits
 use Rattle.format.proofs.Packets.{codec-tcp, codec-udp, length-tcp}
 use Rattle.check_bodies.specs.Bodies.{bytesOf}
 
--- A number of k bytes, and behind it the rest of the bytes.
+-- A number of k bytes, and after it the rest of the bytes.
 pub record Stands (k n : ℕ) (s : List ℕ) (at : ℕ) (rest : List ℕ) : Type 0 where
   pub here : drop at s ≡ littleEndian k n ++ rest
   pub inside : at ≤ length s
@@ -53,14 +53,14 @@ module _ {n : ℕ} {s : List ℕ} {at : ℕ} {rest : List ℕ} where
   unfolding decodeOpening
   opening-refused openings small h e = rw (byte-step small h, e) refl
 
-  -- The length of all that stands behind it.
+  -- The length of all that stands after it.
   length-passes : Dword n → Stands 4 n s at rest → length rest ≡ n → (n ≡ 0 → ⊥) → decodeLength s at ≡ got n (at + 4)
   unfolding decodeLength
   length-passes small h full more =
       let left : n ≡ length s - (at + 4) = omega (arith, h .next, length-drop (at + 4) s, ap length (h .behind)) in
       rw (dword-step small h, ne-eqb n 0 more, eq-eqb n (length s - (at + 4)) left) refl
 
-  -- The opcode, and the shape behind it.
+  -- The opcode, and the shape after it.
   opcode-listed : (table : Opcodes) {shape : Shape} → Byte n → Stands 1 n s at rest → lookup table n ≡ some shape →
       decodeOpcode table s at ≡ got (n, shape) (at + 1)
   unfolding decodeOpcode

@@ -1,4 +1,4 @@
--- The number for a packet before the room is looked at.
+-- The number for a packet before the room is asked for.
 use mathlib.Core.Path.{_≡_, refl, ap, _∙_}
 use mathlib.Core.Bool.{Bool, true, false}
 use mathlib.Core.Option.{Option, none, some}
@@ -77,7 +77,7 @@ over-judged : (k : Kind) (m : Message k) → CountsFit k m → ceiling k < lengt
 unfolding decode
 over-judged k m fit long = refusedFor fit (fault Rule.bytesCeiling 0 (length (encode k m))) (rw (lt-leb (length (encode k m)) (ceiling k) long) refl)
 
--- The size of a message's bytes, behind a head of known size, and the number for the message.
+-- The size of a message's bytes, after a head of known size, and the number for the message.
 pub record Finished (k : Kind) (m : Message k) (head size n : ℕ) : Type 0 where
   pub all : length (encode k m) ≡ head + size
   pub over : packetCeiling < head + size → Judged k m 6

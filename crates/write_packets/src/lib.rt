@@ -1,7 +1,7 @@
 // The writer of packets: a packet as the reader hands it out, over the bytes that its places lie in.
 //
 // Everything is checked and the size is known before the first store, so a refusal leaves the output as it was. The order is that
-// of the papers, with the places before all: 4 for a body of another shape than that of its opcode, and the number of a place that
+// of document 01, with the places before all: 4 for a body of another shape than that of its opcode, and the number of a place that
 // does not hold what it should; 6 for a text or list that its count field cannot hold; then the number that the reader would give
 // for the finished bytes; and 10, the room, last.
 ghost use mathlib.Core.Path.{_≡_};
@@ -18,11 +18,11 @@ use bodies::Body;
 use bodies::Shape;
 use check_bodies::BodyCheck;
 use check_bodies::check_body;
-use write_bodies::put_body;
 use packets::Link;
 use packets::Listed;
 use packets::Packet;
 use packets::shape_of;
+use write_bodies::put_body;
 use write_items::WriteAnswer;
 use write_items::refused;
 

@@ -72,9 +72,9 @@ module _ (s : List ℕ) (at : ℕ) where
     unfolding decodeFixed
     closing-wrong e = rw (← byte-there s at h, ne-eqb (getD s at 0) 0 e) refl
 
--- The reader follows an area that opens with a mark; behind `at` the bytes are those of the area.
+-- The reader follows an area that opens with a mark; after `at` the bytes are those of the area.
 module _ (size : ℕ) (s : List ℕ) (at : ℕ) (area : List ℕ) (e : drop at s ≡ area) (i : at ≤ length s) (first : getD area 0 0 ≡ 1) (some : 1 ≤ length area) where
-  -- where the second mark stands, and the closing byte behind a second block
+  -- where the second mark stands, and the closing byte after a second block
   abbrev M : ℕ
   M = 1 + 16 * partCount size
 
@@ -87,7 +87,7 @@ module _ (size : ℕ) (s : List ℕ) (at : ℕ) (area : List ℕ) (e : drop at s
   byte-at : (k : ℕ) → getD s (at + k) 0 ≡ getD area k 0
   byte-at k = sym (getD-drop at s k 0) ∙ ap (λ l. getD l k 0) e
 
-  -- behind the first mark
+  -- after the first mark
   opened : decodeHashBlocks size s at ≡ andThen s (decodeMany (partCount size) (decodeRun 16) s (at + 1)) (λ l s at. andThen s (decodeCode marks s at) (λ m. decodeSecondBlock size l m))
   unfolding decodeHashBlocks decodeHash
   opened =

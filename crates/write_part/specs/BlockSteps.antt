@@ -1,4 +1,4 @@
--- What the private steps answer: the numbers of a part.met before the room is looked at.
+-- What the private steps answer: the numbers of a part.met before the room is asked for.
 use Prim.Native.Nat.{ℕ, _+_, _*_}
 use mathlib.Core.Path.{_≡_}
 use mathlib.Core.Bool.{Bool, true, false}
@@ -81,8 +81,8 @@ allowed size (HashBlocks.Parts l) = eqb (l .count) (partCount size)
 allowed size (HashBlocks.Blocks k) = false
 allowed size (HashBlocks.Both l k) = pick (eqb (l .count) (partCount size)) (eqb (k .count) (blockCount size)) false
 
--- What the reader says of the bytes of wrong blocks that open with a mark: the part hashes and the mark behind them must be there (1), the
--- mark is 00 or 01 (5); behind 01 the block hashes and the closing byte must be there (1), and this is 00 (5); nothing may be left over (7).
+-- What the reader says of the bytes of wrong blocks that open with a mark: the part hashes and the mark after them must be there (1), the
+-- mark is 00 or 01 (5); after 01 the block hashes and the closing byte must be there (1), and this is 00 (5); nothing may be left over (7).
 -- Bytes that it accepts are those of another file (5).
 abbrev pub closed : ℕ → ℕ → ℕ
 closed size end = pick (eqb size end) 5 7

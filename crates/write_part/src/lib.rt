@@ -1,7 +1,7 @@
 // The writer of part.met.
 //
 // A file is given by its places in the lent bytes `src`, as the reader hands it out; its lists are read again and copied as they
-// lie there. The order of the numbers is that of the papers: 6 for part hashes that their count field cannot hold; then what the
+// lie there. The order of the numbers is that of document 01: 6 for part hashes that their count field cannot hold; then what the
 // reader says of the finished bytes: the byte ceiling (6), the tags (9, 8, 6), the blocks; and 10, the room, last. Where wrong
 // blocks have the bytes of another file, the number is 5.
 //
@@ -38,19 +38,11 @@ use met::PartMet;
 use met::block_count;
 use met::block_hashes_from;
 use met::part_count;
-use write_met::EntryStep;
-use write_met::LengthStep;
-use write_met::file_entry_lengths;
-use write_met::hashes_length;
-use write_met::length_from;
-use write_met::put_file_entry;
-use write_met::put_items;
-use write_met::tags_length;
-use part_tags::TagsVerdict;
-use part_tags::check_part_tags;
 use output::copy;
 use output::put_byte;
 use output::put_dword;
+use part_tags::TagsVerdict;
+use part_tags::check_part_tags;
 use wire::Cursor;
 use wire::Fault;
 use wire::HashStep;
@@ -61,6 +53,14 @@ use wire::no_fault;
 use wire::number;
 use write_items::WriteAnswer;
 use write_items::refused;
+use write_met::EntryStep;
+use write_met::LengthStep;
+use write_met::file_entry_lengths;
+use write_met::hashes_length;
+use write_met::length_from;
+use write_met::put_file_entry;
+use write_met::put_items;
+use write_met::tags_length;
 
 // The check of the tags that lie in `t` bytes.
 fn check_tags(src: &[u8], tags: Items, t: usize) -> TagsVerdict
@@ -281,7 +281,7 @@ fn two_byte(first: &[u8], second: &[u8], i: usize) -> u8
     last_byte(second, j - first.len())
 }
 
-// The byte at a place of an area, 0 behind its end.
+// The byte at a place of an area, 0 after its end.
 fn area_byte(src: &[u8], a: Area, i: usize) -> u8
     ensures { λ r. ⌜ r ≡ getD (areaBytes (now (src .entry)) a) i 0 ⌝ }
 {

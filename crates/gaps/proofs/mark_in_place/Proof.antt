@@ -1,5 +1,5 @@
 -- A walk of the function's MIR, by hand: a reference to a struct is not covered by the borrow checker. The borrow is opened, the record
--- is copied out and marked by `mark`, what `mark` hands back is stored, and the borrow is closed at it.
+-- is copied out and marked by `mark`, what `mark` returns is stored, and the borrow is closed at it.
 -- All that the walk knows of `mark` is that it meets its contract. Assumes nothing.
 use Rattle.format.specs.Gaps.{sizeLimit}
 use mathlib.Core.Path.{_≡_, refl, ap}

@@ -1,4 +1,4 @@
--- The loop: the check of all sizes is that of the size tags seen, with those of the tags that are left behind them.
+-- The loop: the check of all sizes is that of the size tags seen, with those of the tags that are left after them.
 use Prim.Native.Nat.{_-_}
 use mathlib.Core.Path.{_≡_, refl, _∙_}
 use native.Mathlib.Nat.{sub-zero}
