@@ -58,7 +58,7 @@ fn message_of_a_line(random: &mut Random) -> (u8, Vec<u8>) {
             files::leaves_query(random, 40, &mut query);
             (LONE_QUERY, query)
         }
-        3 => (LONE_TAGS, files::model_tags(random)),
+        3 => (KNOWN_MET, files::models(random, 2_000).0),
         _ => (PART_MET, some_part(random)),
     }
 }
@@ -96,7 +96,7 @@ fn compare_truth(comparison: &mut Comparison, random: &mut Random) {
     let mut tags = Vec::new();
     if random.once_in(2) {
         files::pairs_query(random, 10, &mut query);
-        tags.extend(files::model_tags(random));
+        files::model_tags(random, &mut tags);
     } else {
         query.extend(inputs::lone_query(random));
         tags.extend(inputs::lone_tags(random));

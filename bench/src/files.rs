@@ -1,6 +1,8 @@
 //! Made inputs beside those of the tests: part.met files as a client writes them and long ones,
 //! models with names, and queries of many leaves.
 
+use std::ops::Range;
+
 use crate::inputs::{self, Gaps, Random, counted};
 use crate::plain::MET_CEILING;
 
@@ -130,23 +132,45 @@ pub fn long_part(random: &mut Random, length: usize, gap_count: usize) -> PartFi
     PartFile { bytes, size, gaps }
 }
 
+/// As a client writes it while it has few gaps.
+pub fn common_part(random: &mut Random) -> PartFile {
+    let gaps = random.within(1, 8);
+    client_part(random, gaps)
+}
+
 /// A part.met near the ceiling, with room for more gaps below it.
 pub fn longest_part(random: &mut Random) -> PartFile {
     long_part(random, MET_CEILING - 2_048, 8)
 }
 
-/// The tag list of a model's entry in a known.met, its tags those of samples/amule_known_0E.met.
-pub fn model_tags(random: &mut Random) -> Vec<u8> {
-    let mut tags = 9u32.to_le_bytes().to_vec();
+/// The tags of a model's entry, in the order of samples/amule_known_0E.met.
+pub fn model_tags(random: &mut Random, out: &mut Vec<u8>) {
     let name = model_name(random);
-    text_tag(0x01, &name, &mut tags);
-    text_tag(0x01, &name, &mut tags);
     let size = random.within(1_000_000, 300_000_000) as u32;
+    out.extend(9u32.to_le_bytes());
+    text_tag(0x01, &name, out);
+    text_tag(0x01, &name, out);
     for (name, number) in [(0x02, size), (0x50, 0), (0x54, 0), (0x51, 1), (0x52, 1), (0x19, 5)] {
-        dword_tag(&[name], number, &mut tags);
+        dword_tag(&[name], number, out);
     }
-    text_tag(0x27, &random.bytes(32), &mut tags);
-    tags
+    text_tag(0x27, &random.bytes(32), out);
+}
+
+/// The entries of a known.met of about this length, and where the tag list of each lies.
+pub fn models(random: &mut Random, length: usize) -> (Vec<u8>, Vec<Range<usize>>) {
+    let mut bytes = vec![0x0E, 0, 0, 0, 0];
+    let mut lists = Vec::new();
+    while bytes.len() < length {
+        let hashes = random.within(1, 30);
+        bytes.extend(random.bytes(20));
+        bytes.extend((hashes as u16).to_le_bytes());
+        bytes.extend(random.bytes(16 * hashes));
+        let at = bytes.len();
+        model_tags(random, &mut bytes);
+        lists.push(at..bytes.len());
+    }
+    bytes[1..5].copy_from_slice(&(lists.len() as u32).to_le_bytes());
+    (bytes, lists)
 }
 
 pub fn keyword(word: &str) -> Vec<u8> {

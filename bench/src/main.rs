@@ -23,7 +23,7 @@ mod work;
 use std::process::ExitCode;
 
 use archive::ARCHIVE;
-use measure::{Times, measure, measure_in_turn};
+use measure::{Times, measure, measure_best, measure_in_turn};
 use plain::PLAIN;
 use work::Work;
 
@@ -79,8 +79,8 @@ fn compare_save() -> bool {
     let save = work::longest_save();
     let [compare, copy, read] = work::save_pieces();
     let sides = [(&save, &ARCHIVE), (&compare, &PLAIN), (&copy, &PLAIN), (&read, &PLAIN)];
-    let [saved, compared, copied, read] =
-        measure_in_turn(sides).map(|seconds| 1e6 * seconds / 16.0);
+    let microseconds = |seconds| 1e6 * seconds / save.steps() as f64;
+    let [saved, compared, copied, read] = measure_in_turn(sides).map(microseconds);
     let pieces = compared + copied + read;
     println!(
         "\nsave of 1 MiB: {saved:.0} us; memcmp {compared:.0}, memcpy {copied:.0} and reading \
@@ -94,10 +94,9 @@ fn compare_sizes() -> bool {
     println!("\n{:<42} {:>12} {:>12}", "cost of a byte of known.met", "archive", "plain Rust");
     let costs = [1 << 10, 16 << 10, 256 << 10, 1 << 20].map(|length| {
         let work = work::known_met(length);
-        let times = measure(&work);
-        let cost = |seconds: f64| 1e9 * seconds / work.amount;
-        println!("{:<42} {:>12.3} {:>12.3} ns", work.name, cost(times.archive), cost(times.plain));
-        cost(times.archive)
+        let [archive, plain] = measure_best(&work).map(|seconds| 1e9 * seconds / work.amount);
+        println!("{:<42} {archive:>12.3} {plain:>12.3} ns", work.name);
+        archive
     });
     let [shortest, .., longest] = costs;
     let lowest = costs.into_iter().fold(f64::INFINITY, f64::min);

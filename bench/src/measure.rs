@@ -22,10 +22,20 @@ pub struct Times {
 
 /// Both sides must answer the same, and so do the same work.
 pub fn measure(work: &Work) -> Times {
-    work.assert_agreement();
-    let [archive, plain] = rounds([(work, &ARCHIVE), (work, &PLAIN)]);
+    let [archive, plain] = both(work);
     let ratio = median(archive.iter().zip(&plain).map(|(archive, plain)| plain / archive));
     Times { archive: median(archive), plain: median(plain), ratio }
+}
+
+/// The seconds of the best round of the archive and of the plain side: what other programs do to
+/// the caches is no part of it.
+pub fn measure_best(work: &Work) -> [f64; 2] {
+    both(work).map(|seconds| seconds.into_iter().fold(f64::INFINITY, f64::min))
+}
+
+fn both(work: &Work) -> [Vec<f64>; 2] {
+    work.assert_agreement();
+    rounds([(work, &ARCHIVE), (work, &PLAIN)])
 }
 
 /// The medians of several pieces of work, each on its own side.

@@ -14,18 +14,22 @@ pub struct Lawful<'a> {
 }
 
 /// Each gap has bytes within the size, and bytes that are there stand between two gaps.
+#[inline]
 pub fn lawful(record: &[u64]) -> Answer<Lawful<'_>> {
     let [size, count, places @ ..] = record.first_chunk::<GAP_NUMBERS>().ok_or(Refusal::Range)?;
-    let gaps = places.as_chunks().0.get(..*count as usize).ok_or(Refusal::Range)?;
-    let mut lawful = *size <= SIZE_CEILING;
-    let mut low = 0;
-    let mut missing: u64 = 0;
-    for [start, end] in gaps {
-        lawful &= (low <= *start) & (start < end) & (end <= size);
-        low = end.wrapping_add(1);
-        missing = missing.wrapping_add(end.wrapping_sub(*start));
+    let gaps: &[Gap] = places.as_chunks().0.get(..*count as usize).ok_or(Refusal::Range)?;
+    if *size > SIZE_CEILING {
+        return Err(Refusal::Range);
     }
-    if lawful { Ok(Lawful { size: *size, gaps, missing }) } else { Err(Refusal::Range) }
+    let (mut low, mut missing) = (0, 0);
+    for &[start, end] in gaps {
+        if start < low || end <= start || end > *size {
+            return Err(Refusal::Range);
+        }
+        low = end + 1;
+        missing += end - start;
+    }
+    Ok(Lawful { size: *size, gaps, missing })
 }
 
 /// Marks the bytes from start up to end as arrived and counts those left.
@@ -36,19 +40,19 @@ pub fn mark(record: &mut [u64], start: u64, end: u64) -> Answer<u64> {
     }
     let count = gaps.len();
     let first = gaps.partition_point(|gap| gap[1] <= start);
-    let touched = gaps[first..].partition_point(|gap| gap[0] < end);
-    let arrived: u64 =
-        gaps[first..first + touched].iter().map(|gap| gap[1].min(end) - gap[0].max(start)).sum();
-    let before = gaps.get(first).filter(|gap| gap[0] < start).map(|gap| [gap[0], start]);
-    let last = gaps[first..first + touched].last();
-    let behind = last.filter(|gap| end < gap[1]).map(|gap| [end, gap[1]]);
+    let touched = &gaps[first..];
+    let touched = &touched[..touched.partition_point(|gap| gap[0] < end)];
+    let arrived: u64 = touched.iter().map(|gap| gap[1].min(end) - gap[0].max(start)).sum();
+    let before = touched.first().filter(|gap| gap[0] < start).map(|gap| [gap[0], start]);
+    let behind = touched.last().filter(|gap| end < gap[1]).map(|gap| [end, gap[1]]);
     let kept = first + usize::from(before.is_some()) + usize::from(behind.is_some());
-    let outcome = kept + count - first - touched;
+    let next = first + touched.len();
+    let outcome = kept + count - next;
     if outcome > GAP_CEILING {
         return Err(Refusal::Limit);
     }
     let places: &mut [Gap] = record[2..GAP_NUMBERS].as_chunks_mut().0;
-    places.copy_within(first + touched..count, kept);
+    places.copy_within(next..count, kept);
     for (place, gap) in places[first..].iter_mut().zip(before.into_iter().chain(behind)) {
         *place = gap;
     }

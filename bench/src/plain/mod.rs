@@ -58,9 +58,14 @@ fn number(answer: Answer<()>) -> u8 {
     answer.map_or_else(|refusal| refusal as u8, |()| 0)
 }
 
-/// What an accepted call leaves behind.
-fn leave<T>(answer: Answer<T>, place: &mut T) -> u8 {
-    number(answer.map(|value| *place = value))
+/// What a call returns through a pointer is 0 after a refusal.
+fn leave<T: Default>(answer: Answer<T>, place: &mut T) -> u8 {
+    let (number, value) = match answer {
+        Ok(value) => (0, value),
+        Err(refusal) => (refusal as u8, T::default()),
+    };
+    *place = value;
+    number
 }
 
 fn within(bytes: &[u8], ceiling: usize) -> Answer<()> {

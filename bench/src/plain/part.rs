@@ -257,7 +257,7 @@ pub fn read_gaps(file: &[u8], lent: &mut [u64]) -> Answer<()> {
 }
 
 /// The file with the gaps of the record: all but the gap tags stays, and the gaps end the tag list.
-pub fn put_gaps(file: &[u8], record: &[u64], output: &mut [u8]) -> Answer<u64> {
+pub fn put_gaps(file: &[u8], record: &[u64], output: &mut [u8]) -> Answer<usize> {
     let mut pairs = [(0, 0); GAP_CEILING];
     let mut count = 0;
     let part = read(file, |index, pair| {
@@ -291,7 +291,7 @@ pub fn put_gaps(file: &[u8], record: &[u64], output: &mut [u8]) -> Answer<u64> {
         output.put_gap_tag(END, number as u8, end as u32);
     }
     output.put(&file[part.tags.end..]);
-    Ok(length as u64)
+    Ok(length)
 }
 
 /// Two tags of type, name length, name of a byte and one or two digits, and DWORD.
@@ -323,11 +323,11 @@ impl Output<'_> {
 }
 
 /// The saved file, if it is one and the stored file is the one opened.
-pub fn save(stored: &[u8], opened: &[u8], saved: &[u8], output: &mut [u8]) -> Answer<u64> {
+pub fn save(stored: &[u8], opened: &[u8], saved: &[u8], output: &mut [u8]) -> Answer<usize> {
     read(saved, |_, _| ())?;
     if stored != opened {
         return Err(Refusal::Conflict);
     }
     output.get_mut(..saved.len()).ok_or(Refusal::Room)?.copy_from_slice(saved);
-    Ok(saved.len() as u64)
+    Ok(saved.len())
 }

@@ -1,7 +1,6 @@
 //! Queries and their truth on a tag list.
 
 use super::cursor::Cursor;
-use super::tags::behind_tag;
 use super::{Answer, Fields, PACKET_CEILING, QUERY_DEPTH, Refusal, within};
 
 const DEPTH: u32 = QUERY_DEPTH as u32;
@@ -145,12 +144,28 @@ fn any(tags: Tags, kind: u8, name: &[u8], test: impl Fn(&[u8]) -> bool) -> bool 
         {
             return true;
         }
-        let Some(next) = behind_tag(rest) else {
+        let Some(next) = next_tag(rest) else {
             return false;
         };
         rest = next;
     }
     false
+}
+
+/// What lies behind a tag that was read before. It jumps by type and name: a list is gone over once
+/// for each leaf, so that the jumps are guessed right.
+#[inline]
+fn next_tag(tag: &[u8]) -> Option<&[u8]> {
+    let (&[kind, low, high], named) = tag.split_first_chunk()?;
+    let value = match [low, high] {
+        [1, 0] => named.get(1..)?,
+        length => named.get(usize::from(u16::from_le_bytes(length))..)?,
+    };
+    match kind {
+        1 => value.get(16..),
+        TEXT => value.get(2 + usize::from(u16::from_le_bytes(*value.first_chunk()?))..),
+        _ => value.get(4..),
+    }
 }
 
 /// A text that its length stands before.

@@ -7,6 +7,9 @@ mod searching;
 pub use parts::{longest_save, save_pieces};
 pub use reading::known_met;
 
+use std::hint::black_box;
+use std::ops::Range;
+
 use crate::archive::ARCHIVE;
 use crate::inputs::Random;
 use crate::plain::{Calls, FIELDS, GAP_NUMBERS, PLAIN};
@@ -16,12 +19,48 @@ use crate::plain::{Calls, FIELDS, GAP_NUMBERS, PLAIN};
 /// each file once.
 const READ: usize = 16 << 20;
 
+/// Messages one behind the other in memory, so that the first bytes of each are fetched in time.
+#[derive(Clone)]
+struct Messages {
+    bytes: Vec<u8>,
+    places: Vec<Range<usize>>,
+}
+
+impl FromIterator<Vec<u8>> for Messages {
+    fn from_iter<I: IntoIterator<Item = Vec<u8>>>(made: I) -> Self {
+        let mut messages = Messages { bytes: Vec::new(), places: Vec::new() };
+        for message in made {
+            let at = messages.bytes.len();
+            messages.bytes.extend(message);
+            messages.places.push(at..messages.bytes.len());
+        }
+        messages
+    }
+}
+
+impl Messages {
+    fn count(&self) -> usize {
+        self.places.len()
+    }
+
+    fn at(&self, index: usize) -> &[u8] {
+        black_box(&self.bytes[self.places[index].clone()])
+    }
+}
+
+/// As many as make the amount that is read, each about as long as this.
+fn made<T>(length: usize, make: impl Fn(&mut Random) -> T) -> impl Iterator<Item = T> {
+    let mut random = random();
+    (0..READ / length).map(move |_| make(&mut random))
+}
+
 /// All that calls are lent to write.
 #[derive(Clone, Debug, PartialEq)]
 pub struct Lent {
     fields: [u64; FIELDS],
     gaps: [u64; GAP_NUMBERS],
-    number: u64,
+    missing: u64,
+    written: usize,
     truth: u8,
     output: Vec<u8>,
     saved: Vec<u8>,
@@ -62,6 +101,10 @@ impl Work {
         Work { room, ..self }
     }
 
+    pub fn steps(&self) -> usize {
+        self.steps.count()
+    }
+
     pub fn speed(&self, seconds: f64) -> f64 {
         match self.unit {
             Unit::Bytes => self.amount / seconds / 1e6,
@@ -79,7 +122,15 @@ impl Work {
     pub fn lent(&self) -> Lent {
         let (output, saved) = (vec![0xA5; self.room], vec![0xA5; self.room]);
         let fields = [0xFEED; FIELDS];
-        Lent { fields, gaps: [0xFEED; GAP_NUMBERS], number: 0xFEED, truth: 9, output, saved }
+        Lent {
+            fields,
+            gaps: [0xFEED; GAP_NUMBERS],
+            missing: 0xFEED,
+            written: 0xFEED,
+            truth: 9,
+            output,
+            saved,
+        }
     }
 
     /// All steps once: the sum of the numbers answered.
@@ -90,7 +141,7 @@ impl Work {
     /// Each step is accepted and leaves the same in all that it is lent, on both sides.
     pub fn assert_agreement(&self) {
         let (mut archive, mut plain) = (self.lent(), self.lent());
-        for index in 0..self.steps.count() {
+        for index in 0..self.steps() {
             assert_eq!(self.steps.step(&ARCHIVE, index, &mut archive), 0, "{} {index}", self.name);
             assert_eq!(self.steps.step(&PLAIN, index, &mut plain), 0, "{} {index}", self.name);
             assert!(archive == plain, "{} {index}: the answers differ", self.name);

@@ -1,8 +1,7 @@
 //! The gaps of part.met files: reading, marking, putting and saving.
 
-use std::hint::black_box;
-
-use super::{READ, Work, random};
+use super::reading::reading;
+use super::{Messages, Work, made};
 use crate::files::{self, PartFile};
 use crate::inputs::{self, Gaps, Random};
 use crate::plain::{GAP_NUMBERS, MET_CEILING, PART_MET, PLAIN};
@@ -12,9 +11,12 @@ const MARKS: usize = 192;
 const SHORT_ROOM: usize = 4_096;
 
 pub const LINES: &[fn() -> Work] = &[
-    || gaps_read("gaps of a part.met as aMule writes it", client_files()),
-    || gaps_read("gaps of a part.met with 64 gaps", files_of(2_048, |r| files::client_part(r, 64))),
-    || gaps_read("gaps of a part.met of 1 MiB", files_of(1 << 20, files::longest_part)),
+    || read("part.met as aMule writes it", common_parts()),
+    || read("part.met with 64 gaps", parts_of_many_gaps()),
+    || read("part.met of 1 MiB of tags", longest_parts()),
+    || read_gaps("gaps of a part.met as aMule writes it", common_parts()),
+    || read_gaps("gaps of a part.met with 64 gaps", parts_of_many_gaps()),
+    || read_gaps("gaps of a part.met of 1 MiB of tags", longest_parts()),
     marking,
     arrived_parts,
     puts,
@@ -22,30 +24,39 @@ pub const LINES: &[fn() -> Work] = &[
     longest_save,
 ];
 
-fn files_of(length: usize, make: impl Fn(&mut Random) -> PartFile) -> Vec<PartFile> {
-    let mut random = random();
-    (0..READ / length).map(|_| make(&mut random)).collect()
+fn common_parts() -> impl Iterator<Item = PartFile> {
+    made(512, files::common_part)
 }
 
-fn client_files() -> Vec<PartFile> {
-    files_of(512, |random| {
-        let gaps = random.within(1, 8);
-        files::client_part(random, gaps)
-    })
+fn parts_of_many_gaps() -> impl Iterator<Item = PartFile> {
+    made(2_048, |random| files::client_part(random, 64))
+}
+
+fn longest_parts() -> impl Iterator<Item = PartFile> {
+    made(1 << 20, files::longest_part)
+}
+
+fn bytes_of(parts: impl Iterator<Item = PartFile>) -> Messages {
+    parts.map(|part| part.bytes).collect()
+}
+
+fn read(name: &str, parts: impl Iterator<Item = PartFile>) -> Work {
+    reading(name.into(), PART_MET, bytes_of(parts))
+}
+
+fn read_gaps(name: &str, parts: impl Iterator<Item = PartFile>) -> Work {
+    let files = bytes_of(parts);
+    let (count, amount) = (files.count(), files.bytes.len());
+    let work = Work::new(name, count, move |calls, index, lent| {
+        (calls.read_gaps)(files.at(index), &mut lent.gaps)
+    });
+    work.of_bytes(amount)
 }
 
 type Record = [u64; GAP_NUMBERS];
 
 fn record_of(size: u64, gaps: &Gaps) -> Record {
     inputs::gap_record(size, gaps, 0).try_into().expect("a record has as many numbers")
-}
-
-fn gaps_read(name: &str, files: Vec<PartFile>) -> Work {
-    let amount = files.iter().map(|file| file.bytes.len()).sum();
-    let work = Work::new(name, files.len(), move |calls, index, lent| {
-        (calls.read_gaps)(black_box(&files[index].bytes), &mut lent.gaps)
-    });
-    work.of_bytes(amount)
 }
 
 /// In turn fills a gap, splits another, and takes a byte off a third. There are 63 or 64 gaps all
@@ -60,7 +71,7 @@ fn marking() -> Work {
             lent.gaps = record;
         }
         let (start, end) = ranges[index];
-        (calls.mark)(&mut lent.gaps, start, end, &mut lent.number)
+        (calls.mark)(&mut lent.gaps, start, end, &mut lent.missing)
     })
 }
 
@@ -81,51 +92,45 @@ fn ranges_to_mark(record: &Record) -> Vec<(u64, u64)> {
 /// The way of one arrived part: it is marked, the gaps are put into the file, and that is saved
 /// over the one opened.
 fn arrived_parts() -> Work {
-    let files = client_files();
-    let opened: Vec<_> = files.iter().map(|file| file.bytes.clone()).collect();
-    let records: Vec<_> =
-        files.iter().map(|file| record_of(file.size.into(), &file.gaps)).collect();
-    let work = Work::new("mark, put and save a part", files.len(), move |calls, index, lent| {
-        let file = &files[index];
-        let (start, end) = file.gaps[0];
+    let parts: Vec<_> = common_parts().take(4_096).collect();
+    let record = |part: &PartFile| record_of(part.size.into(), &part.gaps);
+    let records: Vec<_> = parts.iter().map(record).collect();
+    let first_gaps: Vec<_> = parts.iter().map(|part| part.gaps[0]).collect();
+    let stored = bytes_of(parts.into_iter());
+    let opened = stored.clone();
+    let work = Work::new("mark, put and save a part", stored.count(), move |calls, index, lent| {
+        let (start, end) = first_gaps[index];
+        let (file, opened) = (stored.at(index), opened.at(index));
         lent.gaps = records[index];
-        let middle = start + (end - start) / 2;
-        let marked = (calls.mark)(&mut lent.gaps, start, middle, &mut lent.number);
-        let stored = black_box(&file.bytes);
-        let put = (calls.put_gaps)(stored, &lent.gaps, &mut lent.output, &mut lent.number);
-        let new = &lent.output[..lent.number as usize];
-        let opened = black_box(&opened[index]);
-        marked + put + (calls.save)(stored, opened, new, &mut lent.saved, &mut lent.number)
+        let marked = (calls.mark)(&mut lent.gaps, start, (start + end) / 2, &mut lent.missing);
+        let put = (calls.put_gaps)(file, &lent.gaps, &mut lent.output, &mut lent.written);
+        let new = &lent.output[..lent.written];
+        marked + put + (calls.save)(file, opened, new, &mut lent.saved, &mut lent.written)
     });
     work.with_room(SHORT_ROOM)
 }
 
 fn puts() -> Work {
-    let files = files_of(1 << 20, files::longest_part);
-    let amount = files.iter().map(|file| file.bytes.len()).sum();
+    let parts: Vec<_> = longest_parts().collect();
     let gaps: Gaps = (0..64).map(|gap| (1_000 * gap, 1_000 * gap + 500)).collect();
-    let records: Vec<_> = files.iter().map(|file| record_of(file.size.into(), &gaps)).collect();
-    let work = Work::new("put 64 gaps into 1 MiB", files.len(), move |calls, index, lent| {
-        let file = black_box(&files[index].bytes);
-        (calls.put_gaps)(file, &records[index], &mut lent.output, &mut lent.number)
+    let records: Vec<_> = parts.iter().map(|part| record_of(part.size.into(), &gaps)).collect();
+    let files = bytes_of(parts.into_iter());
+    let (count, amount) = (files.count(), files.bytes.len());
+    let work = Work::new("put 64 gaps into 1 MiB", count, move |calls, index, lent| {
+        (calls.put_gaps)(files.at(index), &records[index], &mut lent.output, &mut lent.written)
     });
     work.of_bytes(amount).with_room(MET_CEILING)
 }
 
-/// Two copies of each file: the stored one and the one opened.
-fn copies(length: usize, make: impl Fn(&mut Random) -> PartFile) -> [Vec<Vec<u8>>; 2] {
-    let stored: Vec<_> = files_of(length, make).into_iter().map(|file| file.bytes).collect();
-    [stored.clone(), stored]
-}
-
-/// Each file is replaced by the next.
+/// Each file, of which the stored one and the one opened are copies, is replaced by the next.
 fn saves(name: &str, length: usize, make: impl Fn(&mut Random) -> PartFile) -> Work {
-    let [stored, opened] = copies(length, make);
-    let amount = stored.iter().map(Vec::len).sum();
-    let work = Work::new(name, stored.len(), move |calls, index, lent| {
-        let (old, opened) = (black_box(&stored[index]), black_box(&opened[index]));
-        let new = &stored[(index + 1) % stored.len()];
-        (calls.save)(old, opened, new, &mut lent.saved, &mut lent.number)
+    let stored = bytes_of(made(length, make));
+    let opened = stored.clone();
+    let (count, amount) = (stored.count(), stored.bytes.len());
+    let work = Work::new(name, count, move |calls, index, lent| {
+        let (old, opened, new) =
+            (stored.at(index), opened.at(index), stored.at((index + 1) % count));
+        (calls.save)(old, opened, new, &mut lent.saved, &mut lent.written)
     });
     work.of_bytes(amount).with_room(length)
 }
@@ -136,20 +141,17 @@ pub fn longest_save() -> Work {
 
 /// What a save of 1 MiB cannot do without: comparing, copying and reading as many bytes.
 pub fn save_pieces() -> [Work; 3] {
-    let [stored, opened] = copies(1 << 20, files::longest_part);
-    let count = stored.len();
-    let [copied, read] = [stored.clone(), stored.clone()];
-    [
-        Work::new("memcmp", count, move |_, index, _| {
-            (black_box(&stored[index]) != black_box(&opened[index])).into()
-        }),
-        Work::new("memcpy", count, move |_, index, lent| {
-            lent.saved[..copied[index].len()].copy_from_slice(black_box(&copied[index]));
-            0
-        })
-        .with_room(1 << 20),
-        Work::new("reading", count, move |calls, index, lent| {
-            (calls.read)(PART_MET, black_box(&read[index]), &mut lent.fields)
-        }),
-    ]
+    let stored = bytes_of(longest_parts());
+    let count = stored.count();
+    let [opened, copied, read] = [stored.clone(), stored.clone(), stored.clone()];
+    let compare = Work::new("memcmp", count, move |_, index, _| {
+        (stored.at(index) != opened.at(index)).into()
+    });
+    let copy = Work::new("memcpy", count, move |_, index, lent| {
+        let file = copied.at(index);
+        lent.saved[..file.len()].copy_from_slice(file);
+        0
+    });
+    let read = reading("reading".into(), PART_MET, read);
+    [compare, copy.with_room(MET_CEILING), read]
 }

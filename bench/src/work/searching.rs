@@ -2,13 +2,10 @@
 
 use std::hint::black_box;
 
-use super::{READ, Work, random};
+use super::{Messages, Work, made, random};
 use crate::files;
 use crate::inputs;
 use crate::plain::{LONE_TAGS, PACKET_CEILING, QUERY_DEPTH};
-
-/// About as many bytes of a known.met are a model's entry.
-const ENTRY: usize = 570;
 
 pub const LINES: &[fn() -> Work] = &[deep_query, search_of_one_leaf, search_of_many_leaves];
 
@@ -43,21 +40,26 @@ fn false_leaf(turn: u64, query: &mut Vec<u8>) {
     }
 }
 
-/// Asks the query of the tags of each entry.
+/// Asks the query of the tag list of each entry of known.met files.
 fn search(name: &str, query: Vec<u8>) -> Work {
-    let mut random = random();
-    let lists: Vec<_> = (0..READ / ENTRY).map(|_| files::model_tags(&mut random)).collect();
-    Work::new(name, lists.len(), move |calls, index, lent| {
-        (calls.truth)(black_box(&query), black_box(&lists[index]), &mut lent.truth)
+    let length = 1 << 20;
+    let mut lists = Messages { bytes: Vec::new(), places: Vec::new() };
+    for (file, places) in made(length, |random| files::models(random, length)) {
+        let at = lists.bytes.len();
+        lists.bytes.extend(file);
+        lists.places.extend(places.iter().map(|place| at + place.start..at + place.end));
+    }
+    Work::new(name, lists.count(), move |calls, index, lent| {
+        (calls.truth)(black_box(&query), lists.at(index), &mut lent.truth)
     })
 }
 
 fn search_of_one_leaf() -> Work {
-    search("search of 1 leaf, for each entry", files::keyword("instep"))
+    search("search of 1 leaf, an entry of known.met", files::keyword("instep"))
 }
 
 fn search_of_many_leaves() -> Work {
     let mut query = Vec::new();
     files::pairs_query(&mut random(), 50, &mut query);
-    search("search of 100 leaves, for each entry", query)
+    search("search of 100 leaves, an entry", query)
 }
