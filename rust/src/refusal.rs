@@ -3,7 +3,7 @@
 use std::error::Error;
 use std::fmt;
 
-/// Why bytes, a range, a record or a save are refused. Each has its number in the papers and in the reading program.
+/// Why bytes, a range, a record or a save are refused. Each has its number in document 01 and in the reading program.
 ///
 /// More may come with later requests, each with a number above those here, so a `match` outside of this crate needs an arm
 /// `_`. What it gets is a refusal like the others: nothing was done, [`Refusal::number`] says which it is, and it prints
@@ -64,7 +64,7 @@ impl Refusal {
         Refusal::Conflict,
     ];
 
-    /// The number that the papers give it.
+    /// The number that document 01 gives it.
     pub fn number(self) -> u8 {
         self as u8
     }
