@@ -169,7 +169,8 @@ abbrev pub leaves : (number length : ℕ) → (output : List ℕ) → Written
 leaves number length output = record { number = number; length = length; output = output }
 
 -- A message that is reported by its numbers: the first 16 given ones are those of the message, which is written; or they are no message's, and
--- the call refuses (5) before all else.
+-- the call refuses (5) before all else. Numbers of a message that a count field cannot hold, as 256 addresses or 65,536 status bits, are
+-- a message's: its write refuses (6).
 pub data GivenWrites (numbers given output : List ℕ) (Writes : Written → Type 0) : Written → Type 0 where
   noMessage : (filled 16 numbers ≡ take 16 given → ⊥) → GivenWrites numbers given output Writes (unwritten 5 output)
   message : {w : Written} → filled 16 numbers ≡ take 16 given → Writes w → GivenWrites numbers given output Writes w

@@ -61,6 +61,7 @@ sendingPartGiven f = Body.SendingPart (record { hash = numberAt f 3; start = dwo
 abbrev pub requestPartsGiven : List ℕ → Body
 requestPartsGiven f = Body.RequestParts (record { hash = numberAt f 3; starts = tripleAt f 4; ends = tripleAt f 7 })
 
+-- Any number of parts is taken: what the WORD of a status cannot count is the writer's to refuse (6), as a text that is too long is.
 abbrev pub fileStatusGiven : List ℕ → Body
 fileStatusGiven f = Body.FileStatus (record { hash = numberAt f 3; parts = numberAt f 4; bits = numberAt f 5 })
 
