@@ -475,11 +475,11 @@ fn truths() {
     assert!(seen[0] > 1_000 && seen[1] > 1_000, "both truths are seen");
 }
 
-/// The inputs of the program `vectors`, and the lines that it prints for them.
+/// The inputs of the program `test_vectors`, and the lines that it prints for them.
 #[test]
 fn vectors() {
     let mut comparison = Comparison::new(35_000_000);
-    let folder = concat!(env!("CARGO_MANIFEST_DIR"), "/../crates/vectors");
+    let folder = concat!(env!("CARGO_MANIFEST_DIR"), "/../crates/test_vectors");
     let expected = std::fs::read_to_string(format!("{folder}/stdout")).expect("the expected lines");
     let mut lines = expected.lines();
     for file in ["vectors.bin", "samples.bin"] {
