@@ -9,12 +9,11 @@ use mathlib.Core.List.{List, [], _∷_, _++_, map, map-append, reverse, reverse-
 use lib.ListN.{length, getD, set, replicate, length-append, length-map}
 use lib.Seq.{getD-set-same, getD-set-other, set-at, append-snoc}
 use lib.Dec.{eqb}
-use borrow.Author.Tests.{ne-eqb}
 use Rattle.format.specs.Tables.{pick, same}
 use Rattle.format.specs.Messages as messages
 use Rattle.format.specs.Rules as rules
 use Rattle.format.specs.Gaps.{gapLimit}
-use Rattle.format.specs.Decoding.{Outcome, refused, got, passes, violates, andCheck, bytesAt}
+use Rattle.format.specs.Decoding.{passes, violates, andCheck, bytesAt}
 use Rattle.format.specs.GapTags.{numberOf, role, roleIn, plain, starting, ending}
 use Rattle.format.specs.PartTagOrder.{Progress, between, within, used, step, scan}
 use Rattle.gaps.specs.declared.Gap.{Gap as Place}
@@ -30,7 +29,7 @@ use Rattle.part_tags.specs.declared.Pairs.{Pairs}
 use Rattle.part_tags.specs.declared.Pending.{Pending}
 use Rattle.part_tags.specs.declared.Verdict.{Verdict}
 use Rattle.part_tags.specs.declared.Stepped.{Stepped}
-use Rattle.part_tags.specs.PartTagSteps.{numberMeaning, numberIn, NameBegins, roleMeaning, roleAt, pairOf, noPair, firstPairs, gapIn, firstGaps}
+use Rattle.part_tags.specs.PartTagSteps.{numberMeaning, numberIn, roleMeaning, pairOf, noPair, firstPairs, gapIn, firstGaps}
 use Rattle.part_tags.specs.PartTagSteps.{progressOf, Fits, skips, steppedMeaning}
 use Rattle.part_tags.proofs.Names.{run-first}
 use Rattle.part_tags.proofs.SizeTags.{number-of}
@@ -55,12 +54,6 @@ pub role-empty : (s : List ℕ) (t : Tag) (name : List ℕ) → name ≡ bytesAt
     → role (tagOf s t) ≡ plain
 unfolding role
 role-empty s t name e h = role-none (tagOf s t .name) (numberOf (tagOf s t .value .0) (tagOf s t .value .1)) (rw e at h)
-
--- one whose name begins with another byte is no gap tag
-pub role-other : (o : Outcome messages.Tag) (b : ℕ) → NameBegins o b → (b ≡ 0x09 → ⊥) → (b ≡ 0x0A → ⊥) → plain ≡ roleAt o
-unfolding role
-role-other (refused f) b n start end = refl
-role-other (got t next) b n start end = rw (n .1, ne-eqb b 0x09 start, ne-eqb b 0x0A end) refl
 
 -- The pairs of an array
 pub pairs-length : (s : List ℕ) (n : ℕ) (l : List Pair) → length (firstPairs s n l) ≡ n

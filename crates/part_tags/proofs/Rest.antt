@@ -1,14 +1,13 @@
 -- The laws of a loop over the items of a list that was decoded before. They are decoded again one by one: with i of n items
 -- passed, the others stand at the cursor.
 use Prim.Native.Nat.{ℕ, suc, _+_, _-_, _≤_, _<_}
-use mathlib.Core.Path.{_≡_, refl, sym, ap, _∙_}
+use mathlib.Core.Path.{_≡_, refl, sym, _∙_}
 use mathlib.Core.List.{List, [], _∷_}
 use native.Mathlib.Nat.{sub-zero}
 use native.Mathlib.Omega.{arith}
 use Rattle.format.specs.Decoding.{Decoder, Fault, Outcome, refused, got, andThen, pure, decodeMany, itemsOf, ends}
 use Rattle.format.proofs.Differ.{differ}
 use Rattle.format.proofs.Many.{loop-step, loop-stop}
-use Rattle.tags.specs.Skips.{placeBehind}
 
 items-cons : {A : Type 0} (s : List ℕ) (a : A) (o : Outcome (List A)) {end : ℕ} → ends o ≡ got tt end
     → itemsOf (andThen s o (λ l. pure (a ∷ l))) ≡ a ∷ itemsOf o
@@ -55,13 +54,3 @@ module _ {A : Type 0} (d : Decoder A) (s : List ℕ) (n : ℕ) where
           reached = record { passed = omega arith; same-end = same };
           next = rw (m, ← e) (items-cons s a (decodeMany (n - (i + 1)) d s p) (sym same ∙ placed));
         }
-
-    -- the next item and what lies after it, by the offset after it alone
-    pub turn-behind : {p : ℕ} → p ≡ placeBehind (d s at) → (a : A) × ((got a p ≡ d s at) × Turn first i at a p)
-    turn-behind {p} e = go (d s at) refl
-      where
-        go : (o : Outcome A) → d s at ≡ o → (a : A) × ((got a p ≡ d s at) × Turn first i at a p)
-        go (refused f) q = absurd (rest-there (sym q))
-        go (got a next) q =
-            let read : got a p ≡ d s at = ap (got a) (rw q at e) ∙ sym q in
-            (a, (read, next-turn read))

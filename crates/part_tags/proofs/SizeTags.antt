@@ -1,12 +1,10 @@
 -- The size tags, one after the other.
 use Prim.Native.Nat.{ℕ}
-use mathlib.Core.Path.{_≡_, refl, sym}
+use mathlib.Core.Path.{_≡_, refl}
 use mathlib.Core.Bool.{true, false}
 use mathlib.Core.Option.{Option, none, some}
 use mathlib.Core.List.{List, [], _∷_, _++_}
 use Rattle.format.specs.Messages.{Tag}
-use borrow.Author.Tests.{ne-eqb}
-use Rattle.format.specs.Decoding.{Outcome, refused, got}
 use Rattle.format.specs.GapTags.{numberOf}
 use Rattle.format.specs.Tables.{same}
 use Rattle.format.specs.PartTagOrder.{sizeIn, sizes}
@@ -14,7 +12,7 @@ use Rattle.tags.specs.declared.TagValue.{TagValue}
 use Rattle.tags.specs.TagAnswers.{valueOf}
 use Rattle.part_tags.specs.declared.Number.{Number}
 use Rattle.part_tags.specs.declared.Sizes.{Sizes}
-use Rattle.part_tags.specs.PartTagSteps.{numberMeaning, numberIn, listOf, sizesIn, NameBegins, sizesAt, joined, soleAfter}
+use Rattle.part_tags.specs.PartTagSteps.{numberMeaning, numberIn, listOf, sizesIn, joined, soleAfter}
 
 -- The number of a tag
 pub number-of : (s : List ℕ) (v : TagValue) → numberOf (valueOf s v .0) (valueOf s v .1) ≡ numberMeaning (numberIn v)
@@ -45,11 +43,3 @@ pub sizes-next : (found : Sizes) (n : Number) (t : Tag) (l : List Tag) → listO
     → soleAfter found (sizes (t ∷ l)) ≡ soleAfter (joined found n) (sizes l)
 unfolding sizes
 sizes-next found n t l e = rw (← e) (joined-sole found n (sizes l))
-
--- a tag whose name begins with another byte is no size tag
-pub other-byte : (o : Outcome Tag) (b : ℕ) → NameBegins o b → (b ≡ 0x02 → ⊥) → [] ≡ sizesAt o
-unfolding same
-other-byte (refused f) b n h = refl
-other-byte (got t next) b n h =
-    let e : same (t .name) (0x02 ∷ []) ≡ false = rw (n .1, ne-eqb b 0x02 h) refl in
-    sym (other-name (t .name) (numberOf (t .value .0) (t .value .1)) e)

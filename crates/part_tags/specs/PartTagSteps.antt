@@ -1,5 +1,4 @@
 -- What the private steps of the check answer.
-use mathlib.Core.Path.{_≡_}
 use mathlib.Core.Bool.{Bool, true, false}
 use mathlib.Core.Option.{Option, none, some}
 use mathlib.Core.List.{List, [], _∷_, _++_}
@@ -10,7 +9,7 @@ use Rattle.format.specs.Gaps.{gapLimit}
 use Rattle.format.specs.Messages as messages
 use Rattle.format.specs.Rules.{GapPair}
 use Rattle.format.specs.Decoding as decoding
-use Rattle.format.specs.Decoding.{Outcome, refused, got, Check, passes, violates}
+use Rattle.format.specs.Decoding.{Check, passes, violates}
 use Rattle.format.specs.GapTags as gapTags
 use Rattle.format.specs.GapTags.{numberOf}
 use Rattle.format.specs.PartTagOrder.{Progress, between, within, sizeIn, sole}
@@ -49,16 +48,6 @@ listOf (Number.Some n) = n ∷ []
 abbrev pub sizesIn : messages.Tag → List ℕ
 sizesIn t = sizeIn (t .name) (numberOf (t .value .0) (t .value .1))
 
--- the first byte of the name of a tag that was decoded
-abbrev pub NameBegins : Outcome messages.Tag → ℕ → Type 0
-NameBegins (refused f) b = Unit {0}
-NameBegins (got t next) b = (digits : List ℕ) × (t .name ≡ b ∷ digits)
-
--- what is refused adds none
-abbrev pub sizesAt : Outcome messages.Tag → List ℕ
-sizesAt (refused f) = []
-sizesAt (got t next) = sizesIn t
-
 abbrev pub joined : Sizes → Number → Sizes
 joined sizes Number.None = sizes
 joined Sizes.None (Number.Some n) = Sizes.One n
@@ -82,11 +71,6 @@ roleMeaning s Role.Plain = gapTags.plain
 roleMeaning s Role.Odd = gapTags.odd
 roleMeaning s (Role.Start digits n) = gapTags.start (placeBytes s digits) n
 roleMeaning s (Role.End digits n) = gapTags.end (placeBytes s digits) n
-
--- what is refused is no gap tag
-abbrev pub roleAt : Outcome messages.Tag → gapTags.Role
-roleAt (refused f) = gapTags.plain
-roleAt (got t next) = gapTags.role t
 
 abbrev pub pairOf : List ℕ → Pair → GapPair
 pairOf s p = record { digits = placeBytes s (p .digits); start = p .start; end = p .end }

@@ -1,10 +1,9 @@
 // The check of a part.met's tag list: exactly one size tag; then the gap tags, from left to right; and the gap record
 // that they stand for.
 //
-// The list has been read before. Its tags are skipped again, one by one, in two passes: the first looks for the size, the
-// second goes through the gap tags and keeps their pairs, at most 64. A tag is read again only where the first byte of its
-// name says that it may be the size or a gap tag. A tag that is no gap tag leaves the pairs where they are. They are copied
-// at gap tags alone, of which at most 129 are read, so that the whole check is linear in the bytes.
+// The list has been read before. Its tags are read again, one by one, in two passes: the first looks for the size, the
+// second goes through the gap tags and keeps their pairs, at most 64. A tag that is no gap tag leaves the pairs where they
+// are. They are copied at gap tags alone, of which at most 129 are read, so that the whole check is linear in the bytes.
 //
 // specs/PartTagAnswers.antt says what the answer stands for, specs/PartTagSteps.antt what the private steps answer.
 ghost use mathlib.Core.Path.{_≡_};
@@ -14,7 +13,6 @@ ghost use lib.Dec.{leb};
 ghost use Rattle.format.specs.Decoding.{violates};
 ghost use Rattle.format.specs.Decoding as decoding;
 ghost use Rattle.format.specs.Gaps.{gapLimit};
-ghost use Rattle.format.specs.Rules.{Bytes};
 ghost use Rattle.format.specs.Order.{decodeTag};
 ghost use Rattle.format.specs.GapTags as gapTags;
 ghost use Rattle.format.specs.PartTagOrder as order;
@@ -25,8 +23,8 @@ ghost use Rattle.wire.specs.WireAnswers.{ruleMeaning, placeBytes, itemsIn, Item
 ghost use Rattle.tags.specs.TagAnswers.{tagOf};
 ghost use Rattle.gaps.specs.GapRecords.{recordOf};
 ghost use Rattle.part_tags.specs.PartTagAnswers.{verdictMeaning, gapsMeaning};
-ghost use Rattle.part_tags.specs.PartTagSteps.{numberMeaning, numberIn, listOf, sizesIn, NameBegins, sizesAt, joined, sizeMeaning};
-ghost use Rattle.part_tags.specs.PartTagSteps.{roleMeaning, roleAt, pairOf, pairsOf, firstGaps, progressOf, Fits, skips, steppedMeaning, scannedMeaning};
+ghost use Rattle.part_tags.specs.PartTagSteps.{numberMeaning, numberIn, listOf, sizesIn, joined, sizeMeaning};
+ghost use Rattle.part_tags.specs.PartTagSteps.{roleMeaning, pairOf, pairsOf, firstGaps, progressOf, Fits, skips, steppedMeaning, scannedMeaning};
 use gaps::Gap;
 use gaps::GapRecord;
 use gaps::none_missing;
@@ -34,7 +32,6 @@ use tags::Tag;
 use tags::TagStep;
 use tags::TagValue;
 use tags::read_tag;
-use tags::tag_behind;
 use wire::Cursor;
 use wire::Items;
 use wire::Place;
@@ -159,33 +156,6 @@ impl Sizes {
     }
 }
 
-// The first byte of the name of the tag that lies there; where none lies there, some byte.
-fn name_byte(s: &[u8], at: usize) -> u8
-    ensures { λ r. ⌜ (Bytes (now (s .entry)) → NameBegins (decodeTag (now (s .entry)) at) r) ⌝ }
-{
-    if s.len() < 4 {
-        return 0;
-    }
-    if s.len() - 4 < at {
-        return 0;
-    }
-    s[at + 3]
-}
-
-// The number of the tag that lies there, if it is a size tag.
-fn size_at(s: &[u8], at: usize) -> Number
-    ensures { λ r. ⌜ listOf r ≡ sizesAt (decodeTag (now (s .entry)) at) ⌝ }
-{
-    if name_byte(s, at) != 2 {
-        return Number::None;
-    }
-    let t = read_tag(s, Cursor { at });
-    let TagStep::Got(tag, _) = t else {
-        return Number::None;
-    };
-    size_in(s, tag)
-}
-
 // The first pass: the one size.
 fn find_size(s: &[u8], tags: Items) -> TagsVerdict
     requires { ⌜ ItemsPlaced decodeTag (now s) tags ⌝ }
@@ -193,12 +163,17 @@ fn find_size(s: &[u8], tags: Items) -> TagsVerdict
 {
     let count = tags.count;
     let mut found = Sizes::None;
-    let mut next = tags.at;
+    let mut next = Cursor { at: tags.at };
     let mut i: u32 = 0;
     while i < count {
-        let number = size_at(s, next);
+        let t = read_tag(s, next);
+        let TagStep::Got(tag, after) = t else {
+            // Never taken: the list was read before.
+            return TagsVerdict::Violates(Rule::SizeTag);
+        };
+        let number = size_in(s, tag);
         found = found.join(number);
-        next = tag_behind(s, next);
+        next = after;
         i += 1;
     }
     match found {
@@ -246,24 +221,6 @@ fn role_of(s: &[u8], tag: Tag) -> Role
         return end_role(Place { at, len }, number);
     }
     Role::Plain
-}
-
-// What the tag that lies there is to the gaps. Only a gap tag is read.
-fn role_at(s: &[u8], at: usize) -> Role
-    ensures { λ r. ⌜ roleMeaning (now (s .entry)) r ≡ roleAt (decodeTag (now (s .entry)) at) ⌝ }
-{
-    let first = name_byte(s, at);
-    if first < 9 {
-        return Role::Plain;
-    }
-    if 10 < first {
-        return Role::Plain;
-    }
-    let t = read_tag(s, Cursor { at });
-    let TagStep::Got(tag, _) = t else {
-        return Role::Plain;
-    };
-    role_of(s, tag)
 }
 
 // Whether the bytes are 1 to 10 decimal digits.
@@ -499,11 +456,19 @@ fn scan_tags(s: &[u8], tags: Items, size: u32) -> Scanned
         }; 64],
     };
     let mut pending = Pending::None;
-    let mut next = tags.at;
+    let mut next = Cursor { at: tags.at };
     let mut i: u32 = 0;
     while i < count {
-        let role = role_at(s, next);
-        next = tag_behind(s, next);
+        let t = read_tag(s, next);
+        let TagStep::Got(tag, after) = t else {
+            // Never taken: the list was read before.
+            return Scanned {
+                verdict: Verdict::Violates(Rule::Order),
+                pairs,
+            };
+        };
+        let role = role_of(s, tag);
+        next = after;
         i += 1;
         if !is_skipped(pending, role) {
             let stepped = step(s, size, pairs, pending, role);

@@ -276,21 +276,6 @@ fn tag_end(s: &[u8], at: usize) -> usize
     value_end(s, name + n, code)
 }
 
-// The offset after a tag; 0 for one that is refused.
-pub fn tag_behind(s: &[u8], at: usize) -> usize
-    ensures { λ r. ⌜ r ≡ placeBehind (decodeTag (now (s .entry)) at) ⌝ }
-{
-    let end = tag_end(s, at);
-    if end != 0 {
-        return end;
-    }
-    let t = read_tag(s, Cursor { at });
-    let TagStep::Got(_, next) = t else {
-        return 0;
-    };
-    next.at
-}
-
 // n tags one after the other.
 fn tags_end(s: &[u8], at: usize, n: u32) -> usize
     ensures { λ r. ⌜ EndsThere (ends (decodeMany n decodeTag (now (s .entry)) at)) r ⌝ }

@@ -6,7 +6,7 @@ use Rattle.format.specs.Decoding.{decodeMany, itemsOf}
 use Rattle.format.specs.Order.{decodeTag}
 use Rattle.format.specs.PartTagOrder.{sizes, sole}
 use Rattle.part_tags.specs.PartTagSteps.{soleAfter}
-use Rattle.part_tags.proofs.Rest.{rest, Reached, reached-first, turn-behind, rest-none}
+use Rattle.part_tags.proofs.Rest.{rest, Reached, reached-first, next-turn, rest-there, rest-none}
 use Rattle.part_tags.proofs.SizeTags.{sizes-next}
 use borrow.Author.Needs.{needs}
 use Rattle.part_tags.proofs.find_size.Statement.{statement}
@@ -14,8 +14,8 @@ use Rattle.part_tags.proofs.find_size.Tie as tie
 
 abbrev Inv-loop : tie.InvT-loop
 Inv-loop s count found₀ next₀ i₀ found next i =
-    Reached decodeTag s count next₀ i next
-    × (sole (sizes (itemsOf (decodeMany count decodeTag s next₀))) ≡ soleAfter found (sizes (rest decodeTag s count i next)))
+    Reached decodeTag s count (next₀ .at) i (next .at)
+    × (sole (sizes (itemsOf (decodeMany count decodeTag s (next₀ .at)))) ≡ soleAfter found (sizes (rest decodeTag s count i (next .at))))
 
 abbrev μ-loop : tie.MeasureT-loop
 μ-loop s count found₀ next₀ i₀ found next i = count - i
@@ -23,14 +23,26 @@ abbrev μ-loop : tie.MeasureT-loop
 loop-holds : tie.Need-loop-holds Inv-loop μ-loop
 loop-holds c = (reached-first decodeTag _ _ _, rw sub-zero refl)
 
-size-at-requires : tie.Need-size-at-requires Inv-loop μ-loop
-size-at-requires c κs = search needs
+read-tag-requires : tie.Need-read-tag-requires Inv-loop μ-loop
+read-tag-requires c κs = search needs
+
+enum-known-t : tie.Need-enum-known-t Inv-loop μ-loop
+enum-known-t c = search needs
+
+enum-told : tie.Need-enum-told Inv-loop μ-loop
+enum-told c = search needs
+
+returns : tie.Need-returns Inv-loop μ-loop
+returns c =
+    let l = c .before .before .before .before in
+    let read = rw (c .enum-told .given .1) at (c .before .before .read-tag .ensures .0) in
+    absurd (rest-there decodeTag _ _ _ (l .before .before .pre) _ _ (c .before .before .before .loop-test .taken) (l .loop .inv .0) read)
+
+size-in-requires : tie.Need-size-in-requires Inv-loop μ-loop
+size-in-requires c κs = search needs
 
 join-requires : tie.Need-join-requires Inv-loop μ-loop
 join-requires c κs = search needs
-
-tag-behind-requires : tie.Need-tag-behind-requires Inv-loop μ-loop
-tag-behind-requires c κs = search needs
 
 add-i : tie.Need-add-i Inv-loop μ-loop
 add-i c = search needs
@@ -41,35 +53,35 @@ loop-less c = search needs
 loop-again : tie.Need-loop-again Inv-loop μ-loop
 loop-again c =
     let t = c .before .before .before in
-    let l = t .before in
-    let turn = turn-behind decodeTag _ _ _ (l .before .before .pre) _ _ (t .loop-test .taken) (l .loop .inv .0) (c .tag-behind .ensures) in
-    let number = rw (← turn .1 .0) at (c .before .before .size-at .ensures) in
-    let later = sizes-next (l .loop .found) (c .before .before .size-at .result) _ _ number in
-    (turn .1 .1 .reached, l .loop .inv .1 ∙ rw (turn .1 .1 .next, c .before .join .ensures) later)
-
-enum-told : tie.Need-enum-told Inv-loop μ-loop
-enum-told c = search needs
-
-enum-known-found : tie.Need-enum-known-found Inv-loop μ-loop
-enum-known-found c = search needs
+    let l = t .before .before .before .before in
+    let read = rw (t .t .given .1) at (t .before .before .read-tag .ensures .0) in
+    let turn = next-turn decodeTag _ _ _ (l .before .before .pre) _ _ (t .before .before .before .loop-test .taken) (l .loop .inv .0) read in
+    let later = sizes-next (l .loop .found) (c .before .size-in .result) _ _ (c .before .size-in .ensures) in
+    (turn .reached, l .loop .inv .1 ∙ rw (turn .next, c .join .ensures) later)
 
 enum-told-2 : tie.Need-enum-told-2 Inv-loop μ-loop
 enum-told-2 c = search needs
 
-returns : tie.Need-returns Inv-loop μ-loop
-unfolding sizes
-returns c =
-    let l = c .before .before .before in
-    rw (l .loop .inv .1, c .enum-told .given .1, rest-none decodeTag _ _ _ _ (c .before .before .loop-test .left)) refl
+enum-known-found : tie.Need-enum-known-found Inv-loop μ-loop
+enum-known-found c = search needs
+
+enum-told-3 : tie.Need-enum-told-3 Inv-loop μ-loop
+enum-told-3 c = search needs
 
 returns-2 : tie.Need-returns-2 Inv-loop μ-loop
 unfolding sizes
 returns-2 c =
+    let l = c .before .before .before in
+    rw (l .loop .inv .1, c .enum-told2 .given .1, rest-none decodeTag _ _ _ _ (c .before .before .loop-test .left)) refl
+
+returns-3 : tie.Need-returns-3 Inv-loop μ-loop
+unfolding sizes
+returns-3 c =
     let l = c .before .before .before .before in
     rw (l .loop .inv .1, c .before .found .given .1, rest-none decodeTag _ _ _ _ (c .before .before .before .loop-test .left)) refl
 
-returns-3 : tie.Need-returns-3 Inv-loop μ-loop
-returns-3 c = rw (c .before .before .before .loop .inv .1, c .enum-told2 .given .1) refl
+returns-4 : tie.Need-returns-4 Inv-loop μ-loop
+returns-4 c = rw (c .before .before .before .loop .inv .1, c .enum-told3 .given .1) refl
 
 pub find-size-spec : {M : Type 1} → statement M
 find-size-spec =
@@ -78,15 +90,18 @@ find-size-spec =
     Inv-loop
     μ-loop
     loop-holds
-    size-at-requires
+    read-tag-requires
+    enum-known-t
+    enum-told
+    returns
+    size-in-requires
     join-requires
-    tag-behind-requires
     add-i
     loop-less
     loop-again
-    enum-told
-    enum-known-found
     enum-told-2
-    returns
+    enum-known-found
+    enum-told-3
     returns-2
-    returns-3)
+    returns-3
+    returns-4)
