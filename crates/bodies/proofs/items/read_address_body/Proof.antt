@@ -1,0 +1,30 @@
+use mathlib.Core.Path.{refl}
+use Rattle.format.specs.PacketOrder.{decodeBody}
+use borrow.Author.Needs.{needs}
+use Rattle.bodies.proofs.items.read_address_body.Statement.{statement}
+use Rattle.bodies.proofs.items.read_address_body.Tie as tie
+
+read-address-requires : tie.Need-read-address-requires
+read-address-requires c κs = search needs
+
+enum-known-a : tie.Need-enum-known-a
+enum-known-a c = search needs
+
+enum-told : tie.Need-enum-told
+enum-told c = search needs
+
+fault-requires : tie.Need-fault-requires
+fault-requires c κs = search needs
+
+returns : tie.Need-returns
+unfolding decodeBody
+returns c = rw (c .fault .ensures, ← c .before .before .before .read-address .ensures, c .before .enum-told .given .1) (refl, tt)
+
+returns-2 : tie.Need-returns-2
+unfolding decodeBody
+returns-2 c = rw (← c .before .before .before .read-address .ensures, c .before .a .given .1) (refl, tt)
+
+pub read-address-body-spec : {M : Type 1} → statement M
+read-address-body-spec =
+    tie.close
+    (tie.spec read-address-requires enum-known-a enum-told fault-requires returns returns-2)

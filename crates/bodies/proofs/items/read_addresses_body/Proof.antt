@@ -1,0 +1,35 @@
+use mathlib.Core.Path.{refl}
+use Rattle.format.specs.PacketOrder.{decodeBody}
+use borrow.Author.Needs.{needs}
+use Rattle.bodies.proofs.items.read_addresses_body.Statement.{statement}
+use Rattle.bodies.proofs.items.read_addresses_body.Tie as tie
+
+read-addresses-requires : tie.Need-read-addresses-requires
+read-addresses-requires c κs = search needs
+
+enum-known-l : tie.Need-enum-known-l
+enum-known-l c = search needs
+
+enum-told : tie.Need-enum-told
+enum-told c = search needs
+
+fault-requires : tie.Need-fault-requires
+fault-requires c κs = search needs
+
+returns : tie.Need-returns
+unfolding decodeBody
+returns c = rw (c .fault .ensures, ← c .before .before .before .read-addresses .ensures .0, c .before .enum-told .given .1) (refl, tt)
+
+returns-2 : tie.Need-returns-2
+unfolding decodeBody
+returns-2 c =
+    rw (
+      ← c .before .before .before .read-addresses .ensures .0,
+      c .before .l .given .1,
+    )
+    (refl, rw (c .before .l .given .1) at (c .before .before .before .read-addresses .ensures .1))
+
+pub read-addresses-body-spec : {M : Type 1} → statement M
+read-addresses-body-spec =
+    tie.close
+    (tie.spec read-addresses-requires enum-known-l enum-told fault-requires returns returns-2)

@@ -1,0 +1,29 @@
+use mathlib.Core.Path.{refl}
+use Rattle.format.specs.PacketOrder.{decodeBody}
+use borrow.Author.Needs.{needs}
+use Rattle.bodies.proofs.items.read_dword_body.Statement.{statement}
+use Rattle.bodies.proofs.items.read_dword_body.Tie as tie
+
+dword-requires : tie.Need-dword-requires
+dword-requires c κs = search needs
+
+enum-known-d : tie.Need-enum-known-d
+enum-known-d c = search needs
+
+enum-told : tie.Need-enum-told
+enum-told c = search needs
+
+fault-requires : tie.Need-fault-requires
+fault-requires c κs = search needs
+
+returns : tie.Need-returns
+unfolding decodeBody
+returns c = rw (c .fault .ensures, ← c .before .before .before .dword .ensures, c .before .enum-told .given .1) (refl, tt)
+
+returns-2 : tie.Need-returns-2
+unfolding decodeBody
+returns-2 c = rw (← c .before .before .before .dword .ensures, c .before .d .given .1) (refl, tt)
+
+pub read-dword-body-spec : {M : Type 1} → statement M
+read-dword-body-spec =
+    tie.close (tie.spec dword-requires enum-known-d enum-told fault-requires returns returns-2)

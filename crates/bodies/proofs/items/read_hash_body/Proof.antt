@@ -1,0 +1,31 @@
+use mathlib.Core.Path.{refl}
+use Rattle.format.specs.PacketOrder.{decodeBody}
+use Rattle.wire.proofs.Inside.{hash-inside}
+use borrow.Author.Needs.{needs}
+use Rattle.bodies.proofs.items.read_hash_body.Statement.{statement}
+use Rattle.bodies.proofs.items.read_hash_body.Tie as tie
+
+hash-requires : tie.Need-hash-requires
+hash-requires c κs = search needs
+
+enum-known-h : tie.Need-enum-known-h
+enum-known-h c = search needs
+
+enum-told : tie.Need-enum-told
+enum-told c = search needs
+
+fault-requires : tie.Need-fault-requires
+fault-requires c κs = search needs
+
+returns : tie.Need-returns
+unfolding decodeBody
+returns c = rw (c .fault .ensures, ← c .before .before .before .hash .ensures, c .before .enum-told .given .1) (refl, tt)
+
+returns-2 : tie.Need-returns-2
+unfolding decodeBody
+returns-2 c = rw (← c .before .before .before .hash .ensures, c .before .h .given .1)
+    (refl, hash-inside _ _ _ (rw (c .before .h .given .1) at (c .before .before .before .hash .ensures)))
+
+pub read-hash-body-spec : {M : Type 1} → statement M
+read-hash-body-spec =
+    tie.close (tie.spec hash-requires enum-known-h enum-told fault-requires returns returns-2)

@@ -1,0 +1,111 @@
+use mathlib.Core.Path.{refl}
+use Rattle.format.specs.PacketOrder.{decodeBody}
+use borrow.Author.Needs.{needs}
+use Rattle.bodies.proofs.items.read_hello.Statement.{statement}
+use Rattle.bodies.proofs.items.read_hello.Tie as tie
+
+fixed-requires : tie.Need-fixed-requires
+fixed-requires c κs = search needs
+
+enum-known-f : tie.Need-enum-known-f
+enum-known-f c = search needs
+
+enum-told : tie.Need-enum-told
+enum-told c = search needs
+
+fault-requires : tie.Need-fault-requires
+fault-requires c κs = search needs
+
+returns : tie.Need-returns
+unfolding decodeBody
+returns c = rw (c .fault .ensures, ← c .before .before .before .fixed .ensures, c .before .enum-told .given .1) (refl, tt)
+
+read-record-requires : tie.Need-read-record-requires
+read-record-requires c κs = search needs
+
+enum-known-r : tie.Need-enum-known-r
+enum-known-r c = search needs
+
+enum-told-2 : tie.Need-enum-told-2
+enum-told-2 c = search needs
+
+fault-requires-2 : tie.Need-fault-requires-2
+fault-requires-2 c κs = search needs
+
+returns-2 : tie.Need-returns-2
+unfolding decodeBody
+returns-2 c =
+    let f = c .before .before .before .before .before in
+    rw (
+      c .fault2 .ensures,
+      ← f .before .before .fixed .ensures,
+      f .f .given .1,
+      ← c .before .before .before .read-record .ensures .0,
+      c .before .enum-told2 .given .1,
+    )
+    (refl, tt)
+
+read-address-requires : tie.Need-read-address-requires
+read-address-requires c κs = search needs
+
+enum-known-a : tie.Need-enum-known-a
+enum-known-a c = search needs
+
+enum-told-3 : tie.Need-enum-told-3
+enum-told-3 c = search needs
+
+fault-requires-3 : tie.Need-fault-requires-3
+fault-requires-3 c κs = search needs
+
+returns-3 : tie.Need-returns-3
+unfolding decodeBody
+returns-3 c =
+    let r = c .before .before .before .before .before in
+    let f = r .before .before .before .before in
+    rw (
+      c .fault3 .ensures,
+      ← f .before .before .fixed .ensures,
+      f .f .given .1,
+      ← r .before .before .read-record .ensures .0,
+      r .r .given .1,
+      ← c .before .before .before .read-address .ensures,
+      c .before .enum-told3 .given .1,
+    )
+    (refl, tt)
+
+returns-4 : tie.Need-returns-4
+unfolding decodeBody
+returns-4 c =
+    let a = c .before in
+    let r = a .before .before .before .before in
+    let f = r .before .before .before .before in
+    rw (
+      ← f .before .before .fixed .ensures,
+      f .f .given .1,
+      ← r .before .before .read-record .ensures .0,
+      r .r .given .1,
+      ← a .before .before .read-address .ensures,
+      a .a .given .1,
+    )
+    (refl, rw (r .r .given .1) at (r .before .before .read-record .ensures .1))
+
+pub read-hello-spec : {M : Type 1} → statement M
+read-hello-spec =
+    tie.close
+    (tie.spec
+    fixed-requires
+    enum-known-f
+    enum-told
+    fault-requires
+    returns
+    read-record-requires
+    enum-known-r
+    enum-told-2
+    fault-requires-2
+    returns-2
+    read-address-requires
+    enum-known-a
+    enum-told-3
+    fault-requires-3
+    returns-3
+    returns-4)

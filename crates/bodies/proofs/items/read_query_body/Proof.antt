@@ -1,0 +1,35 @@
+use mathlib.Core.Path.{refl}
+use Rattle.format.specs.PacketOrder.{decodeBody}
+use borrow.Author.Needs.{needs}
+use Rattle.bodies.proofs.items.read_query_body.Statement.{statement}
+use Rattle.bodies.proofs.items.read_query_body.Tie as tie
+
+read-query-requires : tie.Need-read-query-requires
+read-query-requires c κs = search needs
+
+enum-known-q : tie.Need-enum-known-q
+enum-known-q c = search needs
+
+enum-told : tie.Need-enum-told
+enum-told c = search needs
+
+fault-requires : tie.Need-fault-requires
+fault-requires c κs = search needs
+
+returns : tie.Need-returns
+unfolding decodeBody
+returns c = rw (c .fault .ensures, ← c .before .before .before .read-query .ensures .0, c .before .enum-told .given .1) (refl, tt)
+
+returns-2 : tie.Need-returns-2
+unfolding decodeBody
+returns-2 c =
+    rw (
+      ← c .before .before .before .read-query .ensures .0,
+      c .before .q .given .1,
+    )
+    (refl, rw (c .before .q .given .1) at (c .before .before .before .read-query .ensures .1))
+
+pub read-query-body-spec : {M : Type 1} → statement M
+read-query-body-spec =
+    tie.close
+    (tie.spec read-query-requires enum-known-q enum-told fault-requires returns returns-2)

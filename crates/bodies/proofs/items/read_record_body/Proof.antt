@@ -1,0 +1,35 @@
+use mathlib.Core.Path.{refl}
+use Rattle.format.specs.PacketOrder.{decodeBody}
+use borrow.Author.Needs.{needs}
+use Rattle.bodies.proofs.items.read_record_body.Statement.{statement}
+use Rattle.bodies.proofs.items.read_record_body.Tie as tie
+
+read-record-requires : tie.Need-read-record-requires
+read-record-requires c κs = search needs
+
+enum-known-r : tie.Need-enum-known-r
+enum-known-r c = search needs
+
+enum-told : tie.Need-enum-told
+enum-told c = search needs
+
+fault-requires : tie.Need-fault-requires
+fault-requires c κs = search needs
+
+returns : tie.Need-returns
+unfolding decodeBody
+returns c = rw (c .fault .ensures, ← c .before .before .before .read-record .ensures .0, c .before .enum-told .given .1) (refl, tt)
+
+returns-2 : tie.Need-returns-2
+unfolding decodeBody
+returns-2 c =
+    rw (
+      ← c .before .before .before .read-record .ensures .0,
+      c .before .r .given .1,
+    )
+    (refl, rw (c .before .r .given .1) at (c .before .before .before .read-record .ensures .1))
+
+pub read-record-body-spec : {M : Type 1} → statement M
+read-record-body-spec =
+    tie.close
+    (tie.spec read-record-requires enum-known-r enum-told fault-requires returns returns-2)

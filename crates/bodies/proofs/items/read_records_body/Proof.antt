@@ -1,0 +1,35 @@
+use mathlib.Core.Path.{refl}
+use Rattle.format.specs.PacketOrder.{decodeBody}
+use borrow.Author.Needs.{needs}
+use Rattle.bodies.proofs.items.read_records_body.Statement.{statement}
+use Rattle.bodies.proofs.items.read_records_body.Tie as tie
+
+read-records-requires : tie.Need-read-records-requires
+read-records-requires c κs = search needs
+
+enum-known-l : tie.Need-enum-known-l
+enum-known-l c = search needs
+
+enum-told : tie.Need-enum-told
+enum-told c = search needs
+
+fault-requires : tie.Need-fault-requires
+fault-requires c κs = search needs
+
+returns : tie.Need-returns
+unfolding decodeBody
+returns c = rw (c .fault .ensures, ← c .before .before .before .read-records .ensures .0, c .before .enum-told .given .1) (refl, tt)
+
+returns-2 : tie.Need-returns-2
+unfolding decodeBody
+returns-2 c =
+    rw (
+      ← c .before .before .before .read-records .ensures .0,
+      c .before .l .given .1,
+    )
+    (refl, rw (c .before .l .given .1) at (c .before .before .before .read-records .ensures .1))
+
+pub read-records-body-spec : {M : Type 1} → statement M
+read-records-body-spec =
+    tie.close
+    (tie.spec read-records-requires enum-known-l enum-told fault-requires returns returns-2)

@@ -1,0 +1,30 @@
+use mathlib.Core.Path.{refl}
+use Rattle.format.specs.PacketOrder.{decodeBody}
+use borrow.Author.Needs.{needs}
+use Rattle.bodies.proofs.items.read_text_body.Statement.{statement}
+use Rattle.bodies.proofs.items.read_text_body.Tie as tie
+
+string-requires : tie.Need-string-requires
+string-requires c κs = search needs
+
+enum-known-t : tie.Need-enum-known-t
+enum-known-t c = search needs
+
+enum-told : tie.Need-enum-told
+enum-told c = search needs
+
+fault-requires : tie.Need-fault-requires
+fault-requires c κs = search needs
+
+returns : tie.Need-returns
+unfolding decodeBody
+returns c = rw (c .fault .ensures, ← c .before .before .before .string .ensures .0, c .before .enum-told .given .1) (refl, tt)
+
+returns-2 : tie.Need-returns-2
+unfolding decodeBody
+returns-2 c = rw (← c .before .before .before .string .ensures .0, c .before .t .given .1)
+    (refl, rw (c .before .t .given .1) at (c .before .before .before .string .ensures .1))
+
+pub read-text-body-spec : {M : Type 1} → statement M
+read-text-body-spec =
+    tie.close (tie.spec string-requires enum-known-t enum-told fault-requires returns returns-2)

@@ -1,0 +1,69 @@
+use mathlib.Core.Path.{refl}
+use Rattle.format.specs.PacketOrder.{decodeBody}
+use borrow.Author.Needs.{needs}
+use Rattle.bodies.proofs.items.read_two_dwords.Statement.{statement}
+use Rattle.bodies.proofs.items.read_two_dwords.Tie as tie
+
+dword-requires : tie.Need-dword-requires
+dword-requires c κs = search needs
+
+enum-known-a : tie.Need-enum-known-a
+enum-known-a c = search needs
+
+enum-told : tie.Need-enum-told
+enum-told c = search needs
+
+fault-requires : tie.Need-fault-requires
+fault-requires c κs = search needs
+
+returns : tie.Need-returns
+unfolding decodeBody
+returns c = rw (c .fault .ensures, ← c .before .before .before .dword .ensures, c .before .enum-told .given .1) (refl, tt)
+
+dword-requires-2 : tie.Need-dword-requires-2
+dword-requires-2 c κs = search needs
+
+enum-known-b : tie.Need-enum-known-b
+enum-known-b c = search needs
+
+enum-told-2 : tie.Need-enum-told-2
+enum-told-2 c = search needs
+
+fault-requires-2 : tie.Need-fault-requires-2
+fault-requires-2 c κs = search needs
+
+returns-2 : tie.Need-returns-2
+unfolding decodeBody
+returns-2 c =
+    let a = c .before .before .before .before .before in
+    rw (
+      c .fault2 .ensures,
+      ← a .before .before .dword .ensures,
+      a .a .given .1,
+      ← c .before .before .before .dword2 .ensures,
+      c .before .enum-told2 .given .1,
+    )
+    (refl, tt)
+
+returns-3 : tie.Need-returns-3
+unfolding decodeBody
+returns-3 c =
+    let b = c .before in
+    let a = b .before .before .before .before in
+    rw (← a .before .before .dword .ensures, a .a .given .1, ← b .before .before .dword2 .ensures, b .b .given .1) (refl, tt)
+
+pub read-two-dwords-spec : {M : Type 1} → statement M
+read-two-dwords-spec =
+    tie.close
+    (tie.spec
+    dword-requires
+    enum-known-a
+    enum-told
+    fault-requires
+    returns
+    dword-requires-2
+    enum-known-b
+    enum-told-2
+    fault-requires-2
+    returns-2
+    returns-3)

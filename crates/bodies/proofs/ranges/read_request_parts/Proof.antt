@@ -1,0 +1,71 @@
+use mathlib.Core.Path.{refl}
+use Rattle.format.specs.PacketOrder.{decodeBody, decodeRequestParts}
+use Rattle.wire.proofs.Inside.{hash-inside}
+use borrow.Author.Needs.{needs}
+use Rattle.bodies.proofs.ranges.read_request_parts.Statement.{statement}
+use Rattle.bodies.proofs.ranges.read_request_parts.Tie as tie
+
+hash-requires : tie.Need-hash-requires
+hash-requires c κs = search needs
+
+enum-known-h : tie.Need-enum-known-h
+enum-known-h c = search needs
+
+enum-told : tie.Need-enum-told
+enum-told c = search needs
+
+fault-requires : tie.Need-fault-requires
+fault-requires c κs = search needs
+
+returns : tie.Need-returns
+unfolding decodeBody decodeRequestParts
+returns c = rw (c .fault .ensures, ← c .before .before .before .hash .ensures, c .before .enum-told .given .1) (refl, tt)
+
+read-ranges-requires : tie.Need-read-ranges-requires
+read-ranges-requires c κs = search needs
+
+enum-known-r : tie.Need-enum-known-r
+enum-known-r c = search needs
+
+enum-told-2 : tie.Need-enum-told-2
+enum-told-2 c = search needs
+
+fault-requires-2 : tie.Need-fault-requires-2
+fault-requires-2 c κs = search needs
+
+returns-2 : tie.Need-returns-2
+unfolding decodeBody decodeRequestParts
+returns-2 c =
+    let h = c .before .before .before .before .before in
+    rw (
+      c .fault2 .ensures,
+      ← h .before .before .hash .ensures,
+      h .h .given .1,
+      ← c .before .before .before .read-ranges .ensures,
+      c .before .enum-told2 .given .1,
+    )
+    (refl, tt)
+
+returns-3 : tie.Need-returns-3
+unfolding decodeBody decodeRequestParts
+returns-3 c =
+    let r = c .before in
+    let h = r .before .before .before .before in
+    rw (← h .before .before .hash .ensures, h .h .given .1, ← r .before .before .read-ranges .ensures, r .r .given .1)
+    (refl, hash-inside _ _ _ (rw (h .h .given .1) at (h .before .before .hash .ensures)))
+
+pub read-request-parts-spec : {M : Type 1} → statement M
+read-request-parts-spec =
+    tie.close
+    (tie.spec
+    hash-requires
+    enum-known-h
+    enum-told
+    fault-requires
+    returns
+    read-ranges-requires
+    enum-known-r
+    enum-told-2
+    fault-requires-2
+    returns-2
+    returns-3)

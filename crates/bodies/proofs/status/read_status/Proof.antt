@@ -1,0 +1,91 @@
+use mathlib.Core.Path.{refl}
+use borrow.Author.Tests.{eq-eqb, ne-eqb}
+use Rattle.format.specs.PacketOrder.{decodeBody}
+use borrow.Author.Needs.{needs}
+use Rattle.bodies.proofs.status.read_status.Statement.{statement}
+use Rattle.bodies.proofs.status.read_status.Tie as tie
+
+remaining-requires : tie.Need-remaining-requires
+remaining-requires c κs = search needs
+
+read-triple-requires : tie.Need-read-triple-requires
+read-triple-requires c κs = search needs
+
+enum-known-p : tie.Need-enum-known-p
+enum-known-p c = search needs
+
+enum-told : tie.Need-enum-told
+enum-told c = search needs
+
+fault-requires : tie.Need-fault-requires
+fault-requires c κs = search needs
+
+returns : tie.Need-returns
+unfolding decodeBody
+returns c =
+    let b = c .before .before .before .before in
+    rw (
+      c .fault .ensures,
+      ← b .before .remaining .ensures,
+      eq-eqb _ _ (b .if1 .taken),
+      ← c .before .before .before .read-triple .ensures,
+      c .before .enum-told .given .1,
+    )
+    (refl, tt)
+
+returns-2 : tie.Need-returns-2
+unfolding decodeBody
+returns-2 c =
+    let p = c .before in
+    let b = p .before .before .before in
+    rw (← b .before .remaining .ensures, eq-eqb _ _ (b .if1 .taken), ← p .before .before .read-triple .ensures, p .p .given .1) (refl, tt)
+
+read-extended-status-requires : tie.Need-read-extended-status-requires
+read-extended-status-requires c κs = search needs
+
+enum-known-e : tie.Need-enum-known-e
+enum-known-e c = search needs
+
+enum-told-2 : tie.Need-enum-told-2
+enum-told-2 c = search needs
+
+fault-requires-2 : tie.Need-fault-requires-2
+fault-requires-2 c κs = search needs
+
+returns-3 : tie.Need-returns-3
+unfolding decodeBody
+returns-3 c =
+    let b = c .before .before .before .before in
+    rw (
+      c .fault2 .ensures,
+      ← b .before .remaining .ensures,
+      ne-eqb _ _ (b .if1 .left),
+      ← c .before .before .before .read-extended-status .ensures,
+      c .before .enum-told2 .given .1,
+    )
+    (refl, tt)
+
+returns-4 : tie.Need-returns-4
+unfolding decodeBody
+returns-4 c =
+    let e = c .before in
+    let b = e .before .before .before in
+    rw (← b .before .remaining .ensures, ne-eqb _ _ (b .if1 .left), ← e .before .before .read-extended-status .ensures, e .e .given .1) (refl, tt)
+
+pub read-status-spec : {M : Type 1} → statement M
+read-status-spec =
+    tie.close
+    (tie.spec
+    remaining-requires
+    read-triple-requires
+    enum-known-p
+    enum-told
+    fault-requires
+    returns
+    returns-2
+    read-extended-status-requires
+    enum-known-e
+    enum-told-2
+    fault-requires-2
+    returns-3
+    returns-4)

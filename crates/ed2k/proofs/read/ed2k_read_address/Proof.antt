@@ -1,0 +1,61 @@
+use denote.Ref.{now}
+use mathlib.Core.Path.{refl, ap, _∙_}
+use Rattle.ed2k.specs.Calls.{handedOut}
+use borrow.Author.Needs.{needs}
+use Rattle.ed2k.proofs.read.ed2k_read_address.Statement.{statement}
+use Rattle.ed2k.proofs.read.ed2k_read_address.Tie as tie
+
+read-address-requires : tie.Need-read-address-requires
+read-address-requires c κs = search needs
+
+enum-known-a : tie.Need-enum-known-a
+enum-known-a c = search needs
+
+enum-told : tie.Need-enum-told
+enum-told c = search needs
+
+fault-requires : tie.Need-fault-requires
+fault-requires c κs = search needs
+
+number-requires : tie.Need-number-requires
+number-requires c κs = search needs
+
+returns : tie.Need-returns
+returns c =
+    let a = c .before .before .before .before .read-address in
+    rw (c .number .ensures, c .before .fault .ensures, ← a .ensures, c .before .before .enum-told .given .1) refl
+
+address-fields-requires : tie.Need-address-fields-requires
+address-fields-requires c κs = search needs
+
+slice-aggregate-hand-out : tie.Need-slice-aggregate-hand-out
+slice-aggregate-hand-out c = search needs
+
+hand-out-requires : tie.Need-hand-out-requires
+hand-out-requires c κs = search needs
+
+same-length : tie.Need-same-length
+same-length c = search needs
+
+returns-2 : tie.Need-returns-2
+returns-2 c =
+    let a = c .before .before .before .before .before .before .before .before .before .read-address in
+    let old = now (c .before .before .before .before .before .before .before .before .before .before .before .before .args .fields) in
+    let out = c .before .before .hand-out .ensures ∙ ap (λ l. handedOut l old) (c .before .before .before .before .before .address-fields .ensures) in
+    rw (← a .ensures, c .before .before .before .before .before .before .before .a .given .1) out
+
+pub ed2k-read-address-spec : {M : Type 1} → statement M
+ed2k-read-address-spec =
+    tie.close
+    (tie.spec
+    read-address-requires
+    enum-known-a
+    enum-told
+    fault-requires
+    number-requires
+    returns
+    address-fields-requires
+    slice-aggregate-hand-out
+    hand-out-requires
+    same-length
+    returns-2)

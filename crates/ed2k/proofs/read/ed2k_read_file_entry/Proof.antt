@@ -1,0 +1,61 @@
+use denote.Ref.{now}
+use mathlib.Core.Path.{refl, ap, _∙_}
+use Rattle.ed2k.specs.Calls.{handedOut}
+use borrow.Author.Needs.{needs}
+use Rattle.ed2k.proofs.read.ed2k_read_file_entry.Statement.{statement}
+use Rattle.ed2k.proofs.read.ed2k_read_file_entry.Tie as tie
+
+read-file-entry-requires : tie.Need-read-file-entry-requires
+read-file-entry-requires c κs = search needs
+
+enum-known-e : tie.Need-enum-known-e
+enum-known-e c = search needs
+
+enum-told : tie.Need-enum-told
+enum-told c = search needs
+
+fault-requires : tie.Need-fault-requires
+fault-requires c κs = search needs
+
+number-requires : tie.Need-number-requires
+number-requires c κs = search needs
+
+returns : tie.Need-returns
+returns c =
+    let a = c .before .before .before .before .read-file-entry in
+    (a .result, a .ensures .0, a .ensures .1, rw (c .number .ensures, c .before .fault .ensures, c .before .before .enum-told .given .1) refl)
+
+file-entry-fields-requires : tie.Need-file-entry-fields-requires
+file-entry-fields-requires c κs = search needs
+
+slice-aggregate-hand-out : tie.Need-slice-aggregate-hand-out
+slice-aggregate-hand-out c = search needs
+
+hand-out-requires : tie.Need-hand-out-requires
+hand-out-requires c κs = search needs
+
+same-length : tie.Need-same-length
+same-length c = search needs
+
+returns-2 : tie.Need-returns-2
+returns-2 c =
+    let a = c .before .before .before .before .before .before .before .before .before .read-file-entry in
+    let old = now (c .before .before .before .before .before .before .before .before .before .before .before .before .args .fields) in
+    let out = c .before .before .hand-out .ensures ∙ ap (λ l. handedOut l old) (c .before .before .before .before .before .file-entry-fields .ensures) in
+    (a .result, a .ensures .0, a .ensures .1, rw (c .before .before .before .before .before .before .before .e .given .1) out)
+
+pub ed2k-read-file-entry-spec : {M : Type 1} → statement M
+ed2k-read-file-entry-spec =
+    tie.close
+    (tie.spec
+    read-file-entry-requires
+    enum-known-e
+    enum-told
+    fault-requires
+    number-requires
+    returns
+    file-entry-fields-requires
+    slice-aggregate-hand-out
+    hand-out-requires
+    same-length
+    returns-2)

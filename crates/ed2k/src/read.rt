@@ -1,0 +1,209 @@
+// The calls that read: a whole message, and one item of a list or a query.
+ghost use mathlib.Core.Path.{_≡_};
+ghost use Rattle.format.specs.Tables.{lookup};
+ghost use Rattle.format.specs.Messages.{knownMet, serverMet, partMet};
+ghost use Rattle.format.specs.Rules.{partCount, blockCount};
+ghost use Rattle.format.specs.Order.{decodeAddress};
+ghost use Rattle.ed2k.specs.Calls.{numbered, kinds, ReadOf, MessageRead, linkKind, QueryRead, TagListRead};
+ghost use Rattle.ed2k.specs.Calls.{TagRead, addressRead, RecordRead, FileEntryRead, ServerEntryRead, NodeRead};
+use crate::hand_out;
+use met::FileEntryStep;
+use met::KnownAnswer;
+use met::PartAnswer;
+use met::ServerAnswer;
+use met::ServerEntryStep;
+use packets::Link;
+use packets::PacketAnswer;
+use query::NodeStep;
+use query::QueryAnswer;
+use records::AddressStep;
+use records::RecordStep;
+use tags::TagListAnswer;
+use tags::TagStep;
+use wire::Cursor;
+
+// Reading.
+
+// A message goes from its own reader straight to its fields, and not by way of the one call over the six kinds: each copy of an answer
+// is felt in short messages.
+
+fn read_link(link: Link, bytes: &[u8], fields: &mut [u64]) -> u8
+    ensures { λ r. ⌜ MessageRead (linkKind link) (now (bytes .entry)) (now (fields .entry)) (numbered r (now (fields .exit))) ⌝ }
+{
+    let a = packets::read_packet(bytes, link);
+    match a {
+        PacketAnswer::Refused(n) => n,
+        PacketAnswer::Accepted(p) => {
+            let f = fields::packet_fields(p);
+            hand_out(&f, fields)
+        }
+    }
+}
+
+fn read_known(bytes: &[u8], fields: &mut [u64]) -> u8
+    ensures { λ r. ⌜ MessageRead knownMet (now (bytes .entry)) (now (fields .entry)) (numbered r (now (fields .exit))) ⌝ }
+{
+    let a = met::read_known_met(bytes);
+    match a {
+        KnownAnswer::Refused(n) => n,
+        KnownAnswer::Accepted(m) => {
+            let f = fields::known_fields(m);
+            hand_out(&f, fields)
+        }
+    }
+}
+
+fn read_server(bytes: &[u8], fields: &mut [u64]) -> u8
+    ensures { λ r. ⌜ MessageRead serverMet (now (bytes .entry)) (now (fields .entry)) (numbered r (now (fields .exit))) ⌝ }
+{
+    let a = met::read_server_met(bytes);
+    match a {
+        ServerAnswer::Refused(n) => n,
+        ServerAnswer::Accepted(m) => {
+            let f = fields::server_fields(m);
+            hand_out(&f, fields)
+        }
+    }
+}
+
+fn read_part(bytes: &[u8], fields: &mut [u64]) -> u8
+    ensures { λ r. ⌜ MessageRead partMet (now (bytes .entry)) (now (fields .entry)) (numbered r (now (fields .exit))) ⌝ }
+{
+    let a = met::read_part_met(bytes);
+    match a {
+        PartAnswer::Refused(n) => n,
+        PartAnswer::Accepted(m, size) => {
+            let f = fields::part_fields(m, size);
+            hand_out(&f, fields)
+        }
+    }
+}
+
+fn read_lone_query(bytes: &[u8], fields: &mut [u64]) -> u8
+    ensures { λ r. ⌜ QueryRead (now (bytes .entry)) (now (fields .entry)) (numbered r (now (fields .exit))) ⌝ }
+{
+    let a = query::read_lone_query(bytes);
+    match a {
+        QueryAnswer::Refused(n) => n,
+        QueryAnswer::Accepted(q) => {
+            let f = fields::query_fields(q);
+            hand_out(&f, fields)
+        }
+    }
+}
+
+fn read_lone_tags(bytes: &[u8], fields: &mut [u64]) -> u8
+    ensures { λ r. ⌜ TagListRead (now (bytes .entry)) (now (fields .entry)) (numbered r (now (fields .exit))) ⌝ }
+{
+    let a = tags::read_tag_list(bytes);
+    match a {
+        TagListAnswer::Refused(n) => n,
+        TagListAnswer::Accepted(l) => {
+            let f = fields::list_fields(l);
+            hand_out(&f, fields)
+        }
+    }
+}
+
+#[no_mangle]
+pub extern "C" fn ed2k_read(kind: u8, bytes: &[u8], fields: &mut [u64]) -> u8
+    ensures { λ r. ⌜ ReadOf (lookup kinds kind) (now (bytes .entry)) (now (fields .entry)) (numbered r (now (fields .exit))) ⌝ }
+{
+    match kind {
+        0 => read_link(Link::Server, bytes, fields),
+        1 => read_link(Link::Client, bytes, fields),
+        2 => read_link(Link::Udp, bytes, fields),
+        3 => read_known(bytes, fields),
+        4 => read_server(bytes, fields),
+        5 => read_part(bytes, fields),
+        6 => read_lone_query(bytes, fields),
+        7 => read_lone_tags(bytes, fields),
+        _ => 4,
+    }
+}
+
+#[no_mangle]
+pub extern "C" fn ed2k_read_tag(bytes: &[u8], at: usize, fields: &mut [u64]) -> u8
+    ensures { λ r. ⌜ TagRead (now (bytes .entry)) at (now (fields .entry)) (numbered r (now (fields .exit))) ⌝ }
+{
+    let t = tags::read_tag(bytes, Cursor { at });
+    let TagStep::Got(tag, next) = t else {
+        return t.fault().number();
+    };
+    let f = fields::tag_fields(tag, next);
+    hand_out(&f, fields)
+}
+
+#[no_mangle]
+pub extern "C" fn ed2k_read_address(bytes: &[u8], at: usize, fields: &mut [u64]) -> u8
+    ensures { λ r. ⌜ numbered r (now (fields .exit)) ≡ addressRead (decodeAddress (now (bytes .entry)) at) (now (fields .entry)) ⌝ }
+{
+    let a = records::read_address(bytes, Cursor { at });
+    let AddressStep::Got(address, next) = a else {
+        return a.fault().number();
+    };
+    let f = fields::address_fields(address, next);
+    hand_out(&f, fields)
+}
+
+#[no_mangle]
+pub extern "C" fn ed2k_read_record(bytes: &[u8], at: usize, fields: &mut [u64]) -> u8
+    ensures { λ r. ⌜ RecordRead (now (bytes .entry)) at (now (fields .entry)) (numbered r (now (fields .exit))) ⌝ }
+{
+    let r = records::read_record(bytes, Cursor { at });
+    let RecordStep::Got(record, next) = r else {
+        return r.fault().number();
+    };
+    let f = fields::record_fields(record, next);
+    hand_out(&f, fields)
+}
+
+#[no_mangle]
+pub extern "C" fn ed2k_read_file_entry(bytes: &[u8], at: usize, fields: &mut [u64]) -> u8
+    ensures { λ r. ⌜ FileEntryRead (now (bytes .entry)) at (now (fields .entry)) (numbered r (now (fields .exit))) ⌝ }
+{
+    let e = met::read_file_entry(bytes, Cursor { at });
+    let FileEntryStep::Got(entry, next) = e else {
+        return e.fault().number();
+    };
+    let f = fields::file_entry_fields(entry, next);
+    hand_out(&f, fields)
+}
+
+#[no_mangle]
+pub extern "C" fn ed2k_read_server_entry(bytes: &[u8], at: usize, fields: &mut [u64]) -> u8
+    ensures { λ r. ⌜ ServerEntryRead (now (bytes .entry)) at (now (fields .entry)) (numbered r (now (fields .exit))) ⌝ }
+{
+    let e = met::read_server_entry(bytes, Cursor { at });
+    let ServerEntryStep::Got(entry, next) = e else {
+        return e.fault().number();
+    };
+    let f = fields::server_entry_fields(entry, next);
+    hand_out(&f, fields)
+}
+
+#[no_mangle]
+pub extern "C" fn ed2k_read_query_node(bytes: &[u8], at: usize, fields: &mut [u64]) -> u8
+    ensures { λ r. ⌜ NodeRead (now (bytes .entry)) at (now (fields .entry)) (numbered r (now (fields .exit))) ⌝ }
+{
+    let n = query::read_node(bytes, Cursor { at });
+    let NodeStep::Got(node, next) = n else {
+        return n.fault().number();
+    };
+    let f = fields::node_fields(node, next);
+    hand_out(&f, fields)
+}
+
+#[no_mangle]
+pub extern "C" fn ed2k_part_count(size: u32) -> u32
+    ensures { λ r. ⌜ r ≡ partCount size ⌝ }
+{
+    met::part_count(size)
+}
+
+#[no_mangle]
+pub extern "C" fn ed2k_block_count(size: u32) -> u32
+    ensures { λ r. ⌜ r ≡ blockCount size ⌝ }
+{
+    met::block_count(size)
+}

@@ -1,0 +1,164 @@
+use mathlib.Core.Path.{refl}
+use Rattle.format.specs.MetOrder.{decodeFileEntry}
+use Rattle.wire.proofs.Inside.{hash-inside}
+use borrow.Author.Needs.{needs}
+use Rattle.met.proofs.known.read_file_entry.Statement.{statement}
+use Rattle.met.proofs.known.read_file_entry.Tie as tie
+
+dword-requires : tie.Need-dword-requires
+dword-requires c κs = search needs
+
+enum-known-d : tie.Need-enum-known-d
+enum-known-d c = search needs
+
+enum-told : tie.Need-enum-told
+enum-told c = search needs
+
+fault-requires : tie.Need-fault-requires
+fault-requires c κs = search needs
+
+returns : tie.Need-returns
+unfolding decodeFileEntry
+returns c = (rw (c .fault .ensures, ← c .before .before .before .dword .ensures, c .before .enum-told .given .1) refl, tt)
+
+hash-requires : tie.Need-hash-requires
+hash-requires c κs = search needs
+
+enum-known-h : tie.Need-enum-known-h
+enum-known-h c = search needs
+
+enum-told-2 : tie.Need-enum-told-2
+enum-told-2 c = search needs
+
+fault-requires-2 : tie.Need-fault-requires-2
+fault-requires-2 c κs = search needs
+
+returns-2 : tie.Need-returns-2
+unfolding decodeFileEntry
+returns-2 c =
+    let date = c .before .before .before .before .before in (
+      rw (
+        c .fault2 .ensures,
+        ← date .before .before .dword .ensures,
+        date .d .given .1,
+        ← c .before .before .before .hash .ensures,
+        c .before .enum-told2 .given .1,
+      )
+          refl,
+      tt,
+    )
+
+read-hashes-requires : tie.Need-read-hashes-requires
+read-hashes-requires c κs = search needs
+
+enum-known-p : tie.Need-enum-known-p
+enum-known-p c = search needs
+
+enum-told-3 : tie.Need-enum-told-3
+enum-told-3 c = search needs
+
+fault-requires-3 : tie.Need-fault-requires-3
+fault-requires-3 c κs = search needs
+
+returns-3 : tie.Need-returns-3
+unfolding decodeFileEntry
+returns-3 c =
+    let hash = c .before .before .before .before .before in
+    let date = hash .before .before .before .before in (
+      rw (
+        c .fault3 .ensures,
+        ← date .before .before .dword .ensures,
+        date .d .given .1,
+        ← hash .before .before .hash .ensures,
+        hash .h .given .1,
+        ← c .before .before .before .read-hashes .ensures .0,
+        c .before .enum-told3 .given .1,
+      )
+          refl,
+      tt,
+    )
+
+read-tags-requires : tie.Need-read-tags-requires
+read-tags-requires c κs = search needs
+
+enum-known-t : tie.Need-enum-known-t
+enum-known-t c = search needs
+
+enum-told-4 : tie.Need-enum-told-4
+enum-told-4 c = search needs
+
+fault-requires-4 : tie.Need-fault-requires-4
+fault-requires-4 c κs = search needs
+
+returns-4 : tie.Need-returns-4
+unfolding decodeFileEntry
+returns-4 c =
+    let parts = c .before .before .before .before .before in
+    let hash = parts .before .before .before .before in
+    let date = hash .before .before .before .before in (
+      rw (
+        c .fault4 .ensures,
+        ← date .before .before .dword .ensures,
+        date .d .given .1,
+        ← hash .before .before .hash .ensures,
+        hash .h .given .1,
+        ← parts .before .before .read-hashes .ensures .0,
+        parts .p .given .1,
+        ← c .before .before .before .read-tags .ensures .0,
+        c .before .enum-told4 .given .1,
+      )
+          refl,
+      tt,
+    )
+
+returns-5 : tie.Need-returns-5
+unfolding decodeFileEntry
+returns-5 c =
+    let parts = c .before .before .before .before .before in
+    let hash = parts .before .before .before .before in
+    let date = hash .before .before .before .before in (
+      rw (
+        ← date .before .before .dword .ensures,
+        date .d .given .1,
+        ← hash .before .before .hash .ensures,
+        hash .h .given .1,
+        ← parts .before .before .read-hashes .ensures .0,
+        parts .p .given .1,
+        ← c .before .before .before .read-tags .ensures .0,
+        c .before .t .given .1,
+      )
+          refl,
+      (
+        hash-inside _ _ _ (rw (hash .h .given .1) at (hash .before .before .hash .ensures)),
+        (
+          rw (parts .p .given .1) at (parts .before .before .read-hashes .ensures .1),
+          rw (c .before .t .given .1) at (c .before .before .before .read-tags .ensures .1),
+        ),
+      ),
+    )
+
+pub read-file-entry-spec : {M : Type 1} → statement M
+read-file-entry-spec =
+    tie.close
+    (tie.spec
+    dword-requires
+    enum-known-d
+    enum-told
+    fault-requires
+    returns
+    hash-requires
+    enum-known-h
+    enum-told-2
+    fault-requires-2
+    returns-2
+    read-hashes-requires
+    enum-known-p
+    enum-told-3
+    fault-requires-3
+    returns-3
+    read-tags-requires
+    enum-known-t
+    enum-told-4
+    fault-requires-4
+    returns-4
+    returns-5)

@@ -1,0 +1,211 @@
+use mathlib.Core.Path.{refl}
+use Rattle.format.specs.MetOrder.{decodePartE1}
+use Rattle.wire.proofs.Inside.{hash-inside}
+use borrow.Author.Needs.{needs}
+use Rattle.met.proofs.part.read_part_e1.Statement.{statement}
+use Rattle.met.proofs.part.read_part_e1.Tie as tie
+
+fixed-requires : tie.Need-fixed-requires
+fixed-requires c κs = search needs
+
+enum-known-f : tie.Need-enum-known-f
+enum-known-f c = search needs
+
+enum-told : tie.Need-enum-told
+enum-told c = search needs
+
+fault-requires : tie.Need-fault-requires
+fault-requires c κs = search needs
+
+returns : tie.Need-returns
+unfolding decodePartE1
+returns c = (rw (c .fault .ensures, ← c .before .before .before .fixed .ensures, c .before .enum-told .given .1) refl, (tt, tt))
+
+dword-requires : tie.Need-dword-requires
+dword-requires c κs = search needs
+
+enum-known-d : tie.Need-enum-known-d
+enum-known-d c = search needs
+
+enum-told-2 : tie.Need-enum-told-2
+enum-told-2 c = search needs
+
+fault-requires-2 : tie.Need-fault-requires-2
+fault-requires-2 c κs = search needs
+
+returns-2 : tie.Need-returns-2
+unfolding decodePartE1
+returns-2 c =
+    let fixed = c .before .before .before .before .before in (
+      rw (
+        c .fault2 .ensures,
+        ← fixed .before .before .fixed .ensures,
+        fixed .f .given .1,
+        ← c .before .before .before .dword .ensures,
+        c .before .enum-told2 .given .1,
+      )
+          refl,
+      (tt, tt),
+    )
+
+hash-requires : tie.Need-hash-requires
+hash-requires c κs = search needs
+
+enum-known-h : tie.Need-enum-known-h
+enum-known-h c = search needs
+
+enum-told-3 : tie.Need-enum-told-3
+enum-told-3 c = search needs
+
+fault-requires-3 : tie.Need-fault-requires-3
+fault-requires-3 c κs = search needs
+
+returns-3 : tie.Need-returns-3
+unfolding decodePartE1
+returns-3 c =
+    let date = c .before .before .before .before .before in
+    let fixed = date .before .before .before .before in (
+      rw (
+        c .fault3 .ensures,
+        ← fixed .before .before .fixed .ensures,
+        fixed .f .given .1,
+        ← date .before .before .dword .ensures,
+        date .d .given .1,
+        ← c .before .before .before .hash .ensures,
+        c .before .enum-told3 .given .1,
+      )
+          refl,
+      (tt, tt),
+    )
+
+read-part-tags-requires : tie.Need-read-part-tags-requires
+read-part-tags-requires c κs = search needs
+
+enum-known-t : tie.Need-enum-known-t
+enum-known-t c = search needs
+
+enum-told-4 : tie.Need-enum-told-4
+enum-told-4 c = search needs
+
+fault-requires-4 : tie.Need-fault-requires-4
+fault-requires-4 c κs = search needs
+
+returns-4 : tie.Need-returns-4
+unfolding decodePartE1
+returns-4 c =
+    let hash = c .before .before .before .before .before in
+    let date = hash .before .before .before .before in
+    let fixed = date .before .before .before .before in (
+      rw (
+        c .fault4 .ensures,
+        ← fixed .before .before .fixed .ensures,
+        fixed .f .given .1,
+        ← date .before .before .dword .ensures,
+        date .d .given .1,
+        ← hash .before .before .hash .ensures,
+        hash .h .given .1,
+        ← c .before .before .before .read-part-tags .ensures .0,
+        c .before .enum-told4 .given .1,
+      )
+          refl,
+      (tt, tt),
+    )
+
+read-blocks-requires : tie.Need-read-blocks-requires
+read-blocks-requires c κs = search needs
+
+enum-known-b : tie.Need-enum-known-b
+enum-known-b c = search needs
+
+enum-told-5 : tie.Need-enum-told-5
+enum-told-5 c = search needs
+
+fault-requires-5 : tie.Need-fault-requires-5
+fault-requires-5 c κs = search needs
+
+returns-5 : tie.Need-returns-5
+unfolding decodePartE1
+returns-5 c =
+    let tags = c .before .before .before .before .before in
+    let hash = tags .before .before .before .before in
+    let date = hash .before .before .before .before in
+    let fixed = date .before .before .before .before in (
+      rw (
+        c .fault5 .ensures,
+        ← fixed .before .before .fixed .ensures,
+        fixed .f .given .1,
+        ← date .before .before .dword .ensures,
+        date .d .given .1,
+        ← hash .before .before .hash .ensures,
+        hash .h .given .1,
+        ← tags .before .before .read-part-tags .ensures .0,
+        tags .t .given .1,
+        ← c .before .before .before .read-blocks .ensures .0,
+        c .before .enum-told5 .given .1,
+      )
+          refl,
+      (tt, tt),
+    )
+
+returns-6 : tie.Need-returns-6
+unfolding decodePartE1
+returns-6 c =
+    let tags = c .before .before .before .before .before in
+    let hash = tags .before .before .before .before in
+    let date = hash .before .before .before .before in
+    let fixed = date .before .before .before .before in (
+      rw (
+        ← fixed .before .before .fixed .ensures,
+        fixed .f .given .1,
+        ← date .before .before .dword .ensures,
+        date .d .given .1,
+        ← hash .before .before .hash .ensures,
+        hash .h .given .1,
+        ← tags .before .before .read-part-tags .ensures .0,
+        tags .t .given .1,
+        ← c .before .before .before .read-blocks .ensures .0,
+        c .before .b .given .1,
+      )
+          refl,
+      (
+        (
+          hash-inside _ _ _ (rw (hash .h .given .1) at (hash .before .before .hash .ensures)),
+          (
+            rw (tags .t .given .1) at (tags .before .before .read-part-tags .ensures .1 .0),
+            rw (c .before .b .given .1) at (c .before .before .before .read-blocks .ensures .1),
+          ),
+        ),
+        rw (tags .t .given .1) at (tags .before .before .read-part-tags .ensures .1 .1),
+      ),
+    )
+
+pub read-part-e1-spec : {M : Type 1} → statement M
+read-part-e1-spec =
+    tie.close
+    (tie.spec
+    fixed-requires
+    enum-known-f
+    enum-told
+    fault-requires
+    returns
+    dword-requires
+    enum-known-d
+    enum-told-2
+    fault-requires-2
+    returns-2
+    hash-requires
+    enum-known-h
+    enum-told-3
+    fault-requires-3
+    returns-3
+    read-part-tags-requires
+    enum-known-t
+    enum-told-4
+    fault-requires-4
+    returns-4
+    read-blocks-requires
+    enum-known-b
+    enum-told-5
+    fault-requires-5
+    returns-5
+    returns-6)

@@ -1,0 +1,65 @@
+use mathlib.Core.Path.{refl}
+use Rattle.format.specs.MetOrder.{decodePartMet}
+use borrow.Author.Needs.{needs}
+use Rattle.met.proofs.part.read_part_met_at.Statement.{statement}
+use Rattle.met.proofs.part.read_part_met_at.Tie as tie
+
+read-edition-requires : tie.Need-read-edition-requires
+read-edition-requires c κs = search needs
+
+enum-known-e : tie.Need-enum-known-e
+enum-known-e c = search needs
+
+enum-told : tie.Need-enum-told
+enum-told c = search needs
+
+fault-requires : tie.Need-fault-requires
+fault-requires c κs = search needs
+
+returns : tie.Need-returns
+unfolding decodePartMet
+returns c = (rw (c .fault .ensures, ← c .before .before .before .read-edition .ensures, c .before .enum-told .given .1) refl, (tt, tt))
+
+enum-told-2 : tie.Need-enum-told-2
+enum-told-2 c = search needs
+
+read-part-e0-requires : tie.Need-read-part-e0-requires
+read-part-e0-requires c κs = search needs
+
+enum-told-3 : tie.Need-enum-told-3
+enum-told-3 c = search needs
+
+read-part-e1-requires : tie.Need-read-part-e1-requires
+read-part-e1-requires c κs = search needs
+
+returns-2 : tie.Need-returns-2
+unfolding decodePartMet
+returns-2 c =
+    let e = c .before .before .before .before in (
+      rw (← e .before .before .read-edition .ensures, e .e .given .1, c .before .enum-told2 .given .1) (c .read-part-e0 .ensures .0),
+      c .read-part-e0 .ensures .1,
+    )
+
+returns-3 : tie.Need-returns-3
+unfolding decodePartMet
+returns-3 c =
+    let e = c .before .before .before .before in (
+      rw (← e .before .before .read-edition .ensures, e .e .given .1, c .before .enum-told3 .given .1) (c .read-part-e1 .ensures .0),
+      c .read-part-e1 .ensures .1,
+    )
+
+pub read-part-met-at-spec : {M : Type 1} → statement M
+read-part-met-at-spec =
+    tie.close
+    (tie.spec
+    read-edition-requires
+    enum-known-e
+    enum-told
+    fault-requires
+    returns
+    enum-told-2
+    read-part-e0-requires
+    enum-told-3
+    read-part-e1-requires
+    returns-2
+    returns-3)

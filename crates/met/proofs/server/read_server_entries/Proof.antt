@@ -1,0 +1,49 @@
+use mathlib.Core.Path.{refl, sym}
+use denote.Ref.{now}
+use Rattle.format.specs.Order.{decodeCounted}
+use Rattle.format.proofs.There.{dword-ends}
+use Rattle.format.proofs.MetFiles.{codec-server}
+use Rattle.wire.proofs.Inside.{counted-inside}
+use borrow.Author.Needs.{needs}
+use Rattle.met.proofs.server.read_server_entries.Statement.{statement}
+use Rattle.met.proofs.server.read_server_entries.Tie as tie
+
+dword-requires : tie.Need-dword-requires
+dword-requires c κs = search needs
+
+enum-known-d : tie.Need-enum-known-d
+enum-known-d c = search needs
+
+enum-told : tie.Need-enum-told
+enum-told c = search needs
+
+fault-requires : tie.Need-fault-requires
+fault-requires c κs = search needs
+
+returns : tie.Need-returns
+unfolding decodeCounted
+returns c = (rw (c .fault .ensures, ← c .before .before .before .dword .ensures, c .before .enum-told .given .1) refl, tt)
+
+server-entries-from-requires : tie.Need-server-entries-from-requires
+server-entries-from-requires c κs = search needs
+
+returns-2 : tie.Need-returns-2
+unfolding decodeCounted
+returns-2 c =
+    let d = c .before .before in
+    let b = d .before .before in
+    let count = dword-ends _ _ (sym (rw (d .d .given .1) at (b .dword .ensures))) in
+    rw (← b .dword .ensures, d .d .given .1)
+    (counted-inside codec-server (now (b .before .before .args .s)) (b .before .shared-slice-known .given) (c .server-entries-from .result) (d .d .given .0 .0) _ _ _ count (c .server-entries-from .ensures))
+
+pub read-server-entries-spec : {M : Type 1} → statement M
+read-server-entries-spec =
+    tie.close
+    (tie.spec
+    dword-requires
+    enum-known-d
+    enum-told
+    fault-requires
+    returns
+    server-entries-from-requires
+    returns-2)

@@ -1,0 +1,75 @@
+use mathlib.Core.Path.{refl}
+use denote.Ref.{now}
+use borrow.Author.Tests.{lt-leb, le-leb, eq-eqb}
+use Rattle.format.specs.Messages.{serverMet}
+use Rattle.format.specs.Rules.{metCeiling}
+use Rattle.format.specs.MetOrder.{decode}
+use Rattle.wire.proofs.Replies.{exact-placed}
+use lib.ListN.{length}
+use borrow.Author.Needs.{needs}
+use Rattle.met.proofs.server.read_server_met.Statement.{statement}
+use Rattle.met.proofs.server.read_server_met.Tie as tie
+
+number-requires : tie.Need-number-requires
+number-requires c κs = search needs
+
+returns : tie.Need-returns
+unfolding decode
+returns c =
+    let b = c .before .before in
+    exact-placed serverMet (now (b .before .args .s)) (b .shared-slice-known .given)
+    (rw (c .number .ensures, lt-leb _ metCeiling (c .before .if1 .taken)) refl)
+    tt
+
+read-server-met-at-requires : tie.Need-read-server-met-at-requires
+read-server-met-at-requires c κs = search needs
+
+enum-known-m : tie.Need-enum-known-m
+enum-known-m c = search needs
+
+enum-told : tie.Need-enum-told
+enum-told c = search needs
+
+fault-requires : tie.Need-fault-requires
+fault-requires c κs = search needs
+
+number-requires-2 : tie.Need-number-requires-2
+number-requires-2 c κs = search needs
+
+returns-2 : tie.Need-returns-2
+unfolding decode
+returns-2 c =
+    let b = c .before .before .before .before in
+    exact-placed serverMet (now (b .before .before .before .args .s)) (b .before .before .shared-slice-known .given)
+    (rw (
+      c .number2 .ensures,
+      c .before .fault .ensures,
+      le-leb _ metCeiling (b .before .if1 .left),
+      ← b .read-server-met-at .ensures .0,
+      c .before .before .enum-told .given .1,
+    )
+    refl)
+    tt
+
+returns-3 : tie.Need-returns-3
+unfolding decode
+returns-3 c =
+    let b = c .before .before .before in
+    let s = now (b .before .before .before .args .s) in
+    exact-placed serverMet s (b .before .before .shared-slice-known .given)
+    (rw (le-leb _ metCeiling (b .before .if1 .left), ← b .read-server-met-at .ensures .0, c .before .m .given .1, eq-eqb (length s) (length s) refl) refl)
+    (rw (c .before .m .given .1) at (b .read-server-met-at .ensures .1))
+
+pub read-server-met-spec : {M : Type 1} → statement M
+read-server-met-spec =
+    tie.close
+    (tie.spec
+    number-requires
+    returns
+    read-server-met-at-requires
+    enum-known-m
+    enum-told
+    fault-requires
+    number-requires-2
+    returns-2
+    returns-3)

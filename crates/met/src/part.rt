@@ -1,0 +1,320 @@
+// The reader of part.met, and of its gaps.
+ghost use mathlib.Core.Path.{_≡_};
+ghost use mathlib.Core.Logic.{_↔_};
+ghost use Rattle.format.specs.Messages as messages;
+ghost use Rattle.format.specs.Messages.{partMet};
+ghost use Rattle.format.specs.Layout.{encode};
+ghost use Rattle.format.specs.Rules.{Valid};
+ghost use Rattle.format.specs.Decoding.{andThen, decodeRun, decodeMany, reply, message};
+ghost use Rattle.format.specs.Order.{decodeHash, decodeCode};
+ghost use Rattle.format.specs.MetOrder.{decode};
+ghost use Rattle.format.specs.MetOrder.{marks, decodeSecondBlock, decodeHashBlocks, decodePartTags};
+ghost use Rattle.format.specs.MetOrder.{isE0, isE1, decodeEdition, decodePartBody, decodePartMet};
+ghost use Rattle.wire.specs.WireAnswers.{itemsIn, ItemsInside, itemsMeaning, ItemsStepPlaced};
+ghost use Rattle.met.specs.MetAnswers.{markMeaning, blocksMeaning, BlocksStepPlaced, editionMeaning};
+ghost use Rattle.met.specs.MetAnswers.{partTagsMeaning, PartTagsStepPlaced, PartTagsStepSized};
+ghost use Rattle.met.specs.MetAnswers.{partMetMeaning, PartMetStepPlaced, PartMetStepSized};
+ghost use Rattle.met.specs.MetAnswers.{partReply, PartAnswerPlaced, PartAnswerSized, gapsAnswer};
+use crate::BlocksStep;
+use crate::Edition;
+use crate::EditionStep;
+use crate::FileEntry;
+use crate::GapsAnswer;
+use crate::HashBlocks;
+use crate::MET_CEILING;
+use crate::Mark;
+use crate::MarkStep;
+use crate::PartAnswer;
+use crate::PartE1;
+use crate::PartMet;
+use crate::PartMetStep;
+use crate::PartTagsStep;
+use crate::block_count;
+use crate::length_between;
+use crate::part_count;
+use gaps::none_missing;
+use part_tags::TagsVerdict;
+use part_tags::check_part_tags;
+use records::hashes_from;
+use records::read_hashes;
+use tags::read_tags;
+use wire::ByteStep;
+use wire::Cursor;
+use wire::DoneStep;
+use wire::DwordStep;
+use wire::Fault;
+use wire::HashStep;
+use wire::Items;
+use wire::ItemsStep;
+use wire::PlaceStep;
+use wire::Rule;
+use wire::number;
+
+// part.met
+
+// Block hashes: runs of 8 bytes, with no count before them.
+fn block_hash_by_block_hash(s: &[u8], first: Cursor, n: u32) -> ItemsStep
+    ensures meaning { λ r. ⌜ itemsMeaning (decodeRun 8) (now (s .entry)) r ≡ decodeMany n (decodeRun 8) (now (s .entry)) (first .at) ⌝ }
+    ensures placed { λ r. ⌜ ItemsStepPlaced (decodeRun 8) (now (s .entry)) r ⌝ }
+{
+    let mut next = first;
+    let mut i: u32 = 0;
+    while i < n {
+        let h = next.run(s, 8);
+        let PlaceStep::Got(_, after) = h else {
+            return ItemsStep::Refused(h.fault());
+        };
+        next = after;
+        i += 1;
+    }
+    ItemsStep::Got(
+        Items {
+            at: first.at,
+            end: next.at,
+            count: n,
+        },
+        next,
+    )
+}
+
+// Block hashes all have 8 bytes: where the bytes of all are there, none is read.
+pub fn block_hashes_from(s: &[u8], first: Cursor, n: u32) -> ItemsStep
+    ensures meaning { λ r. ⌜ itemsMeaning (decodeRun 8) (now (s .entry)) r ≡ decodeMany n (decodeRun 8) (now (s .entry)) (first .at) ⌝ }
+    ensures placed { λ r. ⌜ ItemsStepPlaced (decodeRun 8) (now (s .entry)) r ⌝ }
+{
+    let at = first.at;
+    let size = 8 * n as usize;
+    if s.len() < size {
+        return block_hash_by_block_hash(s, first, n);
+    }
+    if s.len() - size < at {
+        return block_hash_by_block_hash(s, first, n);
+    }
+    let end = at + size;
+    ItemsStep::Got(Items { at, end, count: n }, Cursor { at: end })
+}
+
+fn read_mark(s: &[u8], c: Cursor) -> MarkStep
+    ensures { λ r. ⌜ markMeaning r ≡ decodeCode marks (now (s .entry)) (c .at) ⌝ }
+{
+    let b = c.byte(s);
+    let ByteStep::Got(code, next) = b else {
+        return MarkStep::Refused(b.fault());
+    };
+    match code {
+        0x00 => MarkStep::Got(Mark::Stop, next),
+        0x01 => MarkStep::Got(Mark::More, next),
+        _ => MarkStep::Refused(Fault {
+            rule: Rule::Choice,
+            at: c.at,
+            size: 1,
+        }),
+    }
+}
+
+// What stands after the part hashes: the closing mark, or a second block and the closing mark.
+fn read_second_block(s: &[u8], c: Cursor, size: u32, parts: Items) -> BlocksStep
+    requires { ⌜ ItemsInside decodeHash (now s) parts ⌝ }
+    ensures meaning { λ r. ⌜ blocksMeaning (now (s .entry)) r
+        ≡ andThen (now (s .entry)) (decodeCode marks (now (s .entry)) (c .at))
+        (decodeSecondBlock size (itemsIn decodeHash (now (s .entry)) parts)) ⌝ }
+    ensures placed { λ r. ⌜ BlocksStepPlaced (now (s .entry)) r ⌝ }
+{
+    let m = read_mark(s, c);
+    let MarkStep::Got(mark, after_mark) = m else {
+        return BlocksStep::Refused(m.fault());
+    };
+    let Mark::More = mark else {
+        return BlocksStep::Got(HashBlocks::Parts(parts), after_mark);
+    };
+    let b = block_hashes_from(s, after_mark, block_count(size));
+    let ItemsStep::Got(blocks, after_blocks) = b else {
+        return BlocksStep::Refused(b.fault());
+    };
+    let z = after_blocks.fixed(s, 0x00);
+    let DoneStep::Got(next) = z else {
+        return BlocksStep::Refused(z.fault());
+    };
+    BlocksStep::Got(HashBlocks::Both(parts, blocks), next)
+}
+
+// The blocks of a file of this size.
+fn read_blocks(s: &[u8], c: Cursor, size: u32) -> BlocksStep
+    ensures meaning { λ r. ⌜ blocksMeaning (now (s .entry)) r ≡ decodeHashBlocks size (now (s .entry)) (c .at) ⌝ }
+    ensures placed { λ r. ⌜ BlocksStepPlaced (now (s .entry)) r ⌝ }
+{
+    let m = read_mark(s, c);
+    let MarkStep::Got(mark, after_mark) = m else {
+        return BlocksStep::Refused(m.fault());
+    };
+    let Mark::More = mark else {
+        return BlocksStep::Got(HashBlocks::Nothing, after_mark);
+    };
+    let p = hashes_from(s, after_mark, part_count(size));
+    let ItemsStep::Got(parts, after_parts) = p else {
+        return BlocksStep::Refused(p.fault());
+    };
+    read_second_block(s, after_parts, size, parts)
+}
+
+fn read_edition(s: &[u8], c: Cursor) -> EditionStep
+    ensures { λ r. ⌜ editionMeaning r ≡ decodeEdition (now (s .entry)) (c .at) ⌝ }
+{
+    let b = c.byte(s);
+    let ByteStep::Got(code, next) = b else {
+        return EditionStep::Refused(b.fault());
+    };
+    match code {
+        0xE0 => EditionStep::Got(Edition::E0, next),
+        0xE1 => EditionStep::Got(Edition::E1, next),
+        _ => EditionStep::Refused(Fault {
+            rule: Rule::Opening,
+            at: c.at,
+            size: 1,
+        }),
+    }
+}
+
+// A tag list, which is checked when it is there. Where it breaks a rule, the faulty item is the whole list.
+fn read_part_tags(s: &[u8], c: Cursor) -> PartTagsStep
+    ensures meaning { λ r. ⌜ partTagsMeaning (now (s .entry)) r ≡ decodePartTags (now (s .entry)) (c .at) ⌝ }
+    ensures placed { λ r. ⌜ PartTagsStepPlaced (now (s .entry)) r ⌝ }
+    ensures sized { λ r. ⌜ PartTagsStepSized (now (s .entry)) r ⌝ }
+{
+    let t = read_tags(s, c);
+    let ItemsStep::Got(tags, next) = t else {
+        return PartTagsStep::Refused(t.fault());
+    };
+    let checked = check_part_tags(s, tags);
+    let verdict = checked.verdict;
+    match verdict {
+        TagsVerdict::Passes(size) => PartTagsStep::Got(tags, size, next),
+        TagsVerdict::Violates(rule) => PartTagsStep::Refused(Fault {
+            rule,
+            at: c.at,
+            size: length_between(c.at, next.at),
+        }),
+    }
+}
+
+// After E0 stands one entry, as in known.met, whose tags are checked.
+fn read_part_e0(s: &[u8], c: Cursor) -> PartMetStep
+    ensures meaning { λ r. ⌜ partMetMeaning (now (s .entry)) r ≡ decodePartBody isE0 (now (s .entry)) (c .at) ⌝ }
+    ensures placed { λ r. ⌜ PartMetStepPlaced (now (s .entry)) r ⌝ }
+    ensures sized { λ r. ⌜ PartMetStepSized (now (s .entry)) r ⌝ }
+{
+    let d = c.dword(s);
+    let DwordStep::Got(date, after_date) = d else {
+        return PartMetStep::Refused(d.fault());
+    };
+    let h = after_date.hash(s);
+    let HashStep::Got(hash, after_hash) = h else {
+        return PartMetStep::Refused(h.fault());
+    };
+    let p = read_hashes(s, after_hash);
+    let ItemsStep::Got(parts, after_parts) = p else {
+        return PartMetStep::Refused(p.fault());
+    };
+    let t = read_part_tags(s, after_parts);
+    let PartTagsStep::Got(tags, size, next) = t else {
+        return PartMetStep::Refused(t.fault());
+    };
+    let entry = FileEntry {
+        date,
+        hash,
+        parts,
+        tags,
+    };
+    PartMetStep::Got(PartMet::E0(entry), size, next)
+}
+
+// The tags are checked before the blocks are read, and their size says how many hashes a block has.
+fn read_part_e1(s: &[u8], c: Cursor) -> PartMetStep
+    ensures meaning { λ r. ⌜ partMetMeaning (now (s .entry)) r ≡ decodePartBody isE1 (now (s .entry)) (c .at) ⌝ }
+    ensures placed { λ r. ⌜ PartMetStepPlaced (now (s .entry)) r ⌝ }
+    ensures sized { λ r. ⌜ PartMetStepSized (now (s .entry)) r ⌝ }
+{
+    let f = c.fixed(s, 0x02);
+    let DoneStep::Got(after_fixed) = f else {
+        return PartMetStep::Refused(f.fault());
+    };
+    let d = after_fixed.dword(s);
+    let DwordStep::Got(date, after_date) = d else {
+        return PartMetStep::Refused(d.fault());
+    };
+    let h = after_date.hash(s);
+    let HashStep::Got(hash, after_hash) = h else {
+        return PartMetStep::Refused(h.fault());
+    };
+    let t = read_part_tags(s, after_hash);
+    let PartTagsStep::Got(tags, size, after_tags) = t else {
+        return PartMetStep::Refused(t.fault());
+    };
+    let b = read_blocks(s, after_tags, size);
+    let BlocksStep::Got(blocks, next) = b else {
+        return PartMetStep::Refused(b.fault());
+    };
+    let file = PartE1 {
+        date,
+        hash,
+        tags,
+        blocks,
+    };
+    PartMetStep::Got(PartMet::E1(file), size, next)
+}
+
+fn read_part_met_at(s: &[u8], c: Cursor) -> PartMetStep
+    ensures meaning { λ r. ⌜ partMetMeaning (now (s .entry)) r ≡ decodePartMet (now (s .entry)) (c .at) ⌝ }
+    ensures placed { λ r. ⌜ PartMetStepPlaced (now (s .entry)) r ⌝ }
+    ensures sized { λ r. ⌜ PartMetStepSized (now (s .entry)) r ⌝ }
+{
+    let e = read_edition(s, c);
+    let EditionStep::Got(edition, next) = e else {
+        return PartMetStep::Refused(e.fault());
+    };
+    match edition {
+        Edition::E0 => read_part_e0(s, next),
+        Edition::E1 => read_part_e1(s, next),
+    }
+}
+
+pub fn read_part_met(s: &[u8]) -> PartAnswer
+    ensures meaning { λ r. ⌜ partReply (now (s .entry)) r ≡ reply (decode partMet (now (s .entry))) ⌝ }
+    ensures placed { λ r. ⌜ PartAnswerPlaced (now (s .entry)) r ⌝ }
+    ensures sized { λ r. ⌜ PartAnswerSized (now (s .entry)) r ⌝ }
+    ensures exact { λ r. ⌜ ((m : messages.PartMet) →
+        (partReply (now (s .entry)) r ≡ message m) ↔ ((now (s .entry) ≡ encode partMet m) × Valid partMet m)) ⌝ }
+{
+    if MET_CEILING < s.len() {
+        return PartAnswer::Refused(number(Rule::BytesCeiling));
+    }
+    let m = read_part_met_at(s, Cursor { at: 0 });
+    let PartMetStep::Got(file, size, next) = m else {
+        let f = m.fault();
+        let rule = f.rule;
+        return PartAnswer::Refused(number(rule));
+    };
+    let end = next.at;
+    if end == s.len() {
+        return PartAnswer::Accepted(file, size);
+    }
+    PartAnswer::Refused(number(Rule::Rest))
+}
+
+// An answer that is an enum holds no array, so the gaps have a reader of their own: it checks the tags once more.
+pub fn read_gaps(s: &[u8]) -> GapsAnswer
+    ensures { λ r. ⌜ r ≡ gapsAnswer (reply (decode partMet (now (s .entry)))) ⌝ }
+{
+    let a = read_part_met(s);
+    match a {
+        PartAnswer::Refused(n) => GapsAnswer {
+            number: n,
+            gaps: none_missing(0),
+        },
+        PartAnswer::Accepted(file, _) => {
+            let checked = check_part_tags(s, file.tags());
+            let gaps = checked.gaps;
+            GapsAnswer { number: 0, gaps }
+        }
+    }
+}
