@@ -25,6 +25,7 @@ use Rattle.met.specs.declared.KnownMet.{KnownMet}
 use Rattle.met.specs.declared.ServerMet.{ServerMet}
 use Rattle.met.specs.declared.HashBlocks.{HashBlocks}
 use Rattle.met.specs.declared.PartMet.{PartMet}
+use Rattle.fields.specs.Shapes as shapes
 
 -- Numbers, and 0 after them, n in all.
 abbrev pub filled : ℕ → List ℕ → List ℕ
@@ -54,31 +55,31 @@ formNumber Form.Extended = 1
 
 -- The shape of a body (ED2K_BODY_..) and its values.
 abbrev pub bodyNumbers : Body → List ℕ
-bodyNumbers Body.Nothing = 0 ∷ []
-bodyNumbers (Body.Query q) = 1 ∷ queryNumbers q
-bodyNumbers (Body.Hash h) = 2 ∷ h ∷ []
-bodyNumbers (Body.Dword n) = 3 ∷ n ∷ []
-bodyNumbers (Body.TwoDwords m n) = 4 ∷ m ∷ n ∷ []
-bodyNumbers (Body.Text t) = 5 ∷ placeNumbers t
-bodyNumbers (Body.TwoTexts t u) = 6 ∷ placeNumbers t ++ placeNumbers u
-bodyNumbers (Body.Address a) = 7 ∷ addressNumbers a
-bodyNumbers (Body.Addresses l) = 8 ∷ itemsNumbers l
-bodyNumbers (Body.HashAddresses h l) = 9 ∷ h ∷ itemsNumbers l
-bodyNumbers (Body.AddressDword a n) = 10 ∷ addressNumbers a ++ n ∷ []
-bodyNumbers (Body.HashAddressTags h a l) = 11 ∷ h ∷ addressNumbers a ++ itemsNumbers l
-bodyNumbers (Body.Record r) = 12 ∷ recordNumbers r
-bodyNumbers (Body.Records l) = 13 ∷ itemsNumbers l
-bodyNumbers (Body.RecordsFlag l b) = 14 ∷ itemsNumbers l ++ b ∷ []
-bodyNumbers (Body.RecordAddress r a) = 15 ∷ recordNumbers r ++ addressNumbers a
-bodyNumbers (Body.Hello r a) = 16 ∷ recordNumbers r ++ addressNumbers a
-bodyNumbers (Body.HashText h t) = 17 ∷ h ∷ placeNumbers t
-bodyNumbers (Body.Hashset h l) = 18 ∷ h ∷ itemsNumbers l
-bodyNumbers (Body.SendingPart p) = 19 ∷ p .hash ∷ p .start ∷ p .end ∷ placeNumbers (p .data)
-bodyNumbers (Body.RequestParts p) = 20 ∷ p .hash ∷ tripleNumbers (p .starts) ++ tripleNumbers (p .ends)
-bodyNumbers (Body.FileStatus f) = 21 ∷ f .hash ∷ f .parts ∷ f .bits ∷ []
-bodyNumbers (Body.StatusRequest r) = 22 ∷ formNumber (r .form) ∷ r .number ∷ []
-bodyNumbers (Body.Status t) = 23 ∷ tripleNumbers t
-bodyNumbers (Body.ExtendedStatus e) = 24 ∷ e .first ∷ e .second ∷ tripleNumbers (e .numbers)
+bodyNumbers Body.Nothing = shapes.nothingShape ∷ []
+bodyNumbers (Body.Query q) = shapes.queryShape ∷ queryNumbers q
+bodyNumbers (Body.Hash h) = shapes.hashShape ∷ h ∷ []
+bodyNumbers (Body.Dword n) = shapes.dwordShape ∷ n ∷ []
+bodyNumbers (Body.TwoDwords m n) = shapes.twoDwordsShape ∷ m ∷ n ∷ []
+bodyNumbers (Body.Text t) = shapes.textShape ∷ placeNumbers t
+bodyNumbers (Body.TwoTexts t u) = shapes.twoTextsShape ∷ placeNumbers t ++ placeNumbers u
+bodyNumbers (Body.Address a) = shapes.addressShape ∷ addressNumbers a
+bodyNumbers (Body.Addresses l) = shapes.addressesShape ∷ itemsNumbers l
+bodyNumbers (Body.HashAddresses h l) = shapes.hashAddressesShape ∷ h ∷ itemsNumbers l
+bodyNumbers (Body.AddressDword a n) = shapes.addressDwordShape ∷ addressNumbers a ++ n ∷ []
+bodyNumbers (Body.HashAddressTags h a l) = shapes.hashAddressTagsShape ∷ h ∷ addressNumbers a ++ itemsNumbers l
+bodyNumbers (Body.Record r) = shapes.recordShape ∷ recordNumbers r
+bodyNumbers (Body.Records l) = shapes.recordsShape ∷ itemsNumbers l
+bodyNumbers (Body.RecordsFlag l b) = shapes.recordsFlagShape ∷ itemsNumbers l ++ b ∷ []
+bodyNumbers (Body.RecordAddress r a) = shapes.recordAddressShape ∷ recordNumbers r ++ addressNumbers a
+bodyNumbers (Body.Hello r a) = shapes.helloShape ∷ recordNumbers r ++ addressNumbers a
+bodyNumbers (Body.HashText h t) = shapes.hashTextShape ∷ h ∷ placeNumbers t
+bodyNumbers (Body.Hashset h l) = shapes.hashsetShape ∷ h ∷ itemsNumbers l
+bodyNumbers (Body.SendingPart p) = shapes.sendingPartShape ∷ p .hash ∷ p .start ∷ p .end ∷ placeNumbers (p .data)
+bodyNumbers (Body.RequestParts p) = shapes.requestPartsShape ∷ p .hash ∷ tripleNumbers (p .starts) ++ tripleNumbers (p .ends)
+bodyNumbers (Body.FileStatus f) = shapes.fileStatusShape ∷ f .hash ∷ f .parts ∷ f .bits ∷ []
+bodyNumbers (Body.StatusRequest r) = shapes.statusRequestShape ∷ formNumber (r .form) ∷ r .number ∷ []
+bodyNumbers (Body.Status t) = shapes.statusShape ∷ tripleNumbers t
+bodyNumbers (Body.ExtendedStatus e) = shapes.extendedStatusShape ∷ e .first ∷ e .second ∷ tripleNumbers (e .numbers)
 
 abbrev pub packetNumbers : Packet → List ℕ
 packetNumbers p = p .opening ∷ p .opcode ∷ bodyNumbers (p .body)
@@ -97,14 +98,14 @@ abbrev pub hashesNumbers : ℕ → Items → Items → List ℕ
 hashesNumbers which parts blocks = which ∷ itemsNumbers parts ++ itemsNumbers blocks
 
 abbrev pub blocksNumbers : HashBlocks → List ℕ
-blocksNumbers HashBlocks.Nothing = hashesNumbers 0 noItems noItems
-blocksNumbers (HashBlocks.Parts p) = hashesNumbers 1 p noItems
-blocksNumbers (HashBlocks.Blocks b) = hashesNumbers 2 noItems b
-blocksNumbers (HashBlocks.Both p b) = hashesNumbers 3 p b
+blocksNumbers HashBlocks.Nothing = hashesNumbers shapes.noHashes noItems noItems
+blocksNumbers (HashBlocks.Parts p) = hashesNumbers shapes.partHashes p noItems
+blocksNumbers (HashBlocks.Blocks b) = hashesNumbers shapes.blockHashes noItems b
+blocksNumbers (HashBlocks.Both p b) = hashesNumbers shapes.bothHashes p b
 
 abbrev pub partNumbers : PartMet → ℕ → List ℕ
 partNumbers (PartMet.E0 e) size =
-    0xE0 ∷ size ∷ e .date ∷ e .hash ∷ itemsNumbers (e .tags) ++ hashesNumbers 4 (e .parts) noItems
+    0xE0 ∷ size ∷ e .date ∷ e .hash ∷ itemsNumbers (e .tags) ++ hashesNumbers shapes.countedHashes (e .parts) noItems
 partNumbers (PartMet.E1 f) size = 0xE1 ∷ size ∷ f .date ∷ f .hash ∷ itemsNumbers (f .tags) ++ blocksNumbers (f .blocks)
 
 -- The single items, with the cursor after them.

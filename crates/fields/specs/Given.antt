@@ -21,6 +21,7 @@ use Rattle.met.specs.declared.KnownMet.{KnownMet}
 use Rattle.met.specs.declared.ServerMet.{ServerMet}
 use Rattle.met.specs.declared.HashBlocks.{HashBlocks}
 use Rattle.met.specs.declared.PartMet.{PartMet}
+use Rattle.fields.specs.Shapes as shapes
 
 abbrev pub numberAt : List ℕ → ℕ → ℕ
 numberAt f i = getD f i 0
@@ -74,30 +75,30 @@ extendedStatusGiven f = Body.ExtendedStatus (record { first = byteAt f 3; second
 -- The bodies that hold something, by their shapes, in the order of include/ed2k.h.
 abbrev pub bodiesGiven : List ℕ → List (ℕ × Body)
 bodiesGiven f =
-    (1, Body.Query (queryAt f 3)) ∷
-    (2, Body.Hash (numberAt f 3)) ∷
-    (3, Body.Dword (dwordAt f 3)) ∷
-    (4, Body.TwoDwords (dwordAt f 3) (dwordAt f 4)) ∷
-    (5, Body.Text (placeAt f 3)) ∷
-    (6, Body.TwoTexts (placeAt f 3) (placeAt f 5)) ∷
-    (7, Body.Address (addressAt f 3)) ∷
-    (8, Body.Addresses (itemsAt f 3)) ∷
-    (9, Body.HashAddresses (numberAt f 3) (itemsAt f 4)) ∷
-    (10, Body.AddressDword (addressAt f 3) (dwordAt f 5)) ∷
-    (11, Body.HashAddressTags (numberAt f 3) (addressAt f 4) (itemsAt f 6)) ∷
-    (12, Body.Record (recordAt f 3)) ∷
-    (13, Body.Records (itemsAt f 3)) ∷
-    (14, Body.RecordsFlag (itemsAt f 3) (byteAt f 6)) ∷
-    (15, Body.RecordAddress (recordAt f 3) (addressAt f 9)) ∷
-    (16, Body.Hello (recordAt f 3) (addressAt f 9)) ∷
-    (17, Body.HashText (numberAt f 3) (placeAt f 4)) ∷
-    (18, Body.Hashset (numberAt f 3) (itemsAt f 4)) ∷
-    (19, sendingPartGiven f) ∷
-    (20, requestPartsGiven f) ∷
-    (21, fileStatusGiven f) ∷
-    (22, statusRequestGiven f) ∷
-    (23, Body.Status (tripleAt f 3)) ∷
-    (24, extendedStatusGiven f) ∷
+    (shapes.queryShape, Body.Query (queryAt f 3)) ∷
+    (shapes.hashShape, Body.Hash (numberAt f 3)) ∷
+    (shapes.dwordShape, Body.Dword (dwordAt f 3)) ∷
+    (shapes.twoDwordsShape, Body.TwoDwords (dwordAt f 3) (dwordAt f 4)) ∷
+    (shapes.textShape, Body.Text (placeAt f 3)) ∷
+    (shapes.twoTextsShape, Body.TwoTexts (placeAt f 3) (placeAt f 5)) ∷
+    (shapes.addressShape, Body.Address (addressAt f 3)) ∷
+    (shapes.addressesShape, Body.Addresses (itemsAt f 3)) ∷
+    (shapes.hashAddressesShape, Body.HashAddresses (numberAt f 3) (itemsAt f 4)) ∷
+    (shapes.addressDwordShape, Body.AddressDword (addressAt f 3) (dwordAt f 5)) ∷
+    (shapes.hashAddressTagsShape, Body.HashAddressTags (numberAt f 3) (addressAt f 4) (itemsAt f 6)) ∷
+    (shapes.recordShape, Body.Record (recordAt f 3)) ∷
+    (shapes.recordsShape, Body.Records (itemsAt f 3)) ∷
+    (shapes.recordsFlagShape, Body.RecordsFlag (itemsAt f 3) (byteAt f 6)) ∷
+    (shapes.recordAddressShape, Body.RecordAddress (recordAt f 3) (addressAt f 9)) ∷
+    (shapes.helloShape, Body.Hello (recordAt f 3) (addressAt f 9)) ∷
+    (shapes.hashTextShape, Body.HashText (numberAt f 3) (placeAt f 4)) ∷
+    (shapes.hashsetShape, Body.Hashset (numberAt f 3) (itemsAt f 4)) ∷
+    (shapes.sendingPartShape, sendingPartGiven f) ∷
+    (shapes.requestPartsShape, requestPartsGiven f) ∷
+    (shapes.fileStatusShape, fileStatusGiven f) ∷
+    (shapes.statusRequestShape, statusRequestGiven f) ∷
+    (shapes.statusShape, Body.Status (tripleAt f 3)) ∷
+    (shapes.extendedStatusShape, extendedStatusGiven f) ∷
     []
 
 abbrev pub listedBody : Option Body → Body
@@ -119,9 +120,9 @@ serverGiven f = record { opening = byteAt f 0; entries = itemsAt f 1; tail = pla
 -- The hash lists of a part.met that opens with E1, by which it has.
 abbrev pub listsGiven : List ℕ → List (ℕ × HashBlocks)
 listsGiven f =
-    (1, HashBlocks.Parts (itemsAt f 8)) ∷
-    (2, HashBlocks.Blocks (itemsAt f 11)) ∷
-    (3, HashBlocks.Both (itemsAt f 8) (itemsAt f 11)) ∷
+    (shapes.partHashes, HashBlocks.Parts (itemsAt f 8)) ∷
+    (shapes.blockHashes, HashBlocks.Blocks (itemsAt f 11)) ∷
+    (shapes.bothHashes, HashBlocks.Both (itemsAt f 8) (itemsAt f 11)) ∷
     []
 
 abbrev pub listedBlocks : Option HashBlocks → HashBlocks
