@@ -489,7 +489,10 @@ fn vectors() {
             assert_eq!(Some(line(kind, bytes).as_str()), lines.next());
         }
     }
-    assert_eq!(None, lines.next());
+    // What was written back is counted after them, in a line for each kind.
+    let counts: Vec<_> = lines.collect();
+    assert_eq!(6, counts.len());
+    assert!(counts.iter().all(|count| count.ends_with(" written the same")), "{counts:?}");
 }
 
 /// A letter, a DWORD length and the bytes, one after another.

@@ -1,51 +1,14 @@
-// Runs the inputs of two files through the reader and prints the line for each: made inputs of every kind, and what a stock
-// client sent or wrote.
-use console::Input;
-use console::next_input;
-use console::print_summary;
-use read_any::Lettered;
-use read_any::kind_of_letter;
-use read_any::summarize;
-use wire::bytes_at;
+// Runs the inputs of two files, made inputs of every kind and what a stock client sent or wrote, through the reader and prints the line
+// for each; then writes again what was read, and prints for each kind how much of it came out as the same bytes.
+use lines::print_files;
+use written_back::print_written_back;
 
-// Prints the line for the next input of a file: whether there is one.
-fn print_next(fd: i32, bytes: &mut [u8]) -> bool {
-    let i = next_input(fd, bytes);
-    let Input::Of(letter, n) = i else {
-        return false;
-    };
-    let lettered = kind_of_letter(letter);
-    let Lettered::Is(kind) = lettered else {
-        return false;
-    };
-    print_summary(summarize(kind, bytes_at(bytes, 0, n)));
-    true
-}
-
-// A loop must end, and nothing says that a file does: it counts its turns down, from a number that no file uses up.
-fn print_all(fd: i32, bytes: &mut [u8]) {
-    let mut turns = u64::MAX;
-    while turns > 0 && print_next(fd, bytes) {
-        turns -= 1;
-    }
-}
-
-fn print_file(path: &[u8], bytes: &mut [u8]) {
-    let fd = os::open_read(path);
-    if fd < 0 {
-        os::fail(path);
-        return;
-    }
-    print_all(fd, bytes);
-    libc::close(fd);
-}
-
-fn print_files(bytes: &mut [u8]) {
-    print_file(b"vectors.bin", bytes);
-    print_file(b"samples.bin", bytes);
-}
+mod lines;
+mod written_back;
 
 fn main() {
     let mut bytes = [0u8; 65536];
+    let mut out = [0u8; 65536];
     print_files(&mut bytes);
+    print_written_back(&mut bytes, &mut out);
 }

@@ -2,8 +2,8 @@ use mathlib.Core.Path.{_≡_, refl}
 use native.Mathlib.Omega.{arith}
 use lib.ListN.{length}
 use borrow.Author.Needs.{needs}
-use Rattle.test_vectors.proofs.print_all.Statement.{statement}
-use Rattle.test_vectors.proofs.print_all.Tie as tie
+use Rattle.test_vectors.proofs.lines.print_all.Statement.{statement}
+use Rattle.test_vectors.proofs.lines.print_all.Tie as tie
 
 abbrev Inv-loop : tie.InvT-loop
 Inv-loop fd bytes₀ turns₀ bytes turns = length bytes ≡ length bytes₀

@@ -1,5 +1,5 @@
-// Writes again each packet and file that is read from two files (the data of the program `vectors`): made inputs of every kind, and what
-// a stock client sent or wrote. Prints for each kind how many were read, and how many of them were written as the same bytes.
+// Writes again each packet and file that is read from the two files. Prints for each kind how many were read, and how many of them
+// were written as the same bytes.
 use console::Input;
 use console::next_input;
 use libc::STDOUT_FILENO;
@@ -132,9 +132,7 @@ fn print_met_files(bytes: &mut [u8], out: &mut [u8]) {
     print_kind(b"part.met", b'p', Kind::PartMet, bytes, out);
 }
 
-fn main() {
-    let mut bytes = [0u8; 65536];
-    let mut out = [0u8; 65536];
-    print_links(&mut bytes, &mut out);
-    print_met_files(&mut bytes, &mut out);
+pub fn print_written_back(bytes: &mut [u8], out: &mut [u8]) {
+    print_links(bytes, out);
+    print_met_files(bytes, out);
 }

@@ -2,8 +2,8 @@ use mathlib.Core.Path.{_≡_, refl}
 use native.Mathlib.Omega.{arith}
 use lib.ListN.{length}
 use borrow.Author.Needs.{needs}
-use Rattle.test_roundtrip.proofs.tally_inputs.Statement.{statement}
-use Rattle.test_roundtrip.proofs.tally_inputs.Tie as tie
+use Rattle.test_vectors.proofs.written_back.tally_inputs.Statement.{statement}
+use Rattle.test_vectors.proofs.written_back.tally_inputs.Tie as tie
 
 abbrev Inv-loop : tie.InvT-loop
 Inv-loop fd letter link bytes₀ out₀ t₀ turns₀ bytes out t turns = (length bytes ≡ length bytes₀) × (length out ≡ length out₀)
