@@ -2,9 +2,9 @@
 // as a conflict (11), and the stored bytes are the first's. Each step prints one line.
 use gaps::mark;
 use met::read_gaps;
+use output::WriteAnswer;
 use output::same;
 use put_gaps::put_gaps;
-use save::SaveAnswer;
 use save::save;
 use wire::bytes_at;
 
@@ -84,7 +84,7 @@ fn edit(opened: &[u8], start: u64, end: u64, out: &mut [u8]) -> usize {
 }
 
 // Saves the first n bytes of what a window made, over what is stored.
-fn save_window(stored: &[u8], opened: &[u8], made: &[u8], n: usize, out: &mut [u8]) -> SaveAnswer {
+fn save_window(stored: &[u8], opened: &[u8], made: &[u8], n: usize, out: &mut [u8]) -> WriteAnswer {
     let new = bytes_at(made, 0, n);
     let a = save(stored, opened, new, out);
     say(b"save: answer ", a.number as u64);

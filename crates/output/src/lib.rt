@@ -8,9 +8,22 @@ ghost use Prim.Native.Nat.{_+_, _≤_, _<_};
 ghost use lib.ListN.{length, drop};
 ghost use lib.Dec.{eqb};
 ghost use Rattle.output.specs.Agreement.{Agree};
+ghost use Rattle.output.specs.WriteAnswers.{refusedBy};
 ghost use Rattle.format.specs.Layout.{byte, word, dword, encodeString};
 ghost use Rattle.format.specs.Tables.{pick, same};
 ghost use Rattle.format.specs.Writing.{overwritten};
+
+// The answer of a call that writes: 0 and how many bytes were written at the front of the output; or the number of the refusal, and 0.
+pub struct WriteAnswer {
+    pub number: u8,
+    pub length: usize,
+}
+
+pub fn refused(number: u8) -> WriteAnswer
+    ensures { λ r. ⌜ r ≡ refusedBy number ⌝ }
+{
+    WriteAnswer { number, length: 0 }
+}
 
 pub fn put_byte(out: &mut [u8], v: u8)
     requires { ⌜ 1 ≤ length (now out) ⌝ }

@@ -1,4 +1,4 @@
--- What the answer to a put stands for, with the output afterwards, and which record is put.
+-- Which record is put.
 use Prim.Native.Nat.{ℕ}
 use mathlib.Core.List.{List}
 use lib.Dec.{leb}
@@ -12,13 +12,6 @@ use Rattle.format.specs.PutGaps.{putGaps}
 use Rattle.gaps.specs.declared.GapRecord.{GapRecord}
 use Rattle.format.specs.Gaps.{sizeLimit}
 use Rattle.gaps.specs.GapRecords.{gapsOf}
-use Rattle.put_gaps.specs.declared.PutAnswer.{PutAnswer}
-
-abbrev pub putMeaning : PutAnswer → List ℕ → Written
-putMeaning r output = record { number = r .number; length = r .length; output = output }
-
-abbrev pub refusal : ℕ → PutAnswer
-refusal number = record { number = number; length = 0 }
 
 -- The file's own number, or 8.
 abbrev pub unlawfulAfter : Answer PartMet → List ℕ → Written

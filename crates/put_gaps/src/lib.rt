@@ -4,7 +4,7 @@
 // are no gap tags copied one by one, the pairs of gap tags, and the bytes after the list as they were. All is checked
 // and the length of the new file is known before the first byte is written.
 //
-// specs/PutAnswers.antt says what the answer stands for, specs/Pieces.antt what the private steps write.
+// specs/PutAnswers.antt says which record is put, specs/Pieces.antt what the private steps write.
 ghost use mathlib.Core.Path.{_≡_};
 ghost use mathlib.Core.List.{_∷_};
 ghost use Prim.Native.Nat.{_+_, _-_, _*_, _≤_, _<_};
@@ -19,7 +19,8 @@ ghost use Rattle.wire.specs.WireAnswers.{ItemsPlaced};
 ghost use Rattle.tags.specs.TagAnswers.{tagOf, tagsIn};
 ghost use Rattle.gaps.specs.GapRecords.{gapOf, gapsOf};
 ghost use Rattle.met.specs.MetAnswers.{partMetIn};
-ghost use Rattle.put_gaps.specs.PutAnswers.{refusal, putMeaning, putRecord};
+ghost use Rattle.output.specs.WriteAnswers.{answered};
+ghost use Rattle.put_gaps.specs.PutAnswers.{putRecord};
 ghost use Rattle.put_gaps.specs.Pieces.{PartRead, LawfulRecord, SizesOf};
 ghost use Rattle.put_gaps.specs.Pieces.{tagsAt, keptTags, keptBytes, plainBytes, pairBytes, pairsBytes, pairsLength};
 use gaps::Gap;
@@ -29,28 +30,18 @@ use met::MET_CEILING;
 use met::PartAnswer;
 use met::PartMet;
 use met::read_part_met;
+use output::WriteAnswer;
 use output::copy;
 use output::put_byte;
 use output::put_dword;
 use output::put_word;
+use output::refused;
 use tags::Tag;
 use tags::TagStep;
 use tags::read_tag;
 use wire::Cursor;
 use wire::Items;
 use wire::bytes_at;
-
-// 0 and how many bytes were written; or the number of the refusal, and 0.
-pub struct PutAnswer {
-    pub number: u8,
-    pub length: usize,
-}
-
-fn refused(number: u8) -> PutAnswer
-    ensures { λ r. ⌜ r ≡ refusal number ⌝ }
-{
-    PutAnswer { number, length: 0 }
-}
 
 // Where the tag list begins: after E0, date, hash, WORD count and the part hashes; or after E1, 02, date and hash.
 fn tags_at(part: PartMet) -> usize
@@ -287,9 +278,9 @@ fn measure_file(file: &[u8], part: PartMet, g: GapRecord) -> Sizes
 }
 
 // The new file, if it is not too long for a part.met (6) and for the output (10). The part.met was read from the old one.
-fn put_file(out: &mut [u8], file: &[u8], part: PartMet, g: GapRecord) -> PutAnswer
+fn put_file(out: &mut [u8], file: &[u8], part: PartMet, g: GapRecord) -> WriteAnswer
     requires { ⌜ PartRead (now file) part × LawfulRecord g ⌝ }
-    ensures { λ r. ⌜ putMeaning r (now (out .exit))
+    ensures { λ r. ⌜ answered r (now (out .exit))
         ≡ withinCeiling (encodePartMet (withGaps (gapsOf g) (partMetIn (now (file .entry)) part))) (now (out .entry)) ⌝ }
 {
     let sizes = measure_file(file, part, g);
@@ -305,13 +296,13 @@ fn put_file(out: &mut [u8], file: &[u8], part: PartMet, g: GapRecord) -> PutAnsw
     put_tag_list(&mut out[at..], file, part.tags(), sizes.count, g);
     let end = at + sizes.list;
     copy(&mut out[end..], bytes_at(file, sizes.behind, file.len()));
-    PutAnswer { number: 0, length }
+    WriteAnswer { number: 0, length }
 }
 
 // The part.met `file` with the gaps of the record, at the front of `out`. The record is lawful and has the file's size, else 8; the
 // new file has at most 1,048,576 bytes, else 6. A refusal leaves `out` as it was.
-pub fn put_gaps(file: &[u8], g: GapRecord, out: &mut [u8]) -> PutAnswer
-    ensures { λ r. ⌜ putMeaning r (now (out .exit)) ≡ putRecord (now (file .entry)) g (now (out .entry)) ⌝ }
+pub fn put_gaps(file: &[u8], g: GapRecord, out: &mut [u8]) -> WriteAnswer
+    ensures { λ r. ⌜ answered r (now (out .exit)) ≡ putRecord (now (file .entry)) g (now (out .entry)) ⌝ }
 {
     let read = read_part_met(file);
     match read {

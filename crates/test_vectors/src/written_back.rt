@@ -3,6 +3,7 @@
 use console::Input;
 use console::next_input;
 use libc::STDOUT_FILENO;
+use output::WriteAnswer;
 use output::same;
 use packets::Link;
 use packets::Packet;
@@ -12,7 +13,6 @@ use read_any::Message;
 use read_any::read;
 use std::num::wrapping_add_u64;
 use wire::bytes_at;
-use write_items::WriteAnswer;
 use write_met::write_known_met;
 use write_met::write_server_met;
 use write_packets::write_packet;

@@ -6,13 +6,13 @@ use bodies::StatusRequest;
 use met::HashBlocks;
 use met::PartE1;
 use met::PartMet;
+use output::WriteAnswer;
 use output::same;
 use packets::Link;
 use packets::Packet;
 use packets::opcode;
 use wire::Items;
 use wire::bytes_at;
-use write_items::WriteAnswer;
 use write_packets::write_packet;
 use write_part::write_part_met;
 

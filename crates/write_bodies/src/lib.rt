@@ -10,7 +10,7 @@ ghost use Rattle.format.specs.Writing.{overwritten};
 ghost use Rattle.wire.specs.WireAnswers.{hashAt, placeBytes};
 ghost use Rattle.records.specs.RecordAnswers.{addressOf};
 ghost use Rattle.bodies.specs.BodyAnswers.{bodyIn, tripleOf};
-ghost use Rattle.write_items.specs.Writers.{answered};
+ghost use Rattle.output.specs.WriteAnswers.{answered};
 ghost use Rattle.check_bodies.specs.Bodies.{bytesOf};
 ghost use Rattle.write_bodies.specs.RecordEntries.{WritesBody, writeAddress, writeAddresses, writeRecord, writeRecords};
 ghost use Rattle.write_bodies.specs.PutBodies.{ListRun, Puts, Puttable, Run, listBytes};
@@ -20,12 +20,12 @@ use bodies::FileStatus;
 use bodies::RequestParts;
 use bodies::SendingPart;
 use bodies::Triple;
+use output::WriteAnswer;
 use query::Query;
 use records::Address;
 use records::Record;
 use wire::Items;
 use wire::Place;
-use write_items::WriteAnswer;
 
 // The bytes of a body, put at the front of what is lent. Each function answers with how many bytes it wrote. They are for put_body
 // alone: each requires that the places were read before, that counts fit, and that there is room.
@@ -358,11 +358,11 @@ fn write_bare(src: &[u8], b: Body, out: &mut [u8]) -> WriteAnswer
     let check = check_bodies::check_body(src, b);
     let number = check.number;
     if number != 0 {
-        return write_items::refused(number);
+        return output::refused(number);
     }
     let size = check.size;
     if out.len() < size {
-        return write_items::refused(10);
+        return output::refused(10);
     }
     let end = check.end;
     let wrote = put_body(src, b, end, out);
@@ -376,7 +376,7 @@ pub fn write_address(a: Address, out: &mut [u8]) -> WriteAnswer
     ensures { λ r. ⌜ answered r (now (out .exit)) ≡ writeAddress (addressOf a) (now (out .entry)) ⌝ }
 {
     if out.len() < 6 {
-        return write_items::refused(10);
+        return output::refused(10);
     }
     let wrote = put_address(a, out);
     WriteAnswer {

@@ -27,8 +27,8 @@ use Rattle.query.specs.declared.QueryAnswer.{QueryAnswer}
 use Rattle.query.specs.Nodes.{decodeNode, depths}
 use Rattle.query.proofs.Nodes.{query-left}
 use Rattle.query.specs.QueryAnswers.{QueryAnswerPlaced, QueryPlaced, queryIn, queryOf, queryReply}
-use Rattle.write_items.specs.declared.WriteAnswer.{WriteAnswer}
-use Rattle.write_items.specs.Writers.{answered}
+use Rattle.output.specs.declared.WriteAnswer.{WriteAnswer}
+use Rattle.output.specs.WriteAnswers.{answered}
 use Rattle.write_items.specs.There.{itemsThere}
 use Rattle.write_items.proofs.Back.{items-here, query-here, written-back}
 

@@ -4,15 +4,6 @@ use mathlib.Core.List.{List, []}
 use Rattle.format.specs.Messages.{Operator, Query, join, keyword}
 use Rattle.format.specs.Decoding.{Answer, Outcome, accepted, got, number, refusal, refused}
 use Rattle.format.specs.Writing.{Written, unwritten}
-use Rattle.write_items.specs.declared.WriteAnswer.{WriteAnswer}
-
--- An answer, together with the output that it leaves.
-abbrev pub answered : WriteAnswer → List ℕ → Written
-answered a output = record { number = a .number; length = a .length; output = output }
-
--- A refusal.
-abbrev pub refusedBy : ℕ → WriteAnswer
-refusedBy number = record { number = number; length = 0 }
 
 -- A write of what lies at places. Where they do not hold what they should, the number is that of their own reading, before all others.
 abbrev pub writeThere : Outcome (Unit {0}) → List ℕ → Written → Written

@@ -20,12 +20,15 @@ ghost use Rattle.format.specs.MetOrder.{decode};
 ghost use Rattle.format.specs.Writing.{StringFits, overwritten};
 ghost use Rattle.format.specs.RoundTrip.{RoundTrip, WritesAt};
 ghost use Rattle.wire.specs.WireAnswers.{doneMeaning, hashAt, itemsIn};
+ghost use Rattle.output.specs.WriteAnswers.{answered};
 ghost use Rattle.query.specs.QueryAnswers.{boundOf, operatorOf, queryIn};
 ghost use Rattle.write_items.specs.There.{hashThere, itemsThere, noPlaces};
-ghost use Rattle.write_items.specs.Writers.{answered, joinOf, refusedBy, sidesThere};
+ghost use Rattle.write_items.specs.Writers.{joinOf, sidesThere};
 ghost use Rattle.write_items.specs.Item.{WritesItem, WritesTag, tagOf};
 ghost use Rattle.write_items.specs.Numbers.{boundByte, operatorByte, answerNumber};
 ghost use Rattle.write_items.specs.Numbers.{countNumber, nameNumber, keywordNumber, fieldNumber, limitNumber, joinNumber, tagNumber};
+use output::WriteAnswer;
+use output::refused;
 use query::Bound;
 use query::Operator;
 use query::Query;
@@ -51,18 +54,6 @@ const WORD_MOST: usize = 65535;
 const TAGS_CEILING: usize = PACKET_CEILING - 4;
 
 const SIDES_CEILING: usize = PACKET_CEILING - 2;
-
-// 0 and how many bytes were written, or the number of a refusal and 0.
-pub struct WriteAnswer {
-    pub number: u8,
-    pub length: usize,
-}
-
-pub fn refused(number: u8) -> WriteAnswer
-    ensures { λ r. ⌜ r ≡ refusedBy number ⌝ }
-{
-    WriteAnswer { number, length: 0 }
-}
 
 // The offset after `count` tags, each of which is read.
 pub fn tags_end(s: &[u8], first: Cursor, count: u32) -> DoneStep

@@ -19,8 +19,8 @@ use Rattle.met.specs.declared.KnownAnswer.{KnownAnswer}
 use Rattle.met.specs.declared.ServerMet.{ServerMet}
 use Rattle.met.specs.declared.ServerAnswer.{ServerAnswer}
 use Rattle.met.specs.MetAnswers.{FileEntryPlaced, KnownAnswerPlaced, ServerAnswerPlaced, knownMetIn, knownReply, serverMetIn, serverReply}
-use Rattle.write_items.specs.declared.WriteAnswer.{WriteAnswer}
-use Rattle.write_items.specs.Writers.{answered}
+use Rattle.output.specs.declared.WriteAnswer.{WriteAnswer}
+use Rattle.output.specs.WriteAnswers.{answered}
 use Rattle.write_items.specs.There.{bothThere, hashThere, itemsThere, placeThere}
 use Rattle.write_items.proofs.Back.{both-here, hash-here, items-here, place-here, written-back}
 use Rattle.write_met.specs.MetWrites.{fileEntryThere, knownThere, serverThere}

@@ -17,7 +17,7 @@ use Rattle.format.specs.PacketOrder.{decodeBits}
 use Rattle.format.specs.Writing.{overwritten}
 use Rattle.format.specs.RoundTrip.{IsThere, RoundTrip, WritesAt}
 use Rattle.format.proofs.Differ.{differ}
-use Rattle.write_items.specs.declared.WriteAnswer.{WriteAnswer}
+use Rattle.output.specs.declared.WriteAnswer.{WriteAnswer}
 use Rattle.records.specs.declared.Record.{Record}
 use Rattle.records.specs.RecordAnswers.{RecordPlaced}
 use Rattle.bodies.specs.declared.Body.{Body}
@@ -26,7 +26,7 @@ use Rattle.packets.specs.declared.Link.{Link}
 use Rattle.packets.specs.declared.Packet.{Packet}
 use Rattle.packets.specs.declared.PacketAnswer.{PacketAnswer}
 use Rattle.packets.specs.PacketAnswers.{LinkAccepts, PacketPlaced, linkReply, packetIn, packetReply}
-use Rattle.write_items.specs.Writers.{answered}
+use Rattle.output.specs.WriteAnswers.{answered}
 use Rattle.write_items.specs.There.{hashThere, itemsThere, placeThere}
 use Rattle.write_items.proofs.There.{is-there}
 use Rattle.write_items.proofs.Back.{both-here, hash-here, items-here, place-here, query-here, written-back}

@@ -11,20 +11,20 @@ ghost use lib.ListN.{length};
 ghost use Rattle.format.specs.Layout.{byte, dword};
 ghost use Rattle.format.specs.Writing.{overwritten};
 ghost use Rattle.bodies.specs.BodyAnswers.{bodyIn, shapeOf};
-ghost use Rattle.write_items.specs.Writers.{answered};
+ghost use Rattle.output.specs.WriteAnswers.{answered};
 ghost use Rattle.format.specs.RoundTrip.{RoundTrip, WritesAt};
 ghost use Rattle.write_packets.specs.Packets.{Ready, anotherShape, headBytes, headSize, kindOf, packetOf, packetThere, readerNumber, shapeNumber};
 use bodies::Body;
 use bodies::Shape;
 use check_bodies::BodyCheck;
 use check_bodies::check_body;
+use output::WriteAnswer;
+use output::refused;
 use packets::Link;
 use packets::Listed;
 use packets::Packet;
 use packets::shape_of;
 use write_bodies::put_body;
-use write_items::WriteAnswer;
-use write_items::refused;
 
 fn shape_number(shape: Shape) -> u8
     ensures { λ r. ⌜ r ≡ shapeNumber (shapeOf shape) ⌝ }

@@ -17,8 +17,8 @@ use Rattle.met.specs.declared.HashBlocks.{HashBlocks}
 use Rattle.met.specs.declared.PartMet.{PartMet}
 use Rattle.met.specs.declared.PartAnswer.{PartAnswer}
 use Rattle.met.specs.MetAnswers.{BlocksPlaced, PartAnswerPlaced, PartAnswerSized, PartMetPlaced, partMetIn, partReply}
-use Rattle.write_items.specs.declared.WriteAnswer.{WriteAnswer}
-use Rattle.write_items.specs.Writers.{answered}
+use Rattle.output.specs.declared.WriteAnswer.{WriteAnswer}
+use Rattle.output.specs.WriteAnswers.{answered}
 use Rattle.write_items.specs.There.{bothThere, hashThere, itemsThere}
 use Rattle.write_items.proofs.Back.{both-here, hash-here, items-here, written-back}
 use Rattle.write_met.proofs.MetReadBack.{entry-here}
