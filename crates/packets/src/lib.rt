@@ -1,6 +1,6 @@
-// Packets of the server link, the client link and UDP: every opcode that the scope paper lists.
+// Packets of the server link, the client link and UDP: every opcode that document 01 lists.
 //
-// A packet is read in the paper's order: the byte ceiling, the opening byte, on TCP the header's length, the opcode, the
+// A packet is read in document 01's order: the byte ceiling, the opening byte, on TCP the header's length, the opcode, the
 // body's items from left to right, then the rest. A refusal holds its number and nothing of the input.
 ghost use mathlib.Core.Path.{_≡_};
 ghost use mathlib.Core.Logic.{_↔_};
