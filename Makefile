@@ -1,10 +1,13 @@
 # make            the proved archive and the command
-# make test       what the gate (.ci/run) runs, but for `rt ci`, which proves every crate from nothing
-# make install    archive, header, ed2k.pc, command, manual page and bash completion under PREFIX (with DESTDIR before it)
+# make test       what the gate (.ci/run) runs, but for `rt ci`, which proves every crate from
+#                 nothing
+# make install    archive, header, ed2k.pc, command, manual page and bash completion under PREFIX
+#                 (with DESTDIR before it)
 # make uninstall  takes them away again
 # make clean      removes what was built, but not what was proved
 #
-# The archive is made by the Rattle kit (`rt`), as rust/build.rs asks for it. With ED2K_ARCHIVE=FILE that archive is taken.
+# The archive is made by the Rattle kit (`rt`), as rust/build.rs asks for it. With ED2K_ARCHIVE=FILE
+# that archive is taken.
 
 PREFIX = /usr/local
 DESTDIR =
@@ -38,7 +41,7 @@ $(COMMAND): $(SOURCES) $(ED2K_ARCHIVE)
 target/staticlib/libed2k.a: | $(COMMAND)
 	test -f "$@" || rt staticlib ed2k
 
-# One of the tests runs the reading program. The bench is told and not tested: times are no test.
+# One of the tests runs the reading program. The bench is reported and not tested: times are no test.
 test:
 	rt fmt --check
 	cd rust && cargo fmt --check

@@ -34,7 +34,7 @@ static size_t compose_query(uint8_t *query, size_t room)
     return length;
 }
 
-/* The tags of a name and a size, one behind the other in `tags`; how many bytes they have. */
+/* The tags of a name and a size, one after the other in `tags`; how many bytes they have. */
 static size_t compose_two_tags(const char *name, uint32_t size, uint8_t *tags, size_t room)
 {
     size_t name_length, size_length;

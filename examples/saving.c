@@ -28,7 +28,7 @@
 static const struct timespec pause_between = {0, 10 * 1000 * 1000};
 
 /* The stored file, and the files beside it that help to save it. */
-struct place {
+struct paths {
     char stored[PATH_MAX];
     char folder[PATH_MAX];
     char lock[PATH_MAX + 16];
@@ -37,25 +37,25 @@ struct place {
 
 /* Links are followed, so that all ways to one file have one lock; the file itself need not be there. What is no file, as a pipe, is left
  * alone. */
-static int find(const char *path, struct place *place)
+static int find(const char *path, struct paths *paths)
 {
     struct stat found;
-    if (realpath(path, place->stored) == NULL) {
+    if (realpath(path, paths->stored) == NULL) {
         if (errno != ENOENT || lstat(path, &found) == 0 || strlen(path) >= PATH_MAX)
             return -1;
-        strcpy(place->stored, path);
-    } else if (stat(place->stored, &found) != 0 || !S_ISREG(found.st_mode)) {
+        strcpy(paths->stored, path);
+    } else if (stat(paths->stored, &found) != 0 || !S_ISREG(found.st_mode)) {
         errno = EINVAL;
         return -1;
     }
-    const char *slash = strrchr(place->stored, '/');
-    const char *name = slash == NULL ? place->stored : slash + 1;
+    const char *slash = strrchr(paths->stored, '/');
+    const char *name = slash == NULL ? paths->stored : slash + 1;
     if (slash == NULL)
-        strcpy(place->folder, "./");
+        strcpy(paths->folder, "./");
     else
-        snprintf(place->folder, sizeof place->folder, "%.*s", (int)(name - place->stored), place->stored);
-    int lock = snprintf(place->lock, sizeof place->lock, "%s.%s.lock", place->folder, name);
-    int new = snprintf(place->new, sizeof place->new, "%s.%s.saving", place->folder, name);
+        snprintf(paths->folder, sizeof paths->folder, "%.*s", (int)(name - paths->stored), paths->stored);
+    int lock = snprintf(paths->lock, sizeof paths->lock, "%s.%s.lock", paths->folder, name);
+    int new = snprintf(paths->new, sizeof paths->new, "%s.%s.saving", paths->folder, name);
     return lock < PATH_MAX && new < PATH_MAX ? 0 : -1;
 }
 
@@ -131,16 +131,16 @@ static int write_all(int file, const uint8_t *bytes, size_t length)
 }
 
 /* Writes the new file beside the stored one and brings it to the disk. Its rights come before its bytes. */
-static int write_new(const struct place *place, const uint8_t *bytes, size_t length)
+static int write_new(const struct paths *paths, const uint8_t *bytes, size_t length)
 {
     struct stat old;
-    int there = stat(place->stored, &old) == 0;
-    if (there && ((old.st_mode & 0222) == 0 || access(place->stored, W_OK) != 0)) {
+    int there = stat(paths->stored, &old) == 0;
+    if (there && ((old.st_mode & 0222) == 0 || access(paths->stored, W_OK) != 0)) {
         errno = EACCES;
         return -1;
     }
-    unlink(place->new); /* what a killed save left: the lock is ours */
-    int file = open(place->new, O_WRONLY | O_CREAT | O_EXCL | O_CLOEXEC, there ? 0600 : 0666);
+    unlink(paths->new); /* what a killed save left: the lock is ours */
+    int file = open(paths->new, O_WRONLY | O_CREAT | O_EXCL | O_CLOEXEC, there ? 0600 : 0666);
     if (file < 0)
         return -1;
     int done = there ? keep_rights(file, &old) : 0;
@@ -161,15 +161,15 @@ static int sync_folder(const char *path)
 }
 
 /* Makes the bytes the stored file's: until the renaming it is the old one, from then on the new one. */
-static int replace(const struct place *place, const uint8_t *bytes, size_t length)
+static int replace(const struct paths *paths, const uint8_t *bytes, size_t length)
 {
-    if (write_new(place, bytes, length) != 0 || rename(place->new, place->stored) != 0) {
+    if (write_new(paths, bytes, length) != 0 || rename(paths->new, paths->stored) != 0) {
         int problem = errno;
-        unlink(place->new);
+        unlink(paths->new);
         errno = problem;
         return -1;
     }
-    return sync_folder(place->folder);
+    return sync_folder(paths->folder);
 }
 
 static int failed(const char *what)
@@ -179,10 +179,10 @@ static int failed(const char *what)
 }
 
 /* Under the lock. */
-static int save(const struct place *place, const uint8_t *opened, size_t opened_length, const uint8_t *new, size_t new_length)
+static int save(const struct paths *paths, const uint8_t *opened, size_t opened_length, const uint8_t *new, size_t new_length)
 {
     static uint8_t stored[ROOM], output[ROOM];
-    ssize_t stored_length = read_file(place->stored, stored);
+    ssize_t stored_length = read_file(paths->stored, stored);
     if (stored_length < 0)
         return failed("read the stored file");
     size_t length;
@@ -192,7 +192,7 @@ static int save(const struct place *place, const uint8_t *opened, size_t opened_
         printf("refused %u: nothing was written\n", number);
         return 1;
     }
-    if (replace(place, output, length) != 0)
+    if (replace(paths, output, length) != 0)
         return failed("save the new file");
     printf("saved %zu bytes\n", length);
     return 0;
@@ -201,7 +201,7 @@ static int save(const struct place *place, const uint8_t *opened, size_t opened_
 int main(int count, char **words)
 {
     static uint8_t opened[ROOM], new[ROOM];
-    struct place place;
+    struct paths paths;
     if (count != 4) {
         fprintf(stderr, "usage: saving OPENED NEW STORED\n");
         return 2;
@@ -211,13 +211,13 @@ int main(int count, char **words)
     ssize_t new_length = read_file(words[2], new);
     if (opened_length < 0 || new_length < 0)
         return failed("read what was opened, or the new file");
-    if (find(words[3], &place) != 0)
+    if (find(words[3], &paths) != 0)
         return failed("find the stored file");
-    int lock = take_lock(place.lock);
+    int lock = take_lock(paths.lock);
     if (lock < 0)
         return failed("take the lock");
-    int ended = save(&place, opened, (size_t)opened_length, new, (size_t)new_length);
-    unlink(place.lock); /* the lock is let go as the file is closed */
+    int ended = save(&paths, opened, (size_t)opened_length, new, (size_t)new_length);
+    unlink(paths.lock); /* the lock is let go as the file is closed */
     close(lock);
     return ended;
 }

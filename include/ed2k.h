@@ -83,18 +83,18 @@ enum {
     ED2K_LONE_TAGS = 7
 };
 
-/* How many numbers the reading calls hand out; those that a message does not use are 0. A smaller array is refused (10). */
+/* How many numbers the reading calls return; those that a message does not use are 0. A smaller array is refused (10). */
 #define ED2K_FIELDS 16
 
 /*
- * Reads a whole packet, file, query or tag list, and hands out the numbers of its kind, in the places of `fields` that are named below.
- * Where bytes lie in `bytes` is told by their offset: that of a hash is the offset of its 16 bytes.
+ * Reads a whole packet, file, query or tag list, and returns the numbers of its kind, in the slots of `fields` that are named below.
+ * Where bytes are in `bytes` is given by their offset: that of a hash is the offset of its 16 bytes.
  */
 uint8_t ed2k_read(uint8_t kind, const uint8_t *bytes, size_t length, uint64_t *fields, size_t field_count);
 
-/* Some values have several numbers, from their place on: fields[ED2K_FIELD_RECORDS + ED2K_LIST_COUNT] is how many records there are. */
+/* Some values have several numbers, from their slot on: fields[ED2K_FIELD_RECORDS + ED2K_LIST_COUNT] is how many records there are. */
 
-/* A list: the offset of its first entry, the offset behind its last one, and how many there are. */
+/* A list: the offset of its first entry, the offset after its last one, and how many there are. */
 #define ED2K_LIST_AT 0
 #define ED2K_LIST_END 1
 #define ED2K_LIST_COUNT 2
@@ -110,7 +110,7 @@ uint8_t ed2k_read(uint8_t kind, const uint8_t *bytes, size_t length, uint64_t *f
 #define ED2K_ADDRESS_IP 0
 #define ED2K_ADDRESS_PORT 1
 
-/* The places in `fields` of packets and files. */
+/* The slots in `fields` of packets and files. */
 enum {
     ED2K_FIELD_OPENING = 0, /* the opening byte of packets and files */
 
@@ -135,7 +135,7 @@ enum {
     ED2K_FIELD_LONE_TAGS = 0   /* list */
 };
 
-/* The shapes of bodies, and the places of their values. */
+/* The shapes of bodies, and the slots of their values. */
 enum {
     ED2K_BODY_NOTHING = 0,
 
@@ -227,7 +227,7 @@ enum {
 };
 
 /* Which hash lists a part.met has. One that opens with E0 has ED2K_HASHES_COUNTED, a counted list of part hashes. A lone list of one
- * that opens with E1 is read as part hashes, so that no call hands out ED2K_HASHES_BLOCKS. */
+ * that opens with E1 is read as part hashes, so that no call returns ED2K_HASHES_BLOCKS. */
 enum {
     ED2K_HASHES_NONE = 0,
     ED2K_HASHES_PARTS = 1,
@@ -236,7 +236,7 @@ enum {
     ED2K_HASHES_COUNTED = 4
 };
 
-/* One item at an offset; `fields` takes the offset behind it, then the item's values. */
+/* One item at an offset; `fields` takes the offset after it, then the item's values. */
 uint8_t ed2k_read_tag(const uint8_t *bytes, size_t length, size_t at, uint64_t *fields, size_t field_count);
 uint8_t ed2k_read_address(const uint8_t *bytes, size_t length, size_t at, uint64_t *fields, size_t field_count);
 uint8_t ed2k_read_record(const uint8_t *bytes, size_t length, size_t at, uint64_t *fields, size_t field_count);
@@ -244,9 +244,9 @@ uint8_t ed2k_read_file_entry(const uint8_t *bytes, size_t length, size_t at, uin
 uint8_t ed2k_read_server_entry(const uint8_t *bytes, size_t length, size_t at, uint64_t *fields, size_t field_count);
 uint8_t ed2k_read_query_node(const uint8_t *bytes, size_t length, size_t at, uint64_t *fields, size_t field_count);
 
-/* The places in `fields` of items. */
+/* The slots in `fields` of items. */
 enum {
-    ED2K_ITEM_NEXT = 0, /* the offset behind any item */
+    ED2K_ITEM_NEXT = 0, /* the offset after any item */
 
     ED2K_ITEM_TAG_TYPE = 1,  /* ED2K_TAG_.. */
     ED2K_ITEM_TAG_NAME = 2,  /* text */
@@ -285,7 +285,7 @@ enum {
 
 /* The cases of query nodes. */
 enum {
-    ED2K_NODE_JOIN = 0,    /* an operator, whose two queries follow behind it */
+    ED2K_NODE_JOIN = 0,    /* an operator, whose two queries follow it */
     ED2K_NODE_KEYWORD = 1, /* a text in the file's name */
     ED2K_NODE_FIELD = 2,   /* a text that a tag equals */
     ED2K_NODE_LIMIT = 3    /* a number, as a bound of a tag's */
@@ -306,15 +306,15 @@ enum {
 uint32_t ed2k_part_count(uint32_t size);
 uint32_t ed2k_block_count(uint32_t size);
 
-/* A gap record is 130 numbers: size, how many gaps, then 64 pairs of start and end. Unused pairs are handed out as 0, and not judged
+/* A gap record is 130 numbers: size, how many gaps, then 64 pairs of start and end. Unused pairs are returned as 0, and not checked
  * where a record is read. Fewer numbers are no lawful record (8); of a longer array only the first 130 are read or written. */
 #define ED2K_GAP_NUMBERS 130
 
-/* The places in a gap record. */
+/* The slots in a gap record. */
 enum {
     ED2K_GAPS_SIZE = 0,
     ED2K_GAPS_COUNT = 1,
-    ED2K_GAPS_FIRST = 2 /* start and end of the first gap; those of the next are behind them */
+    ED2K_GAPS_FIRST = 2 /* start and end of the first gap; those of the next are after them */
 };
 
 /* The gaps of a part.met: its own refusals, then 10 for an array of fewer numbers. */
@@ -330,7 +330,7 @@ uint8_t ed2k_count_missing(const uint64_t *gaps, size_t gap_numbers, uint64_t *m
  * rules, 6 for more than 64 gaps afterwards: then the record stays as it was, and `missing` takes 0. */
 uint8_t ed2k_mark(uint64_t *gaps, size_t gap_numbers, uint64_t start, uint64_t end, uint64_t *missing);
 
-/* The calls that write take the output, and `written` takes how many bytes were written at its front; what is behind them stays. A
+/* The calls that write take the output, and `written` takes how many bytes were written at its front; what is after them stays. A
  * refused one leaves the output as it was, and 0 in `written`. Room is asked for last (10). */
 
 /* The part.met `file` with the gaps of the record: the file's own number; 8; 6 above the byte ceiling; 10. */
@@ -343,8 +343,7 @@ uint8_t ed2k_save(const uint8_t *stored, size_t stored_length, const uint8_t *op
                   size_t saved_length, uint8_t *output, size_t room, size_t *written);
 
 /* Whether a lone query holds on a lone tag list: `truth` takes 0 or 1, and 0 where the call refuses. The query's refusals come before
- * the list's. The cost is that of each leaf on each tag: leaves times tags times the bytes
- * of their texts. */
+ * the list's. The cost is that of each leaf on each tag: leaves times tags times the bytes of their texts. */
 uint8_t ed2k_truth(const uint8_t *query, size_t query_length, const uint8_t *tags, size_t tags_length, uint8_t *truth);
 
 /* A lone query from its pieces: 6 for a text above 65,535 bytes or too many bytes, 5 and 6 for a name of 0 or above 255 bytes. */
@@ -369,25 +368,25 @@ uint8_t ed2k_write_float_tag(const uint8_t *name, size_t name_length, uint32_t b
 /* The hash is the first 16 bytes of `hash`; fewer are refused (1). */
 uint8_t ed2k_write_hash_tag(const uint8_t *name, size_t name_length, const uint8_t *hash, size_t hash_length, uint8_t *output,
                             size_t room, size_t *written);
-/* A lone tag list of the `count` tags that lie at the offset `at` of `bytes`; a place where they do not lie has the refusal of its
- * own reading. */
+/* A lone tag list of the `count` tags that are encoded at the offset `at` of `bytes`; if they are not, the refusal of their own
+ * reading. */
 uint8_t ed2k_write_tag_list(const uint8_t *bytes, size_t length, size_t at, uint32_t count, uint8_t *output, size_t room,
                             size_t *written);
-/* The lone query that lies at the offset `at` of `bytes`. */
+/* The lone query that is encoded at the offset `at` of `bytes`. */
 uint8_t ed2k_write_query(const uint8_t *bytes, size_t length, size_t at, uint8_t *output, size_t room, size_t *written);
 
 /*
- * A whole packet, file, query or tag list from its numbers, which are those that ed2k_read hands out for its kind; places are offsets in
- * `bytes`. What lies at a place is read again, and the ends of lists and queries and the depths of queries are not looked at; nor is
- * the size of a part.met, which its tags tell. In this order:
+ * A whole packet, file, query or tag list from its numbers, which are those that ed2k_read returns for its kind; offsets are in `bytes`.
+ * What is encoded at an offset is read again, and the ends of lists and queries and the depths of queries are not checked; nor is the
+ * size of a part.met, which its tags give. In this order:
  *   4   the kind is none of those above
  *   5   the first 16 numbers, or fewer where so many are not lent, are those of no message of the kind: a number above what its field
  *       holds (32 bits for the count of a list; a length, and the number of parts of a status, may be any), one that the message does
  *       not use and that is not 0, an unlisted shape, form or hash lists, a part.met that opens with neither E0 nor E1, an E0 without
  *       ED2K_HASHES_COUNTED or an E1 with it
  *   4   the link lists the opcode with another shape
- *   ..  a place does not hold what it should: the number of its own reading, the first at fault in the order of the bytes written
- *   6   a text above 65,535 bytes, more than 255 addresses, more than 65,535 hashes behind a count, more than 65,535 status bits
+ *   ..  an item is not encoded at its offset: the number of its own reading, the first at fault in the order of the bytes written
+ *   6   a text above 65,535 bytes, more than 255 addresses, more than 65,535 hashes after a count, more than 65,535 status bits
  *   5   the bytes would be another message: a status request of the other form, or hash lists of a part.met that is read otherwise
  *   ..  the number that ed2k_read has for the bytes
  *   10
@@ -395,12 +394,12 @@ uint8_t ed2k_write_query(const uint8_t *bytes, size_t length, size_t at, uint8_t
 uint8_t ed2k_write(uint8_t kind, const uint8_t *bytes, size_t length, const uint64_t *fields, size_t field_count, uint8_t *output,
                    size_t room, size_t *written);
 
-/* Single entries, to compose a list of them. Places are offsets in `bytes`; one that does not hold what it should has the number of its
- * own reading, the first in the order of the bytes written. An entry by itself has no byte ceiling; 10 comes last. */
+/* Single entries, to compose a list of them. Offsets are in `bytes`; an item that is not encoded at its offset has the number of its own
+ * reading, the first in the order of the bytes written. An entry by itself has no byte ceiling; 10 comes last. */
 uint8_t ed2k_write_address(uint32_t ip, uint16_t port, uint8_t *output, size_t room, size_t *written);
 uint8_t ed2k_write_record(const uint8_t *bytes, size_t length, size_t hash, uint32_t client, uint16_t port, size_t tags_at,
                           uint32_t tag_count, uint8_t *output, size_t room, size_t *written);
-/* 6 for more than 65,535 part hashes, behind the places. */
+/* 6 for more than 65,535 part hashes, after the numbers of its items. */
 uint8_t ed2k_write_file_entry(const uint8_t *bytes, size_t length, uint32_t date, size_t hash, size_t hashes_at, uint32_t hash_count,
                               size_t tags_at, uint32_t tag_count, uint8_t *output, size_t room, size_t *written);
 uint8_t ed2k_write_server_entry(const uint8_t *bytes, size_t length, uint32_t ip, uint16_t port, size_t tags_at, uint32_t tag_count,
