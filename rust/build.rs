@@ -5,7 +5,7 @@
 //! which one that was.
 //!
 //! With ED2K_ARCHIVE set, that archive is linked and nothing is made: for those who have no `rt`, and while developing. A relative
-//! path begins in the folder that the person stands in, which the shell tells as PWD; if no such file is there, in this package's.
+//! path begins in the folder that the person stands in, which the shell gives as PWD; if no such file is there, in this package's.
 
 use std::collections::BTreeSet;
 use std::collections::hash_map::DefaultHasher;
@@ -46,15 +46,15 @@ fn given_archive(given: OsString) -> PathBuf {
         println!("cargo:rerun-if-env-changed=PWD");
     }
     let folders = [env::var_os("PWD"), env::var_os("CARGO_MANIFEST_DIR")];
-    let mut places: Vec<PathBuf> =
+    let mut candidates: Vec<PathBuf> =
         folders.into_iter().flatten().map(|folder| Path::new(&folder).join(&given)).collect();
-    places.dedup();
-    let Some(archive) = places.iter().find(|place| place.is_file()) else {
-        let places: Vec<String> = places.iter().map(|place| place.display().to_string()).collect();
+    candidates.dedup();
+    let Some(archive) = candidates.iter().find(|path| path.is_file()) else {
+        let candidates: Vec<String> = candidates.iter().map(|path| path.display().to_string()).collect();
         fail(&format!(
             "ED2K_ARCHIVE names an archive that is not there: {}\n\
              Name one that `rt staticlib ed2k` made, or unset ED2K_ARCHIVE to have it made.",
-            places.join(", and not ")
+            candidates.join(", and not ")
         ));
     };
     println!("cargo:rerun-if-changed={}", archive.display());
@@ -71,7 +71,7 @@ impl Repository {
         Repository { root: PathBuf::from(variable("CARGO_MANIFEST_DIR")).join("..") }
     }
 
-    /// Waits until no other build makes the archive, or looks at it, as long as the file is open.
+    /// Waits until no other build makes the archive, or checks it, as long as the file is open.
     fn lock(&self) -> File {
         let folder = self.root.join("target");
         let path = folder.join("archive.lock");
@@ -155,7 +155,7 @@ impl Repository {
         }
     }
 
-    /// Runs `rt`, and hands back what it printed.
+    /// Runs `rt`, and returns what it printed.
     fn rt(&self, words: &[&str]) -> String {
         match Command::new("rt")
             .args(words)

@@ -58,7 +58,7 @@ pub struct PartFile {
     pub gaps: Gaps,
 }
 
-/// As many gaps in a file of this size, each as long as what is there behind it.
+/// As many gaps in a file of this size, each as long as what is there after it.
 fn even_gaps(random: &mut Random, size: u32, count: usize) -> Gaps {
     let step = u64::from(size) / count as u64;
     let start = random.next() % (step / 4);
@@ -156,7 +156,7 @@ pub fn model_tags(random: &mut Random, out: &mut Vec<u8>) {
     text_tag(0x27, &random.bytes(32), out);
 }
 
-/// The entries of a known.met of about this length, and where the tag list of each lies.
+/// The entries of a known.met of about this length, and the byte range of the tag list of each.
 pub fn models(random: &mut Random, length: usize) -> (Vec<u8>, Vec<Range<usize>>) {
     let mut bytes = vec![0x0E, 0, 0, 0, 0];
     let mut lists = Vec::new();

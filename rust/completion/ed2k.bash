@@ -31,10 +31,10 @@ _ed2k() {
         ;;
     esac
 
-    # Operands so far; behind -- there are no options any more.
-    local place operands=0 options=yes
-    for ((place = 2; place < COMP_CWORD; place++)); do
-        case ${COMP_WORDS[place]} in
+    # Operands so far; after -- there are no options any more.
+    local index operands=0 options=yes
+    for ((index = 2; index < COMP_CWORD; index++)); do
+        case ${COMP_WORDS[index]} in
         --) options=no ;;
         --*) ;;
         *) operands=$((operands + 1)) ;;

@@ -4,7 +4,7 @@
 //!
 //! 1. It takes the lock of the file, an empty file `.NAME.lock` beside it that is there during the save. Every user who may
 //!    write the folder can take it. Whoever holds it too long is named ([`SaveError::Locked`]).
-//! 2. It reads the stored file and has the proved code judge the save ([`crate::save`]): the new bytes must be a part.met, and
+//! 2. It reads the stored file and has the proved code check the save ([`crate::save`]): the new bytes must be a part.met, and
 //!    the stored ones those that were opened, else it is a conflict. A file that is not there counts as empty.
 //! 3. It makes a new file `.NAME.saving` beside it, and gives it the owner, group, permissions and extended attributes of the
 //!    old one, before a byte is written. Where the owner cannot be kept, the group is, so that the owner is not locked out;
@@ -44,8 +44,8 @@
 
 mod error;
 mod keeping;
+mod location;
 mod lock;
-mod place;
 #[allow(unsafe_code)]
 mod system;
 mod users;
@@ -63,8 +63,8 @@ pub use keeping::Unkept;
 pub use lock::Holder;
 
 use keeping::{NotGiven, keep};
+use location::{Location, regular};
 use lock::{Lock, NotTaken};
-use place::{Place, regular};
 
 /// How long to wait for another's save where a person waits too. A save takes some thousandths of a second.
 pub const WAIT: Duration = Duration::from_secs(10);
@@ -122,19 +122,19 @@ impl Stored {
     ///
     /// [`SaveError::Locked`] if another has the lock all the time, [`SaveError::NotAFile`] for a folder, a pipe or a device.
     pub fn lock(path: impl AsRef<Path>, wait: Duration) -> Result<Stored, SaveError> {
-        let place = Place::of(path.as_ref())?;
-        let path = place.path();
+        let location = Location::of(path.as_ref())?;
+        let path = location.path();
         regular(&path)?;
-        let lock_path = place.hidden(".lock");
+        let lock_path = location.hidden(".lock");
         let lock = Lock::take(lock_path.clone(), wait).map_err(|problem| match problem {
             NotTaken::Held(holder) => SaveError::Locked { holder },
             NotTaken::System(error) => Step::Lock.failed(&lock_path, error),
         })?;
-        let new_path = place.hidden(".saving");
+        let new_path = location.hidden(".saving");
         // It cannot be in use, as the lock is ours.
         match fs::remove_file(&new_path) {
             Err(error) if error.kind() != ErrorKind::NotFound => Err(Step::CleanUp.failed(&new_path, error)),
-            _ => Ok(Stored { path, folder: place.folder, new_path, _lock: lock }),
+            _ => Ok(Stored { path, folder: location.folder, new_path, _lock: lock }),
         }
     }
 

@@ -13,12 +13,12 @@ pub const GAP_CEILING: usize = 64;
 /// Two tags for each gap: type, WORD, 0A or 09 with at most two digits, DWORD.
 const GAP_TAGS_BYTES: usize = GAP_CEILING * 2 * 10;
 
-/// A run of missing bytes, from `start` up to `end`, which is the first place behind it.
+/// A run of missing bytes, from `start` up to `end`, which is the first offset after it.
 #[derive(Clone, Copy, Debug, PartialEq, Eq, Hash)]
 pub struct Gap {
     /// Where it begins.
     pub start: u64,
-    /// The first place behind it.
+    /// The first offset after it.
     pub end: u64,
 }
 
@@ -105,7 +105,7 @@ impl fmt::Debug for GapRecord {
     }
 }
 
-/// The part.met with the gaps of the record in the place of its own: all but the gap tags kept, in order, then the gaps,
+/// The part.met with the gaps of the record instead of its own: all but the gap tags kept, in order, then the gaps,
 /// numbered from 0.
 ///
 /// Refused with the file's own number; [`Refusal::Range`] if the record has another size; [`Refusal::Limit`] above the

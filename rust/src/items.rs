@@ -74,7 +74,7 @@ pub enum TagValue<'a> {
     Float(u32),
 }
 
-/// A record: what 000 calls File info, and Client info where it tells of a client.
+/// A record: what 000 calls File info, and Client info where it describes a client.
 #[derive(Clone, Debug)]
 pub struct Record<'a> {
     /// The file's or the client's hash.
@@ -83,7 +83,7 @@ pub struct Record<'a> {
     pub client: u32,
     /// The client's port.
     pub port: u16,
-    /// What is told of the file or client.
+    /// What is said of the file or client.
     pub tags: Tags<'a>,
 }
 
@@ -96,7 +96,7 @@ pub struct FileEntry<'a> {
     pub hash: Hash,
     /// The hashes of its parts.
     pub part_hashes: Hashes<'a>,
-    /// What is told of the file.
+    /// What is said of the file.
     pub tags: Tags<'a>,
 }
 
@@ -105,7 +105,7 @@ pub struct FileEntry<'a> {
 pub struct ServerEntry<'a> {
     /// Where the server is.
     pub address: Address,
-    /// What is told of the server.
+    /// What is said of the server.
     pub tags: Tags<'a>,
 }
 

@@ -20,7 +20,7 @@ pub enum Link {
     Udp,
 }
 
-/// What lent bytes are. The caller names it; bytes alone do not tell.
+/// What lent bytes are. The caller names it; bytes alone do not say.
 ///
 /// More kinds may come with later requests, so a `match` outside of this crate needs an arm `_`. A program meets a kind that
 /// it does not know only if it takes kinds from [`Kind::ALL`] or from text.

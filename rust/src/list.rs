@@ -13,7 +13,7 @@ pub trait Sealed {}
 
 /// What a [`List`] is a list of: the types of this crate that say so.
 pub trait Entry<'a>: Sized + Sealed {
-    /// The entry at this place of the bytes, and the place behind it.
+    /// The entry at this offset of the bytes, and the offset after it.
     #[doc(hidden)]
     fn read_at(bytes: &'a [u8], at: usize) -> Result<(Self, usize), Refusal>;
 }
@@ -42,10 +42,10 @@ pub struct List<'a, T> {
 }
 
 impl<'a, T> List<'a, T> {
-    /// The list whose place, end and count are the next of the values.
+    /// The list whose offset, end and count are the next of the values.
     pub(crate) fn from_values(values: &mut Values<'a>) -> List<'a, T> {
         let bytes = values.bytes();
-        let (start, end, count) = (values.place(), values.place(), values.place());
+        let (start, end, count) = (values.offset(), values.offset(), values.count());
         List { bytes, start, at: start, end, count, left: count, entries: PhantomData }
     }
 
@@ -61,9 +61,9 @@ impl<'a, T> List<'a, T> {
 }
 
 impl<'a, T: Entry<'a>> List<'a, T> {
-    /// The list of so many entries that lie one behind the other in the bytes, for messages that are composed; the writers
-    /// of entries in [`write`](mod@crate::write) make such bytes. Refused as the first entry that does not lie there is,
-    /// and as [`Refusal::Rest`] if bytes are left.
+    /// The list of so many entries that are encoded one after the other in the bytes, for messages that are composed; the
+    /// writers of entries in [`write`](mod@crate::write) make such bytes. Refused as the first entry that is not encoded
+    /// there is, and as [`Refusal::Rest`] if bytes are left.
     ///
     /// ```
     /// use ed2k::{Address, Addresses, Refusal, write};

@@ -29,7 +29,7 @@ pub struct ServerMet<'a> {
     pub opening: u8,
     /// The servers.
     pub entries: ServerEntries<'a>,
-    /// What stands behind the servers: any bytes.
+    /// What stands after the servers: any bytes.
     pub tail: &'a [u8],
 }
 
@@ -38,13 +38,13 @@ pub struct ServerMet<'a> {
 pub struct PartMet<'a> {
     /// The opening byte: E0 or E1.
     pub opening: u8,
-    /// How many bytes the whole file has. A writer does not look at it: the tags tell the size.
+    /// How many bytes the whole file has. A writer does not check it: the tags give the size.
     pub size: u32,
     /// Seconds since the beginning of 1970.
     pub date: u32,
     /// The file's hash.
     pub hash: Hash,
-    /// What is told of the file, its size and gaps among it.
+    /// What is said of the file, its size and gaps among it.
     pub tags: Tags<'a>,
     /// The hashes of its parts. A file that opens with E0 always has this list, of any length.
     pub part_hashes: Option<Hashes<'a>>,

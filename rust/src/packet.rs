@@ -83,7 +83,7 @@ pub enum Body<'a> {
         hash: Hash,
         /// Where it is.
         address: Address,
-        /// What is told of it.
+        /// What is said of it.
         tags: Tags<'a>,
     },
     /// A file or a client.
@@ -131,7 +131,7 @@ pub enum Body<'a> {
         hash: Hash,
         /// Where they begin in the file.
         start: u32,
-        /// Where they end in the file: the first place behind them.
+        /// Where they end in the file: the first offset after them.
         end: u32,
         /// The bytes, `end - start` of them.
         data: &'a [u8],

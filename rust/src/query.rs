@@ -55,7 +55,7 @@ pub struct Query<'a> {
 
 impl<'a> Query<'a> {
     pub(crate) fn from_values(values: &mut Values<'a>) -> Query<'a> {
-        Query { bytes: values.bytes(), at: values.place(), end: values.place(), depth: values.place() }
+        Query { bytes: values.bytes(), at: values.offset(), end: values.offset(), depth: values.count() }
     }
 
     /// How deep it is, 1 to [`QUERY_DEPTH`].

@@ -1,4 +1,4 @@
-//! The calls of the archive, as include/ed2k.h declares them, each behind a safe function. All `unsafe` of the crate is here and in
+//! The calls of the archive, as include/ed2k.h declares them, each in a safe function. All `unsafe` of the crate is here and in
 //! disk/system.rs, which has calls of Linux.
 //!
 //! Why each call is sound: a slice hands over a pointer that is never null and the number of its elements; the calls
@@ -7,10 +7,10 @@
 
 use crate::refusal::Refusal;
 
-/// How many numbers a reading call hands out.
+/// How many numbers a reading call returns.
 pub(crate) const FIELDS: usize = 16;
 
-/// The numbers that a reading call hands out.
+/// The numbers that a reading call returns.
 pub(crate) type Fields = [u64; FIELDS];
 
 /// How many numbers a gap record has: its size, how many gaps, and 64 pairs of start and end.
@@ -87,7 +87,7 @@ impl Item {
     }
 }
 
-/// Where a list lies: the place of its first entry, and how many it has.
+/// Where a list is encoded: the offset of its first entry, and how many it has.
 #[derive(Clone, Copy)]
 pub(crate) struct Listed {
     pub(crate) at: usize,
@@ -105,7 +105,7 @@ fn answer<T>(number: u8, accepted: T) -> Result<T, Refusal> {
     }
 }
 
-/// Runs a call that leaves a number behind.
+/// Runs a call that stores a number.
 fn number_of<T: Default>(call: impl FnOnce(&mut T) -> u8) -> Result<T, Refusal> {
     let mut value = T::default();
     let number = call(&mut value);
@@ -115,7 +115,7 @@ fn number_of<T: Default>(call: impl FnOnce(&mut T) -> u8) -> Result<T, Refusal> 
 /// A call that writes into the output, given what comes before the output: how many bytes were written.
 macro_rules! written {
     ($call:ident($($before:expr),*) -> $output:ident) => {
-        // SAFETY: lent slices, and a reference to the number that is left behind; places and other numbers may be any.
+        // SAFETY: lent slices, and a reference to the number that is stored; offsets and other numbers may be any.
         number_of(|written| unsafe { $call($($before,)* $output.as_mut_ptr(), $output.len(), written) })
     };
 }
@@ -158,12 +158,12 @@ pub(crate) fn all_missing(size: u64) -> Result<GapNumbers, Refusal> {
 }
 
 pub(crate) fn count_missing(gaps: &GapNumbers) -> Result<u64, Refusal> {
-    // SAFETY: a lent slice, and a reference to the number that is left behind.
+    // SAFETY: a lent slice, and a reference to the number that is stored.
     number_of(|missing| unsafe { ed2k_count_missing(gaps.as_ptr(), GAP_NUMBERS, missing) })
 }
 
 pub(crate) fn mark(gaps: &mut GapNumbers, start: u64, end: u64) -> Result<u64, Refusal> {
-    // SAFETY: a lent slice, and a reference to the number that is left behind; `start` and `end` may be any numbers.
+    // SAFETY: a lent slice, and a reference to the number that is stored; `start` and `end` may be any numbers.
     number_of(|missing| unsafe { ed2k_mark(gaps.as_mut_ptr(), GAP_NUMBERS, start, end, missing) })
 }
 
@@ -176,7 +176,7 @@ pub(crate) fn save(stored: &[u8], opened: &[u8], saved: &[u8], output: &mut [u8]
 }
 
 pub(crate) fn truth(query: &[u8], tags: &[u8]) -> Result<u8, Refusal> {
-    // SAFETY: lent slices, and a reference to the byte that is left behind.
+    // SAFETY: lent slices, and a reference to the byte that is stored.
     number_of(|truth| unsafe { ed2k_truth(query.as_ptr(), query.len(), tags.as_ptr(), tags.len(), truth) })
 }
 

@@ -49,7 +49,7 @@ pub enum Refusal {
 }
 
 impl Refusal {
-    /// All refusals, by their numbers, which go up from 1 without a gap.
+    /// All refusals, by their numbers, which run from 1 without a gap.
     pub const ALL: &'static [Refusal] = &[
         Refusal::Short,
         Refusal::Opening,

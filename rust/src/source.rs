@@ -1,4 +1,4 @@
-//! What the writing calls take: numbers, and bytes that their places are in.
+//! What the writing calls take: numbers, and bytes that their offsets are in.
 
 use crate::items::{Address, Hash, Record};
 use crate::kind::Kind;
@@ -11,21 +11,21 @@ use crate::refusal::Refusal;
 /// More bytes than a message has beside the texts, hashes, lists and data in it.
 const FRAME_BYTES: usize = 64;
 
-/// Bytes that lie in different places, gathered into one run.
+/// Bytes of different buffers, gathered into one run.
 #[derive(Default)]
 pub(crate) struct Gathered {
     bytes: Vec<u8>,
 }
 
 impl Gathered {
-    /// Takes the bytes up, and says where they lie.
+    /// Appends the bytes; their offset.
     pub(crate) fn run(&mut self, bytes: &[u8]) -> usize {
         let at = self.bytes.len();
         self.bytes.extend_from_slice(bytes);
         at
     }
 
-    /// Takes the entries of a list up, without their count.
+    /// Appends the entries of a list, without their count.
     pub(crate) fn list<T>(&mut self, list: &List<'_, T>) -> Listed {
         let (entries, count) = list.whole();
         Listed { at: self.run(entries), count: count as u32 }
@@ -54,13 +54,13 @@ impl Source {
         numbers.into_iter().for_each(|number| self.number(number));
     }
 
-    /// So many bytes, by their place alone.
+    /// So many bytes, by their offset alone.
     pub(crate) fn run(&mut self, bytes: &[u8]) {
         let at = self.gathered.run(bytes);
         self.number(at as u64);
     }
 
-    /// A text, by its place and length.
+    /// A text, by its offset and length.
     pub(crate) fn text(&mut self, text: &[u8]) {
         self.run(text);
         self.number(text.len() as u64);
@@ -75,7 +75,7 @@ impl Source {
         self.number(address.port);
     }
 
-    /// A list, by its place, its end and its count.
+    /// A list, by its offset, its end and its count.
     pub(crate) fn list<T>(&mut self, list: &List<'_, T>) {
         let Listed { at, count } = self.gathered.list(list);
         self.numbers([at as u64, self.gathered.bytes.len() as u64, count.into()]);
@@ -101,12 +101,10 @@ impl Source {
         self.list(&record.tags);
     }
 
-    /// Writes the message of this kind.
     pub(crate) fn write_into(&self, kind: Kind, output: &mut [u8]) -> Result<usize, Refusal> {
         raw::write(kind as u8, self.gathered.bytes(), &self.fields, output)
     }
 
-    /// The bytes of the message of this kind.
     pub(crate) fn write(&self, kind: Kind) -> Result<Vec<u8>, Refusal> {
         let room = kind.ceiling().min(self.gathered.bytes.len() + FRAME_BYTES);
         owned(room, |output| self.write_into(kind, output))

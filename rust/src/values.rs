@@ -1,4 +1,4 @@
-//! The numbers that the reading calls hand out.
+//! The numbers that the reading calls return.
 
 use crate::items::{Address, Hash, Record};
 use crate::kind::Kind;
@@ -6,8 +6,8 @@ use crate::list::List;
 use crate::raw::{self, Fields, Item};
 use crate::refusal::Refusal;
 
-/// The numbers that a reading call handed out, taken in the order in which ed2k.h lists them, and the bytes that their
-/// places are in.
+/// The numbers that a reading call returned, taken in the order in which ed2k.h lists them, and the bytes that their
+/// offsets are in.
 pub(crate) struct Values<'a> {
     bytes: &'a [u8],
     fields: Fields,
@@ -20,19 +20,18 @@ impl<'a> Values<'a> {
         Values { bytes, fields, taken }
     }
 
-    /// The values of bytes of a kind, or their refusal.
     pub(crate) fn read(kind: Kind, bytes: &'a [u8]) -> Result<Values<'a>, Refusal> {
         raw::read(kind as u8, bytes).map(|fields| Values::new(bytes, fields))
     }
 
-    /// The values of the item at this place, and the place behind it; or its refusal.
+    /// The values of the item at this offset, and the offset after it; or its refusal.
     pub(crate) fn of(item: Item, bytes: &'a [u8], at: usize) -> Result<(Values<'a>, usize), Refusal> {
         let mut values = Values::new(bytes, raw::read_item(item, bytes, at)?);
-        let next = values.place();
+        let next = values.offset();
         Ok((values, next))
     }
 
-    /// The bytes that the places are in.
+    /// The bytes that the offsets are in.
     pub(crate) fn bytes(&self) -> &'a [u8] {
         self.bytes
     }
@@ -43,7 +42,12 @@ impl<'a> Values<'a> {
         number
     }
 
-    pub(crate) fn place(&mut self) -> usize {
+    pub(crate) fn offset(&mut self) -> usize {
+        self.number() as usize
+    }
+
+    /// A length, a count or a depth.
+    pub(crate) fn count(&mut self) -> usize {
         self.number() as usize
     }
 
@@ -63,21 +67,21 @@ impl<'a> Values<'a> {
         std::array::from_fn(|_| self.dword())
     }
 
-    /// A text, by its place and length.
+    /// A text, by its offset and length.
     pub(crate) fn text(&mut self) -> &'a [u8] {
-        let at = self.place();
-        let length = self.place();
+        let at = self.offset();
+        let length = self.count();
         &self.bytes[at..at + length]
     }
 
-    /// So many bytes from a place on.
+    /// So many bytes from an offset on.
     pub(crate) fn run(&mut self, length: usize) -> &'a [u8] {
-        let at = self.place();
+        let at = self.offset();
         &self.bytes[at..at + length]
     }
 
     pub(crate) fn hash(&mut self) -> Hash {
-        let (hash, _) = array_at(self.bytes, self.place()).expect("a hash that was read is there");
+        let (hash, _) = array_at(self.bytes, self.offset()).expect("a hash that was read is there");
         Hash(hash)
     }
 
@@ -94,7 +98,7 @@ impl<'a> Values<'a> {
     }
 }
 
-/// So many bytes from a place on, and the place behind them.
+/// So many bytes from an offset on, and the offset after them.
 pub(crate) fn array_at<const N: usize>(bytes: &[u8], at: usize) -> Result<([u8; N], usize), Refusal> {
     let array = bytes.get(at..).and_then(|rest| rest.first_chunk()).ok_or(Refusal::Short)?;
     Ok((*array, at + N))

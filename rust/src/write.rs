@@ -17,7 +17,7 @@
 //! # Ok::<(), ed2k::Refusal>(())
 //! ```
 //!
-//! Lists that no reader gave are made of their entries, one behind the other, by [`List::new`](crate::List::new):
+//! Lists that no reader gave are made of their entries, one after the other, by [`List::new`](crate::List::new):
 //!
 //! ```
 //! use ed2k::write::{self, TagList};
@@ -103,7 +103,7 @@ pub fn join_into(operator: Operator, left: &[u8], right: &[u8], output: &mut [u8
     raw::write_join(operator as u8, left, right, output)
 }
 
-/// The lone query that lies at this place of the bytes, as in a packet; refused as its own reading is.
+/// The lone query that is encoded at this offset of the bytes, as in a packet; refused as its own reading is.
 pub fn query(bytes: &[u8], at: usize) -> Result<Vec<u8>, Refusal> {
     owned(PACKET_CEILING.min(bytes.len().saturating_sub(at)), |output| query_into(bytes, at, output))
 }
@@ -153,7 +153,7 @@ pub fn hash_tag_into(name: &[u8], hash: Hash, output: &mut [u8]) -> Result<usize
     raw::write_hash_tag(name, &hash.0, output)
 }
 
-/// The lone tag list of the `count` tags that lie at this place of the bytes; refused as their own reading is, and as
+/// The lone tag list of the `count` tags that are encoded at this offset of the bytes; refused as their own reading is, and as
 /// [`Refusal::Limit`] above the byte ceiling.
 pub fn tag_list(bytes: &[u8], at: usize, count: u32) -> Result<Vec<u8>, Refusal> {
     let room = PACKET_CEILING.min(4 + bytes.len().saturating_sub(at));

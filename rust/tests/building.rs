@@ -29,7 +29,7 @@ ed2k: wire
 reading: wire io
 ";
 
-/// A repository with the package in its folder rust/, and a place where `rt` is.
+/// A repository with the package in its folder rust/, and a folder where `rt` is.
 struct Room {
     folder: PathBuf,
 }
@@ -231,10 +231,10 @@ fn without_rt_it_is_said_what_is_needed() {
     let room = Room::new();
     let output = room.script("out").env("PATH", "").output().unwrap();
     assert!(!output.status.success());
-    let told = text(&output.stdout);
+    let printed = text(&output.stdout);
     assert!(
-        told.contains("cargo::error=`rt` cannot be run") && told.contains("ED2K_ARCHIVE names one"),
-        "{told}"
+        printed.contains("cargo::error=`rt` cannot be run") && printed.contains("ED2K_ARCHIVE names one"),
+        "{printed}"
     );
 }
 
@@ -264,16 +264,16 @@ fn a_relative_archive_begins_where_the_person_stands() {
     assert_eq!(linked(&room, "rust", given).unwrap(), "the package's");
     assert_eq!(linked(&room, "here", Path::new("only.a")).unwrap(), "only there");
     assert_eq!(linked(&room, "here", &room.path("rust/given.a")).unwrap(), "the package's");
-    let told = linked(&room, "here", Path::new("none.a")).unwrap_err();
+    let printed = linked(&room, "here", Path::new("none.a")).unwrap_err();
     let [stands, package] =
         ["here", "rust"].map(|folder| room.path(folder).join("none.a").display().to_string());
     let first = format!(
         "cargo::error=ED2K_ARCHIVE names an archive that is not there: {stands}, and not {package}\n"
     );
-    assert!(told.contains(&first), "{told}");
+    assert!(printed.contains(&first), "{printed}");
     let absolute = room.path("none.a");
-    let told = linked(&room, "here", &absolute).unwrap_err();
-    assert!(told.contains(&format!("that is not there: {}\n", absolute.display())), "{told}");
+    let printed = linked(&room, "here", &absolute).unwrap_err();
+    assert!(printed.contains(&format!("that is not there: {}\n", absolute.display())), "{printed}");
 }
 
 /// That the folder is the person's is up to the shell and to cargo; this asks them.
@@ -291,7 +291,7 @@ fn cargo_hands_on_where_the_person_stands() {
         let output = build(stands, archive);
         assert!(output.status.success(), "{}", text(&output.stderr));
     }
-    let told = text(&build("", "given.a").stderr);
-    assert!(told.contains("ED2K_ARCHIVE names an archive that is not there: "), "{told}");
+    let printed = text(&build("", "given.a").stderr);
+    assert!(printed.contains("ED2K_ARCHIVE names an archive that is not there: "), "{printed}");
     assert_eq!(room.calls(), [""; 0]);
 }

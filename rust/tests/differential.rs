@@ -1,4 +1,4 @@
-//! Holds the archive to a second reading of document 01 in plain Rust, on made inputs: lawful and damaged, short and long. Number,
+//! Holds the archive to a second reading of document 01 in plain Rust, on made inputs: valid and damaged, short and long. Number,
 //! every field and every byte of every output are compared, those that a call must leave alone too. Each input has its own seed, and a
 //! difference prints it.
 
@@ -92,7 +92,7 @@ fn compare_items(comparison: &mut Comparison, item: Item, bytes: &[u8], list: &[
     assert_eq!(at as u64, list[1], "the end of a list of {}", item_name(item));
 }
 
-/// The nodes of a query lie one behind the other.
+/// The nodes of a query are one after the other.
 fn compare_nodes(comparison: &mut Comparison, bytes: &[u8], query: &[u64]) {
     let mut at = query[0];
     while at < query[1] {
@@ -180,7 +180,7 @@ fn every_block_case() {
     comparison.assert_seen(NAMES[5], &[0, 1, 5, 10]);
 }
 
-/// Each opcode of each link, lawful, and each opcode that the link has not.
+/// Each opcode of each link, valid, and each opcode that the link has not.
 #[test]
 fn every_opcode() {
     let mut comparison = Comparison::new(20_000_000);
@@ -206,7 +206,7 @@ fn kinds_that_are_none() {
     comparison.assert_seen("no kind", &[4]);
 }
 
-/// A lawful item of the kind, or one node of a query.
+/// A valid item of the kind, or one node of a query.
 fn item_bytes(random: &mut Random, item: Item) -> Vec<u8> {
     let mut bytes = Vec::new();
     match item {
@@ -221,7 +221,7 @@ fn item_bytes(random: &mut Random, item: Item) -> Vec<u8> {
     bytes
 }
 
-/// Items between other bytes, and places where none lies, inside the bytes and beyond them.
+/// Items between other bytes, and offsets at which none is encoded, inside the bytes and beyond them.
 #[test]
 fn items_anywhere() {
     let items = [Item::Tag, Item::Address, Item::Record, Item::FileEntry, Item::ServerEntry, Item::QueryNode];
@@ -230,13 +230,13 @@ fn items_anywhere() {
         let item = random.pick(&items);
         let before = random.below(4);
         let mut bytes = random.bytes(before);
-        let mut placed = item_bytes(random, item);
+        let mut encoded = item_bytes(random, item);
         if random.once_in(2) {
-            placed = damaged(random, plain::LONE_TAGS, &placed);
+            encoded = damaged(random, plain::LONE_TAGS, &encoded);
         }
-        bytes.extend(placed);
-        let behind = random.below(4);
-        bytes.extend(random.bytes(behind));
+        bytes.extend(encoded);
+        let after = random.below(4);
+        bytes.extend(random.bytes(after));
         let inside = random.within(0, bytes.len());
         let at = random.pick(&[before, before, before, inside, bytes.len() + 1, usize::MAX, usize::MAX - 15]);
         compare_item(comparison, item, &bytes, at);
@@ -356,7 +356,7 @@ fn marking() {
     comparison.assert_seen("mark", &[0, 6, 8]);
 }
 
-/// Marks one model at random places and then gap by gap, until nothing is missing.
+/// Marks one model at random ranges and then gap by gap, until nothing is missing.
 #[test]
 fn marking_to_the_end() {
     let mut comparison = Comparison::new(27_000_000);
@@ -417,7 +417,7 @@ fn saving() {
     comparison.assert_seen("save", &[0, 1, 2, 5, 6, 7, 8, 9, 10, 11]);
 }
 
-/// The same bytes, or bytes that differ in one place or in length.
+/// The same bytes, or bytes that differ in one byte or in length.
 fn stored_and_opened(random: &mut Random) -> (Vec<u8>, Vec<u8>) {
     let length = random.pick(&[0, 0, 1, 30, 3_000]);
     let stored = random.bytes(length);
@@ -500,9 +500,9 @@ fn vector_inputs(mut run: &[u8]) -> Vec<(u8, &[u8])> {
     let mut inputs = Vec::new();
     while let [letter, a, b, c, d, rest @ ..] = run {
         let kind = b"scukvp".iter().position(|known| known == letter).expect("a letter");
-        let (bytes, behind) = rest.split_at(u32::from_le_bytes([*a, *b, *c, *d]) as usize);
+        let (bytes, after) = rest.split_at(u32::from_le_bytes([*a, *b, *c, *d]) as usize);
         inputs.push((kind as u8, bytes));
-        run = behind;
+        run = after;
     }
     inputs
 }

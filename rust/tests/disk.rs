@@ -112,7 +112,7 @@ fn who_waits_gets_the_lock_when_it_is_let_go() {
 }
 
 #[test]
-fn what_the_system_does_not_allow_is_told_by_its_step() {
+fn what_the_system_does_not_allow_is_reported_by_its_step() {
     let folder = Folder::new();
     let path = folder.path("stored");
     let step = |refused: Result<_, SaveError>| match refused.map(|_: disk::Saved| ()) {
@@ -199,7 +199,7 @@ fn a_lock_is_open_to_every_user() {
     assert_eq!(named, Holder { process: anna.id(), user: Some(5_001) });
     assert_eq!(named.to_string(), format!("process {} of user 5001", anna.id()));
 
-    // Killed, Anna leaves her lock behind, and Ben takes it.
+    // Killed, Anna leaves her lock, and Ben takes it.
     anna.kill().unwrap();
     anna.wait().unwrap();
     assert_eq!(folder.names(), [".stored.lock", "program"]);

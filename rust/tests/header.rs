@@ -161,9 +161,9 @@ fn expected_bodies() -> Vec<String> {
 }
 
 #[test]
-fn values_stand_at_the_places_that_the_header_names() {
-    let folder = Folder::new("places");
-    let program = folder.compiled(&repository("rust/tests/c/places.c"));
+fn values_stand_in_the_slots_that_the_header_names() {
+    let folder = Folder::new("slots");
+    let program = folder.compiled(&repository("rust/tests/c/slots.c"));
     let read = |kind: Kind, bytes: &[u8]| {
         let lines = printed(&program, &[(kind as u8).to_string()], bytes);
         lines.trim_end().replace('\n', "; ")

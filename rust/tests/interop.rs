@@ -43,9 +43,9 @@ fn a_stream_is_cut_by_its_headers() {
     let mut rest = &stream[..];
     let mut answers = Vec::new();
     while let Some(length) = front(rest) {
-        let (packet, behind) = rest.split_at(length);
+        let (packet, after) = rest.split_at(length);
         answers.push(ed2k::read_packet(Link::Client, packet).map(|packet| packet.opcode));
-        rest = behind;
+        rest = after;
     }
     let refused = Err(Refusal::Opening);
     assert_eq!(answers, [Ok(0x01), refused, Ok(0x4C), refused, Ok(0x59)]);
@@ -100,7 +100,7 @@ fn a_search_is_answered_by_the_truth_of_its_query() {
     written(Link::Server, 0x33, Body::RecordsFlag { records, flag: 0 });
 }
 
-/// Step 5: the size behind the hash is cut off.
+/// Step 5: the size after the hash is cut off.
 #[test]
 fn sources_are_found_for_a_request_that_is_cut_to_its_hash() {
     let request = sample("amule_s_E3_19_01.bin");

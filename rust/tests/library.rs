@@ -310,7 +310,7 @@ fn lists_are_composed_of_entries() {
     assert_eq!(tags.unwrap(), packets::list(&packets::four_tags()));
 }
 
-/// The values of one message may lie in different buffers, and a list in the middle of one.
+/// The values of one message may be in different buffers, and a list in the middle of one.
 #[test]
 fn a_packet_is_composed_of_values_from_anywhere() {
     let tags = packets::list(&packets::four_tags());
@@ -489,8 +489,8 @@ fn parts_and_blocks_are_counted_as_in_the_papers() {
 
 #[test]
 fn refusals_have_their_numbers() {
-    for (place, refusal) in Refusal::ALL.iter().copied().enumerate() {
-        assert_eq!(usize::from(refusal.number()), place + 1);
+    for (index, refusal) in Refusal::ALL.iter().copied().enumerate() {
+        assert_eq!(usize::from(refusal.number()), index + 1);
         assert_eq!(Refusal::from_number(refusal.number()), Some(refusal));
     }
     assert_eq!(Refusal::from_number(0), None);

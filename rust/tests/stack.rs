@@ -80,11 +80,11 @@ fn packets_of_every_opcode_written() {
     let mut random = Random::new(SEED);
     for link in [plain::SERVER_LINK, plain::CLIENT_LINK, plain::UDP_LINK] {
         for (opcode, _) in inputs::opcodes(link) {
-            let lawful = || {
+            let valid = || {
                 let packet = inputs::packet_of(&mut random, link, *opcode);
                 plain::read(link, &packet).ok().map(|fields| (packet, fields))
             };
-            let (packet, fields) = std::iter::repeat_with(lawful).flatten().next().expect("a lawful packet");
+            let (packet, fields) = std::iter::repeat_with(valid).flatten().next().expect("a valid packet");
             writes(&format!("link {link}, opcode {opcode:02X}"), |output, written| {
                 (ARCHIVE.write)(link, &packet, fields.numbers(), output, written)
             });

@@ -1,5 +1,5 @@
 //! Holds the writers of the archive to a second set in plain Rust, as differential.rs does with the readers: queries, tags, entries,
-//! packets and met files, from pieces and from numbers, lawful and not. Number, output and length are compared, with room to spare, with
+//! packets and met files, from pieces and from numbers, valid and not. Number, output and length are compared, with room to spare, with
 //! just enough and with too little.
 
 mod archive;
@@ -111,9 +111,9 @@ fn writers_of_tags() {
     comparison.assert_seen("hash tag", &[0, 1, 5, 6, 10]);
 }
 
-/// Lists and queries written from where they lie, and from where they do not.
+/// Lists and queries written from where they are encoded, and from where they are not.
 #[test]
-fn writers_by_place() {
+fn writers_by_offset() {
     let mut comparison = Comparison::new(34_000_000);
     comparison.rounds(ROUNDS, |comparison, random| {
         let mut bytes = lone_tags(random);
@@ -142,8 +142,8 @@ fn writers_by_place() {
 }
 
 fn compare_tag_list_writing(comparison: &mut Comparison, bytes: &[u8], at: usize, count: u32) {
-    let place = [at.to_le_bytes(), u64::from(count).to_le_bytes()].concat();
-    comparison.writing("tag list", &[bytes, &place], |calls, output, written| {
+    let list = [at.to_le_bytes(), u64::from(count).to_le_bytes()].concat();
+    comparison.writing("tag list", &[bytes, &list], |calls, output, written| {
         (calls.write_tag_list)(bytes, at, count, output, written)
     });
 }
@@ -173,7 +173,7 @@ fn compare_write(comparison: &mut Comparison, kind: u8, source: &[u8], fields: &
     })
 }
 
-/// A message and its numbers, as the reader hands them out.
+/// A message and its numbers, as the reader returns them.
 fn message_and_fields(random: &mut Random, kind: u8) -> (Vec<u8>, Vec<u64>) {
     loop {
         let bytes = message(random, kind);
@@ -183,7 +183,7 @@ fn message_and_fields(random: &mut Random, kind: u8) -> (Vec<u8>, Vec<u64>) {
     }
 }
 
-/// Numbers at which a width, a count or a place in the source ends.
+/// Numbers at which a width, a count or an offset in the source ends.
 fn edge(random: &mut Random, source: &[u8]) -> u64 {
     let length = source.len() as u64;
     match random.below(3) {
@@ -218,7 +218,7 @@ fn injure(random: &mut Random, source: &[u8], fields: &mut Vec<u64>) {
     }
 }
 
-/// Messages whose numbers are injured, or whose bytes are, so that other things lie at their places.
+/// Messages whose numbers are injured, or whose bytes are, so that other things are encoded at their offsets.
 fn compare_injured(comparison: &mut Comparison, kind: u8) {
     comparison.rounds(ROUNDS, |comparison, random| {
         let (mut source, mut fields) = message_and_fields(random, kind);
@@ -232,7 +232,8 @@ fn compare_injured(comparison: &mut Comparison, kind: u8) {
     });
 }
 
-/// A source of zeros that is longer than every ceiling. Lists of hashes, addresses, records and entries of any length lie everywhere in it.
+/// A source of zeros that is longer than every ceiling. Lists of hashes, addresses, records and entries of any length are
+/// encoded everywhere in it.
 fn wide_source() -> Vec<u8> {
     vec![0; 1_150_000]
 }
@@ -257,24 +258,24 @@ fn wide_length(random: &mut Random) -> u64 {
 /// The numbers of a body of this layout over the wide source; the letters are those of the inputs.
 fn wide_body(random: &mut Random, layout: &str, fields: &mut Vec<u64>) {
     for letter in layout.chars() {
-        let place = random.pick(&[0, 0, 0, 0, 7, 84_464, 1_149_990, 1_150_001]);
+        let offset = random.pick(&[0, 0, 0, 0, 7, 84_464, 1_149_990, 1_150_001]);
         match letter {
-            'h' => fields.push(place),
+            'h' => fields.push(offset),
             'd' => fields.push(random.dword().into()),
             'w' => fields.push(random.below(65_536) as u64),
-            's' => fields.extend([place, wide_length(random)]),
-            't' => fields.extend([place, 0, 0]),
-            'R' | 'A' | 'H' => fields.extend([place, 0, wide_count(random)]),
-            'q' => fields.extend([place, 0, 1]),
+            's' => fields.extend([offset, wide_length(random)]),
+            't' => fields.extend([offset, 0, 0]),
+            'R' | 'A' | 'H' => fields.extend([offset, 0, wide_count(random)]),
+            'q' => fields.extend([offset, 0, 1]),
             'f' => fields.push(random.pick(&[0, 1, 2])),
             'm' => (),
             'P' => {
                 let length = wide_length(random);
                 let less = random.pick(&[0, 0, 0, 1]);
-                fields.extend([9, 9 + length - less.min(length), place, length]);
+                fields.extend([9, 9 + length - less.min(length), offset, length]);
             }
             'X' => fields.extend((0..6).map(|_| u64::from(random.dword()))),
-            'S' => fields.extend([random.pick(&[0, 9, 65_535, 65_536, 1 << 20, 1 << 33, u64::MAX]), place]),
+            'S' => fields.extend([random.pick(&[0, 9, 65_535, 65_536, 1 << 20, 1 << 33, u64::MAX]), offset]),
             'E' => fields.extend([random.pick(&[0, 1]), random.pick(&[7, 0x5AAA_0000, 0x5AAA_FFFF])]),
             'U' => fields.extend((0..3).map(|_| u64::from(random.dword()))),
             _ => unreachable!("no item has this letter"),
@@ -384,7 +385,7 @@ fn kinds_that_are_none() {
     comparison.assert_seen("write no kind", &[4]);
 }
 
-/// Each shape with each opcode of each link: its own is written, any other is 4 before its places are looked at.
+/// Each shape with each opcode of each link: its own is written, any other is 4 before its offsets are checked.
 #[test]
 fn every_shape_with_every_opcode() {
     let mut comparison = Comparison::new(50_000_000);
@@ -467,20 +468,20 @@ fn faulty_source() -> Vec<u8> {
     [&[7; 16][..], &[3, 1, 0, 2, 100, 0, 0, 0], &[9], &[2, 0, 1]].concat()
 }
 
-/// Where tags lie, and where they do not: 5, 6 or 1.
-const TAG_PLACES: [usize; 4] = [16, 24, 25, 1_000];
-const HASH_PLACES: [usize; 2] = [0, 1_000];
+/// Where tags are encoded, and where they are not: 5, 6 or 1.
+const TAG_OFFSETS: [usize; 4] = [16, 24, 25, 1_000];
+const HASH_OFFSETS: [usize; 2] = [0, 1_000];
 
-/// Every pair of places, each of which holds what it should or is at fault in its own way.
+/// Every pair of offsets, each of which has its item or is at fault in its own way.
 #[test]
-fn the_first_place_at_fault_decides() {
+fn the_first_offset_at_fault_decides() {
     let mut comparison = Comparison::new(55_000_000);
     let source = faulty_source();
     let mut seen = |kind, fields: &[u64]| {
         let fields: Vec<u64> = fields.iter().copied().chain([0; 16]).take(plain::FIELDS).collect();
         compare_write(&mut comparison, kind, &source, &fields);
     };
-    for (hash, tags, hashes) in places() {
+    for (hash, tags, hashes) in offsets() {
         let (hash, tags, hashes) = (hash as u64, tags as u64, u64::from(hashes));
         seen(plain::SERVER_LINK, &[0xE3, 0x41, 11, hash, 1, 2, tags, 0, 1]);
         seen(plain::SERVER_LINK, &[0xE3, 0x01, 12, hash, 1, 2, tags, 0, 1]);
@@ -495,17 +496,17 @@ fn the_first_place_at_fault_decides() {
     comparison.assert_seen(NAMES[5], &[0, 1, 5, 6, 10]);
 }
 
-/// A hash's place, a tag's, and how many hashes lie at 0.
-fn places() -> impl Iterator<Item = (usize, usize, u32)> {
-    let pairs = HASH_PLACES.iter().flat_map(|hash| TAG_PLACES.map(|tags| (*hash, tags)));
+/// A hash's offset, a tag's, and how many hashes are at 0.
+fn offsets() -> impl Iterator<Item = (usize, usize, u32)> {
+    let pairs = HASH_OFFSETS.iter().flat_map(|hash| TAG_OFFSETS.map(|tags| (*hash, tags)));
     pairs.flat_map(|(hash, tags)| [0, 1, 3, 99].map(|hashes| (hash, tags, hashes)))
 }
 
 #[test]
-fn the_first_place_of_an_entry_at_fault_decides() {
+fn the_first_offset_of_an_entry_at_fault_decides() {
     let mut comparison = Comparison::new(56_000_000);
     let source = faulty_source();
-    for (hash, tags, hashes) in places() {
+    for (hash, tags, hashes) in offsets() {
         let mut random = comparison.next_input();
         compare_entries(&mut comparison, &mut random, &source, hash, (0, hashes), (tags, 1));
     }
@@ -528,7 +529,7 @@ fn every_form_of_a_status_request() {
     comparison.assert_seen(NAMES[2], &[0, 5, 10]);
 }
 
-/// More status bits than their WORD can count, which lie in the source.
+/// More status bits than their WORD can count, which are in the source.
 #[test]
 fn status_bits_above_their_count() {
     let mut comparison = Comparison::new(58_000_000);
@@ -541,7 +542,7 @@ fn status_bits_above_their_count() {
     comparison.assert_seen(NAMES[1], &[6]);
 }
 
-/// A list in the source: that of a tag list that lies there, or another.
+/// A list in the source: that of a tag list that is encoded there, or another.
 fn some_list(random: &mut Random, source: &[u8], at: usize, count: u32) -> (usize, u32) {
     let inside = random.within(0, source.len());
     let at = random.pick(&[at, at, at, at, inside, source.len() + 1, usize::MAX]);
@@ -586,8 +587,8 @@ fn compare_entries(
     tags: (usize, u32),
 ) {
     let (number, port) = (random.dword(), random.next() as u16);
-    let places = format!("hash {hash}, hashes {hashes:?}, tags {tags:?}");
-    let input = [source, places.as_bytes()];
+    let offsets = format!("hash {hash}, hashes {hashes:?}, tags {tags:?}");
+    let input = [source, offsets.as_bytes()];
     comparison.writing("address", &[&number.to_le_bytes(), &port.to_le_bytes()], |calls, output, written| {
         (calls.write_address)(number, port, output, written)
     });

@@ -1,9 +1,9 @@
-//! The items: each is there (1) before it is judged.
+//! The items: each is there (1) before it is checked.
 
 use super::tags::skip_tags;
 use super::{Answer, Refusal};
 
-/// Entries that lie from `at` up to `end`.
+/// Entries that are encoded from `at` up to `end`.
 #[derive(Clone, Copy, Default)]
 pub struct List {
     pub at: usize,
@@ -98,7 +98,7 @@ impl<'a> Cursor<'a> {
         self.run(length.into())
     }
 
-    /// The length is judged before the bytes are looked at.
+    /// The length is checked before the bytes are read.
     #[inline]
     pub fn name(&mut self) -> Answer<&'a [u8]> {
         match self.word()? {
@@ -116,7 +116,7 @@ impl<'a> Cursor<'a> {
         Ok(List { at, end: self.at(), count })
     }
 
-    /// As many entries, each gone over by itself.
+    /// As many entries, each skipped by itself.
     #[inline]
     pub fn list(&mut self, count: u32, skip: impl Fn(&mut Self) -> Answer<()>) -> Answer<List> {
         let at = self.at();

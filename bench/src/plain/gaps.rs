@@ -16,8 +16,8 @@ pub struct Lawful<'a> {
 /// Each gap has bytes within the size, and bytes that are there stand between two gaps.
 #[inline]
 pub fn lawful(record: &[u64]) -> Answer<Lawful<'_>> {
-    let [size, count, places @ ..] = record.first_chunk::<GAP_NUMBERS>().ok_or(Refusal::Range)?;
-    let gaps: &[Gap] = places.as_chunks().0.get(..*count as usize).ok_or(Refusal::Range)?;
+    let [size, count, slots @ ..] = record.first_chunk::<GAP_NUMBERS>().ok_or(Refusal::Range)?;
+    let gaps: &[Gap] = slots.as_chunks().0.get(..*count as usize).ok_or(Refusal::Range)?;
     if *size > SIZE_CEILING {
         return Err(Refusal::Range);
     }
@@ -44,19 +44,19 @@ pub fn mark(record: &mut [u64], start: u64, end: u64) -> Answer<u64> {
     let touched = &touched[..touched.partition_point(|gap| gap[0] < end)];
     let arrived: u64 = touched.iter().map(|gap| gap[1].min(end) - gap[0].max(start)).sum();
     let before = touched.first().filter(|gap| gap[0] < start).map(|gap| [gap[0], start]);
-    let behind = touched.last().filter(|gap| end < gap[1]).map(|gap| [end, gap[1]]);
-    let kept = first + usize::from(before.is_some()) + usize::from(behind.is_some());
+    let after = touched.last().filter(|gap| end < gap[1]).map(|gap| [end, gap[1]]);
+    let kept = first + usize::from(before.is_some()) + usize::from(after.is_some());
     let next = first + touched.len();
     let outcome = kept + count - next;
     if outcome > GAP_CEILING {
         return Err(Refusal::Limit);
     }
-    let places: &mut [Gap] = record[2..GAP_NUMBERS].as_chunks_mut().0;
-    places.copy_within(next..count, kept);
-    for (place, gap) in places[first..].iter_mut().zip(before.into_iter().chain(behind)) {
-        *place = gap;
+    let slots: &mut [Gap] = record[2..GAP_NUMBERS].as_chunks_mut().0;
+    slots.copy_within(next..count, kept);
+    for (slot, gap) in slots[first..].iter_mut().zip(before.into_iter().chain(after)) {
+        *slot = gap;
     }
-    places[outcome..].fill([0, 0]);
+    slots[outcome..].fill([0, 0]);
     record[1] = outcome as u64;
     Ok(missing - arrived)
 }

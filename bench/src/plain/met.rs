@@ -19,7 +19,7 @@ pub fn known_met(bytes: &[u8], fields: &mut Fields) -> Answer<()> {
     cursor.finish()
 }
 
-/// All behind the last entry is tail.
+/// All after the last entry is tail.
 pub fn server_met(bytes: &[u8], fields: &mut Fields) -> Answer<()> {
     within(bytes, MET_CEILING)?;
     let mut cursor = Cursor::new(bytes);

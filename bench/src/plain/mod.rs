@@ -31,7 +31,7 @@ pub const PLAIN: Calls = Calls {
     ..reference::PLAIN
 };
 
-/// The numbers that a reading hands out; those that it does not use are 0.
+/// The numbers that a reading returns; those that it does not use are 0.
 type Fields = [u64; FIELDS];
 
 /// Room for the fields is asked for last.
@@ -59,12 +59,12 @@ fn number(answer: Answer<()>) -> u8 {
 }
 
 /// What a call returns through a pointer is 0 after a refusal.
-fn leave<T: Default>(answer: Answer<T>, place: &mut T) -> u8 {
+fn leave<T: Default>(answer: Answer<T>, lent: &mut T) -> u8 {
     let (number, value) = match answer {
         Ok(value) => (0, value),
         Err(refusal) => (refusal as u8, T::default()),
     };
-    *place = value;
+    *lent = value;
     number
 }
 

@@ -6,8 +6,8 @@ use super::{Answer, Fields, PACKET_CEILING, Refusal, within};
 
 const OPENING: u8 = 0xE3;
 
-/// The shapes of bodies, by their numbers in `ed2k.h`. The extended 97 is told from the plain one
-/// by its body.
+/// The shapes of bodies, by their numbers in `ed2k.h`. The extended 97 is distinguished from
+/// the plain one by its body.
 #[derive(Clone, Copy)]
 enum Shape {
     Nothing = 0,
@@ -139,7 +139,7 @@ fn packet(
     cursor.finish()
 }
 
-/// The body of the shape. The numbers behind a function's name are where its fields begin.
+/// The body of the shape. The numbers after a function's name are where its fields begin.
 #[inline]
 fn body(shape: Shape, cursor: &mut Cursor, fields: &mut Fields) -> Answer<()> {
     match shape {
@@ -270,7 +270,7 @@ fn flag<const AT: usize>(cursor: &mut Cursor, fields: &mut Fields) -> Answer<()>
     if byte <= 1 { Ok(()) } else { Err(Refusal::Choice) }
 }
 
-/// Order is judged before the data, of which there are neither fewer nor more bytes than the range
+/// Order is checked before the data, of which there are neither fewer nor more bytes than the range
 /// has.
 #[inline]
 fn sending_part(cursor: &mut Cursor, fields: &mut Fields) -> Answer<()> {
@@ -294,7 +294,7 @@ fn request_parts(cursor: &mut Cursor, fields: &mut Fields) -> Answer<()> {
     if in_order { Ok(()) } else { Err(Refusal::Range) }
 }
 
-/// All status bytes are there before a bit is judged.
+/// All status bytes are there before a bit is checked.
 #[inline]
 fn file_status(cursor: &mut Cursor, fields: &mut Fields) -> Answer<()> {
     hash(cursor, fields)?;
@@ -306,7 +306,7 @@ fn file_status(cursor: &mut Cursor, fields: &mut Fields) -> Answer<()> {
     if unused_are_clear { Ok(()) } else { Err(Refusal::Choice) }
 }
 
-/// A body of 12 bytes is always the plain one. The shape handed out says which it is.
+/// A body of 12 bytes is always the plain one. The shape that is returned says which it is.
 #[inline]
 fn status(cursor: &mut Cursor, fields: &mut Fields) -> Answer<()> {
     if cursor.rest().len() == 12 {

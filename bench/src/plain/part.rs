@@ -2,7 +2,7 @@
 
 use super::cursor::{Cursor, List};
 use super::gaps::{Lawful, lawful};
-use super::tags::{behind_tag, fault};
+use super::tags::{after_tag, fault};
 use super::{Answer, Fields, GAP_CEILING, GAP_NUMBERS, MET_CEILING, Refusal, within};
 
 const COUNTED_OPENING: u8 = 0xE0;
@@ -26,12 +26,12 @@ struct Part {
     blocks: List,
 }
 
-/// A gap, and where its two tags lie.
+/// A gap, and the byte range of its two tags.
 struct Pair {
     start: u32,
     end: u32,
     at: usize,
-    behind: usize,
+    next: usize,
 }
 
 /// Reads the whole file; `keep` is given each gap as it is met, also where a later rule is broken.
@@ -85,8 +85,8 @@ fn block_follows(cursor: &mut Cursor) -> Answer<bool> {
     }
 }
 
-/// The size and the place of the tags. All are there before one is judged; the size is judged
-/// before the gaps.
+/// The size and the byte range of the tags. All are there before one is checked; the size is
+/// checked before the gaps.
 #[inline]
 fn part_tags(cursor: &mut Cursor, mut keep: impl FnMut(usize, Pair)) -> Answer<(u32, List)> {
     let count = cursor.dword()?;
@@ -95,7 +95,7 @@ fn part_tags(cursor: &mut Cursor, mut keep: impl FnMut(usize, Pair)) -> Answer<(
     let mut gaps = GapTags::new();
     for _ in 0..count {
         let (tag, at) = (cursor.rest(), cursor.at());
-        cursor.go_to(behind_tag(tag).ok_or_else(|| fault(tag))?);
+        cursor.go_to(after_tag(tag).ok_or_else(|| fault(tag))?);
         let head = tag.first_chunk().unwrap_or(&[0; 4]);
         if *head == SIZE_TAG {
             sizes += 1;
@@ -141,7 +141,7 @@ impl GapTags {
         }
     }
 
-    /// A gap tag, or the tag behind a start tag.
+    /// A gap tag, or the tag after a start tag.
     #[inline]
     fn step(&mut self, tag: &[u8], at: usize, keep: &mut impl FnMut(usize, Pair)) {
         if self.refusal.is_some() {
@@ -184,7 +184,7 @@ impl GapTags {
         if own != key || end <= start {
             return None;
         }
-        keep(self.count, Pair { start, end, at: first, behind: at + (at - first) });
+        keep(self.count, Pair { start, end, at: first, next: at + (at - first) });
         *self.keys.get_mut(self.count)? = key;
         self.highest_key = self.highest_key.max(Some(key));
         self.last_end = Some(end);
@@ -192,7 +192,7 @@ impl GapTags {
         Some(())
     }
 
-    /// Ends ascend, so the last one tells of all. A pair that ends behind the size comes before the
+    /// Ends ascend, so the last one is the highest. A pair that ends after the size comes before the
     /// rule that was found broken.
     fn finish(&self, size: u32) -> Answer<()> {
         if self.last_end > Some(size) {
@@ -247,8 +247,8 @@ pub fn read_gaps(file: &[u8], lent: &mut [u64]) -> Answer<()> {
     let mut record = [0; GAP_NUMBERS];
     let part = read(file, |index, pair| {
         record[1] = index as u64 + 1;
-        if let Some(place) = record[2..].as_chunks_mut().0.get_mut(index) {
-            *place = [pair.start.into(), pair.end.into()];
+        if let Some(slot) = record[2..].as_chunks_mut().0.get_mut(index) {
+            *slot = [pair.start.into(), pair.end.into()];
         }
     })?;
     record[0] = part.size.into();
@@ -262,8 +262,8 @@ pub fn put_gaps(file: &[u8], record: &[u64], output: &mut [u8]) -> Answer<usize>
     let mut count = 0;
     let part = read(file, |index, pair| {
         count = index + 1;
-        if let Some(place) = pairs.get_mut(index) {
-            *place = (pair.at, pair.behind);
+        if let Some(slot) = pairs.get_mut(index) {
+            *slot = (pair.at, pair.next);
         }
     })?;
     let gone = &pairs[..count];
@@ -271,7 +271,7 @@ pub fn put_gaps(file: &[u8], record: &[u64], output: &mut [u8]) -> Answer<usize>
     if size != part.size.into() {
         return Err(Refusal::Range);
     }
-    let gone_bytes: usize = gone.iter().map(|(at, behind)| behind - at).sum();
+    let gone_bytes: usize = gone.iter().map(|(at, next)| next - at).sum();
     let length = file.len() - gone_bytes + pairs_bytes(gaps.len());
     if length > MET_CEILING {
         return Err(Refusal::Limit);
@@ -281,9 +281,9 @@ pub fn put_gaps(file: &[u8], record: &[u64], output: &mut [u8]) -> Answer<usize>
     output.put(&file[..part.tags.at - 4]);
     output.put(&tags.to_le_bytes());
     let mut from = part.tags.at;
-    for &(at, behind) in gone {
+    for &(at, next) in gone {
         output.put(&file[from..at]);
-        from = behind;
+        from = next;
     }
     output.put(&file[from..part.tags.end]);
     for (number, &[start, end]) in gaps.iter().enumerate() {

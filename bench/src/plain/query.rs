@@ -135,11 +135,11 @@ fn any(tags: Tags, kind: u8, name: &[u8], test: impl Fn(&[u8]) -> bool) -> bool 
     let head = [kind, low, high, first];
     let mut rest = tags.bytes;
     for _ in 0..tags.count {
-        let Some((front, behind)) = rest.split_first_chunk::<4>() else {
+        let Some((front, after)) = rest.split_first_chunk::<4>() else {
             return false;
         };
         if *front == head
-            && let Some(value) = behind.strip_prefix(others)
+            && let Some(value) = after.strip_prefix(others)
             && test(value)
         {
             return true;
@@ -152,7 +152,7 @@ fn any(tags: Tags, kind: u8, name: &[u8], test: impl Fn(&[u8]) -> bool) -> bool 
     false
 }
 
-/// What lies behind a tag that was read before. It jumps by type and name: a list is gone over once
+/// What comes after a tag that was read before. It jumps by type and name: a list is scanned once
 /// for each leaf, so that the jumps are guessed right.
 #[inline]
 fn next_tag(tag: &[u8]) -> Option<&[u8]> {

@@ -19,20 +19,20 @@ use crate::plain::{Calls, FIELDS, GAP_NUMBERS, PLAIN};
 /// each file once.
 const READ: usize = 16 << 20;
 
-/// Messages one behind the other in memory, so that the first bytes of each are fetched in time.
+/// Messages one after the other in memory, so that the first bytes of each are fetched in time.
 #[derive(Clone)]
 struct Messages {
     bytes: Vec<u8>,
-    places: Vec<Range<usize>>,
+    ranges: Vec<Range<usize>>,
 }
 
 impl FromIterator<Vec<u8>> for Messages {
     fn from_iter<I: IntoIterator<Item = Vec<u8>>>(made: I) -> Self {
-        let mut messages = Messages { bytes: Vec::new(), places: Vec::new() };
+        let mut messages = Messages { bytes: Vec::new(), ranges: Vec::new() };
         for message in made {
             let at = messages.bytes.len();
             messages.bytes.extend(message);
-            messages.places.push(at..messages.bytes.len());
+            messages.ranges.push(at..messages.bytes.len());
         }
         messages
     }
@@ -40,11 +40,11 @@ impl FromIterator<Vec<u8>> for Messages {
 
 impl Messages {
     fn count(&self) -> usize {
-        self.places.len()
+        self.ranges.len()
     }
 
     fn at(&self, index: usize) -> &[u8] {
-        black_box(&self.bytes[self.places[index].clone()])
+        black_box(&self.bytes[self.ranges[index].clone()])
     }
 }
 

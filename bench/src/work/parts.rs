@@ -78,8 +78,8 @@ fn marking() -> Work {
 fn ranges_to_mark(record: &Record) -> Vec<(u64, u64)> {
     let mut record = *record;
     let ranges = (0..MARKS).map(|turn| {
-        let place = 2 + 2 * (turn * 29 % record[1] as usize);
-        let (start, end) = (record[place], record[place + 1]);
+        let slot = 2 + 2 * (turn * 29 % record[1] as usize);
+        let (start, end) = (record[slot], record[slot + 1]);
         let middle = (start + end) / 2;
         let range = [(start, end), (middle, middle + 1), (start, start + 1)][turn % 3];
         assert_eq!((PLAIN.mark)(&mut record, range.0, range.1, &mut 0), 0);

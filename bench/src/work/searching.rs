@@ -43,11 +43,11 @@ fn false_leaf(turn: u64, query: &mut Vec<u8>) {
 /// Asks the query of the tag list of each entry of known.met files.
 fn search(name: &str, query: Vec<u8>) -> Work {
     let length = 1 << 20;
-    let mut lists = Messages { bytes: Vec::new(), places: Vec::new() };
-    for (file, places) in made(length, |random| files::models(random, length)) {
+    let mut lists = Messages { bytes: Vec::new(), ranges: Vec::new() };
+    for (file, ranges) in made(length, |random| files::models(random, length)) {
         let at = lists.bytes.len();
         lists.bytes.extend(file);
-        lists.places.extend(places.iter().map(|place| at + place.start..at + place.end));
+        lists.ranges.extend(ranges.iter().map(|range| at + range.start..at + range.end));
     }
     Work::new(name, lists.count(), move |calls, index, lent| {
         (calls.truth)(black_box(&query), lists.at(index), &mut lent.truth)

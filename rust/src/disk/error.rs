@@ -18,7 +18,7 @@ pub enum SaveError {
     Refused(Refusal),
     /// Another save has the lock, and did not let go of it in time.
     Locked {
-        /// Who has it, if the system tells: it does not of another machine's processes.
+        /// Who has it, if the system says: it does not of another machine's processes.
         holder: Option<Holder>,
     },
     /// The path is that of a folder, a pipe or a device.

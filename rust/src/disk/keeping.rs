@@ -116,7 +116,7 @@ struct Rights {
 const ACCESS_LIST: &CStr = c"system.posix_acl_access";
 
 /// The kinds of its entries that are the group's and all others'. An entry is kind, rights and number, of 2, 2 and 4 bytes,
-/// low byte first, behind a version of 4 bytes.
+/// low byte first, after a version of 4 bytes.
 const GROUP_ENTRY: u16 = 0x04;
 const OTHERS_ENTRY: u16 = 0x20;
 

@@ -16,7 +16,7 @@ const O_NONBLOCK: i32 = 0o4000;
 const O_NOFOLLOW: i32 = 0o400_000;
 const O_TMPFILE: i32 = 0o20_200_000;
 
-/// The longest pause between two looks at a lock that another holds.
+/// The longest pause between two tries for a lock that another holds.
 const PAUSE: Duration = Duration::from_millis(20);
 
 /// Who holds a lock.
@@ -24,7 +24,7 @@ const PAUSE: Duration = Duration::from_millis(20);
 pub struct Holder {
     /// The number of the process.
     pub process: u32,
-    /// The number of the user whose process it is, if the system tells.
+    /// The number of the user whose process it is, if the system says.
     pub user: Option<u32>,
 }
 
@@ -40,7 +40,7 @@ impl fmt::Display for Holder {
 
 /// Why a lock is not taken.
 pub(super) enum NotTaken {
-    /// Another had it all the time. Who, if the system tells.
+    /// Another had it all the time. Who, if the system says.
     Held(Option<Holder>),
     /// The system does not allow it.
     System(io::Error),
@@ -175,11 +175,11 @@ fn is_at(file: &File, path: &Path) -> io::Result<bool> {
     }
 }
 
-/// Who holds the lock on this file, as the system tells it. Some disks have another number in the system's list than
+/// Who holds the lock on this file, as the system says it. Some disks have another number in the system's list than
 /// their files say, so the file's own number alone may have to do.
 fn holder(lock: &Metadata) -> Option<Holder> {
     let locks = fs::read_to_string("/proc/locks").ok()?;
-    let (exact, alike) = (place(lock), format!(":{}", lock.ino()));
+    let (exact, alike) = (disk_and_number(lock), format!(":{}", lock.ino()));
     let with = |fits: &dyn Fn(&str) -> bool| locks.lines().find_map(|line| process_of(line, fits));
     let process = with(&|at| at == exact).or_else(|| with(&|at| at.ends_with(&alike)))?;
     Some(Holder { process, user: users::of_process(process) })
@@ -198,7 +198,7 @@ fn process_of(line: &str, fits: &dyn Fn(&str) -> bool) -> Option<u32> {
 }
 
 /// A file's disk and number, as /proc/locks writes them.
-fn place(file: &Metadata) -> String {
+fn disk_and_number(file: &Metadata) -> String {
     let disk = file.dev();
     let major = (disk >> 8 & 0xFFF) | (disk >> 32 & !0xFFF);
     let minor = (disk & 0xFF) | (disk >> 12 & !0xFF);

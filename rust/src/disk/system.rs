@@ -1,4 +1,4 @@
-//! The calls of Linux that the standard library does not have, each behind a safe function.
+//! The calls of Linux that the standard library does not have, each in a safe function.
 
 use std::ffi::{CStr, CString, c_char, c_int, c_void};
 use std::fs::File;
@@ -69,13 +69,11 @@ pub(super) fn attribute(file: &File, name: &CStr) -> io::Result<Option<Vec<u8>>>
     }
 }
 
-/// Gives a file an extended attribute.
 pub(super) fn set_attribute(file: &File, name: &CStr, value: &[u8]) -> io::Result<()> {
     // SAFETY: a text that ends with 0, and the pointer and length of a slice; the call only reads them.
     done(unsafe { fsetxattr(file.as_raw_fd(), name.as_ptr(), value.as_ptr().cast(), value.len(), 0) })
 }
 
-/// Takes an extended attribute from a file.
 pub(super) fn remove_attribute(file: &File, name: &CStr) -> io::Result<()> {
     // SAFETY: a text that ends with 0, which the call only reads.
     done(unsafe { fremovexattr(file.as_raw_fd(), name.as_ptr()) })

@@ -2,7 +2,7 @@
 
 use std::fs;
 
-/// The user of a process, if the system tells.
+/// The user of a process, if the system says.
 pub(super) fn of_process(process: u32) -> Option<u32> {
     let status = fs::read_to_string(format!("/proc/{process}/status")).ok()?;
     let numbers = status.lines().find_map(|line| line.strip_prefix("Uid:"))?;

@@ -7,7 +7,7 @@ use crate::packet::Packet;
 use crate::refusal::Refusal;
 use crate::write;
 
-/// A packet of the link. Its parts may lie in different buffers.
+/// A packet of the link. Its parts may be in different buffers.
 ///
 /// Refused as [`Refusal::Kind`] if the link lists the opcode with another body, as [`Refusal::Limit`] for a text or list that
 /// its count cannot hold, as [`Refusal::Choice`] if the bytes would be another packet (a 96 that says of itself to be
@@ -89,7 +89,7 @@ pub fn server_met_into(met: &ServerMet<'_>, output: &mut [u8]) -> Result<usize, 
     met.source().write_into(Kind::ServerMet, output)
 }
 
-/// A part.met. Its size is the one that its tags tell; [`PartMet::size`] is not looked at.
+/// A part.met. Its size is the one that its tags give; [`PartMet::size`] is not checked.
 ///
 /// Refused as [`Refusal::Choice`] if it opens with neither E0 nor E1, if one that opens with E0 has not just a list of part
 /// hashes, or if the bytes would be another file, as those of two block hashes alone for 972,800 bytes;

@@ -1,4 +1,4 @@
-//! The archive's calls, as `ed2k.h` declares them, with slices in the place of pointers and lengths.
+//! The archive's calls, as `ed2k.h` declares them, with slices instead of pointers and lengths.
 
 use crate::plain::{Calls, Item};
 

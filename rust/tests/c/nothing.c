@@ -1,4 +1,4 @@
-/* A slice of no elements may be NULL: every call answers as it does for a pointer to something and length 0, and leaves the same behind. */
+/* A slice of no elements may be NULL: every call answers as it does for a pointer to something and length 0, and stores the same. */
 #include <stdio.h>
 #include <stdlib.h>
 #include <string.h>
@@ -24,7 +24,7 @@ static void fill(void)
         exit(1);
 }
 
-static void judge(const char *call, uint8_t number, uint8_t expected)
+static void check(const char *call, uint8_t number, uint8_t expected)
 {
     tried++;
     if (number == expected)
@@ -38,12 +38,12 @@ static void judge(const char *call, uint8_t number, uint8_t expected)
         static uint8_t something = 0x5a;                        \
         static uint64_t some_number = 0x5a;                     \
         none = &something, no_numbers = &some_number, fill();   \
-        judge(#call, call, expected);                           \
+        check(#call, call, expected);                           \
         memcpy(&before, &lent, sizeof lent);                    \
         none = NULL, no_numbers = NULL, fill();                 \
-        judge(#call, call, expected);                           \
+        check(#call, call, expected);                           \
         if (memcmp(&before, &lent, sizeof lent) != 0) {         \
-            fprintf(stderr, "%s leaves something else\n", #call); \
+            fprintf(stderr, "%s stores something else\n", #call); \
             exit(1);                                            \
         }                                                       \
     } while (0)
@@ -62,7 +62,7 @@ static const uint8_t tag[] = {3, 1, 0, 2, 100, 0, 0, 0};
 static const uint8_t tags[] = {1, 0, 0, 0, 3, 1, 0, 2, 100, 0, 0, 0};
 static const uint8_t keyword[] = {1, 1, 0, 'a'};
 static const uint8_t name[] = {2};
-/* Date, hash, no part hashes, the size tag: an entry of a known.met, and behind E0 a part.met of 100 bytes. */
+/* Date, hash, no part hashes, the size tag: an entry of a known.met, and after E0 a part.met of 100 bytes. */
 static const uint8_t part[] = {0xe0, 0, 0, 0, 0, 7, 7, 7, 7, 7, 7, 7, 7, 7, 7, 7, 7, 7,
                                7,    7, 7, 0, 0, 1, 0, 0, 0, 3, 1, 0, 2, 100, 0, 0, 0};
 

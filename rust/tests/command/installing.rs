@@ -16,7 +16,7 @@ const INSTALLED: [(&str, u32); 6] = [
     ("share/man/man1/ed2k.1", 0o644),
 ];
 
-/// A program that reads the status packet of the papers with the installed library.
+/// A program that reads the status packet of document 01 with the installed library.
 const PROGRAM: &str = r#"
 #include <ed2k.h>
 #include <stdio.h>
@@ -37,8 +37,8 @@ int main(void)
 
 fn done(command: &mut Command) -> Output {
     let output = command.output().unwrap_or_else(|error| panic!("{command:?}: {error}"));
-    let told = String::from_utf8_lossy(&output.stderr);
-    assert!(output.status.success(), "{command:?}: {}\n{told}", String::from_utf8_lossy(&output.stdout));
+    let printed = String::from_utf8_lossy(&output.stderr);
+    assert!(output.status.success(), "{command:?}: {}\n{printed}", String::from_utf8_lossy(&output.stdout));
     output
 }
 

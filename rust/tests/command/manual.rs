@@ -62,7 +62,7 @@ fn the_manual_page_is_set_without_a_fault() {
     assert!(page.lines().count() > 100 && page.lines().all(|line| signs(line) <= 80), "{page}");
 }
 
-/// What bash offers behind these words; the last one is being typed.
+/// What bash offers after these words; the last one is being typed.
 fn offered(words: &[&str]) -> Vec<String> {
     let script = r#"
         source "$1"; shift

@@ -38,7 +38,7 @@ fn mark_takes_numbers_as_gaps_prints_them() {
 }
 
 #[test]
-fn a_mark_that_cannot_be_told_says_that_it_is_saved() {
+fn a_mark_that_cannot_be_reported_says_that_it_is_saved() {
     let studio = Studio::new();
     studio.file("file", &packets::part_met(9, 0, 100, &[(0, 100)]));
     let mut command = studio.command(&["mark", "file", "0", "60"].map(OsStr::new));
@@ -64,7 +64,7 @@ fn a_refused_mark_changes_nothing() {
     assert_eq!(studio.names(), ["file"]);
 }
 
-/// The gaps of this file would be written anew behind its other tags: that must not happen for nothing.
+/// The gaps of this file would be written anew after its other tags: that must not happen for nothing.
 #[test]
 fn a_mark_of_bytes_that_have_arrived_leaves_the_file_as_it_is() {
     let studio = Studio::new();

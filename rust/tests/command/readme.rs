@@ -8,7 +8,7 @@ use std::process::Command;
 use crate::packets;
 use crate::studio::{COMMAND, Studio, sample_lines, samples};
 
-/// The lines that a text types behind `$`, and what it shows below each.
+/// The lines that a text types after `$`, and what it shows below each.
 fn shown(text: &str) -> Vec<(String, String)> {
     let mut shown: Vec<(String, String)> = Vec::new();
     let mut typed = false;

@@ -46,7 +46,7 @@ fn a_conflict_says_what_happened_and_changes_nothing() {
 }
 
 #[test]
-fn a_save_that_cannot_be_told_says_that_it_is_saved() {
+fn a_save_that_cannot_be_reported_says_that_it_is_saved() {
     let studio = Studio::new();
     let new = packets::part_met(2, 0, 100, &[]);
     studio.file("new", &new);
@@ -79,7 +79,7 @@ fn a_first_save_needs_both_to_be_empty_or_missing() {
 }
 
 #[test]
-fn save_judges_the_new_file_first() {
+fn save_checks_the_new_file_first() {
     let studio = Studio::new();
     studio.file("old", b"anything");
     studio.file("stored", b"anything else");

@@ -13,7 +13,7 @@ use crate::studio::{Studio, sample_lines, samples};
 fn object(stdout: &str) -> Json {
     let line = stdout.strip_suffix('\n').expect("a line");
     assert!(line.starts_with('{') && line.bytes().all(|byte| (b' '..=b'~').contains(&byte)), "{line}");
-    Json::parse(line).unwrap_or_else(|place| panic!("no JSON at {place}: {line}"))
+    Json::parse(line).unwrap_or_else(|offset| panic!("no JSON at {offset}: {line}"))
 }
 
 /// What `show --json` prints of these bytes, which are accepted.
@@ -170,7 +170,7 @@ fn show_as_json_has_the_values_of_files() {
     assert_eq!(shown(&studio, "t", &packets::list(&packets::four_tags())).list("tags").len(), 4);
 }
 
-/// Names of all bytes there are: each is told, and none ends the string or the line.
+/// Names of all bytes there are: each is given, and none ends the string or the line.
 #[test]
 fn any_bytes_of_a_text_make_json() {
     let studio = Studio::new();

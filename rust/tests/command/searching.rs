@@ -134,8 +134,8 @@ fn wrong_options_are_wrong_usage() {
         (&["known.met"], "needs --name, --type, --min, --max or QUERY-FILE, and KNOWN-MET; 1 given"),
     ] {
         let run = studio.run(&[&["search"], words].concat()).expect(2);
-        let told = run.stderr;
-        assert!(told.contains(problem) && told.contains("\nFor help: ed2k search --help"), "{told}");
+        let printed = run.stderr;
+        assert!(printed.contains(problem) && printed.contains("\nFor help: ed2k search --help"), "{printed}");
         assert_eq!(run.stdout, "");
     }
 }

@@ -149,7 +149,7 @@ fn show_says_queries_and_floats_and_clients_in_words() {
     }
 }
 
-/// The lines of a packet behind its opcode.
+/// The lines of a packet after its opcode.
 fn shown_body(studio: &Studio, kind: &str, packet: &[u8]) -> Vec<String> {
     studio.file("packet", packet);
     let shown = studio.run(&["show", kind, "packet"]).expect(0).stdout;

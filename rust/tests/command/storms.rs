@@ -25,19 +25,19 @@ impl Drop for Done<'_> {
     }
 }
 
-/// Runs the work while a reader looks at the stored file again and again; how often it looked. It must always find one
+/// Runs the work while a reader reads the stored file again and again; how often it did. It must always find one
 /// of the whole files.
 fn watched(studio: &Studio, whole: &HashSet<Vec<u8>>, work: impl FnOnce()) -> usize {
     let done = AtomicBool::new(false);
     thread::scope(|scope| {
         let watcher = scope.spawn(|| {
-            let mut looks = 0;
+            let mut readings = 0;
             while !done.load(Ordering::Relaxed) {
                 let found = fs::read(studio.path("stored")).expect("the stored file is always there");
                 assert!(whole.contains(&found), "{} bytes that nobody saved", found.len());
-                looks += 1;
+                readings += 1;
             }
-            looks
+            readings
         });
         let working = Done(&done);
         work();
@@ -59,7 +59,7 @@ fn of_a_storm_of_saves_from_one_opened_copy_one_is_accepted() {
     }
     let whole: HashSet<Vec<u8>> = new.iter().cloned().chain([old]).collect();
     let mut winners = Vec::new();
-    let looks = watched(&studio, &whole, || {
+    let readings = watched(&studio, &whole, || {
         let start = |n| {
             let new = format!("new {n}");
             studio.spawn(&["save", "--wait", PATIENT, "--opened", "opened copy", "--new", &new, "stored"])
@@ -73,7 +73,7 @@ fn of_a_storm_of_saves_from_one_opened_copy_one_is_accepted() {
             }
         }
     });
-    println!("{SAVES} saves, {looks} looks at the stored file meanwhile");
+    println!("{SAVES} saves, {readings} readings of the stored file meanwhile");
     assert_eq!(winners.len(), 1);
     assert_eq!(studio.bytes("stored"), new[winners[0]]);
     assert!(studio.names().iter().all(|name| !name.starts_with('.')));

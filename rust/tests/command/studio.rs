@@ -64,7 +64,7 @@ impl Studio {
         self.folder.join(name)
     }
 
-    /// Writes a file and hands its path back.
+    /// Writes a file and returns its path.
     pub fn file(&self, name: &str, bytes: &[u8]) -> PathBuf {
         let path = self.path(name);
         fs::write(&path, bytes).expect("a file for the test");

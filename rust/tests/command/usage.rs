@@ -163,7 +163,7 @@ fn help_about_a_subcommand_is_its_help() {
 }
 
 #[test]
-fn a_value_may_stand_behind_a_sign() {
+fn a_value_may_stand_after_an_equals_sign() {
     let studio = Studio::new();
     let (old, new) = (packets::part_met(1, 0, 100, &[]), packets::part_met(2, 0, 100, &[]));
     studio.file("old=1", &old);
@@ -221,10 +221,10 @@ fn what_is_printed_is_within_80_columns() {
         &["save", "--opened", "tags", "--new", "query", &overlong],
         &["mark", "part.met", "100", "200"],
     ] {
-        let told = studio.command(&words.iter().map(OsStr::new).collect::<Vec<_>>()).output().unwrap();
-        let told = String::from_utf8(told.stderr).unwrap();
-        assert!(told.starts_with("ed2k: "), "{told}");
-        assert_eq!(long_line(&told), None, "{words:?}");
+        let output = studio.command(&words.iter().map(OsStr::new).collect::<Vec<_>>()).output().unwrap();
+        let printed = String::from_utf8(output.stderr).unwrap();
+        assert!(printed.starts_with("ed2k: "), "{printed}");
+        assert_eq!(long_line(&printed), None, "{words:?}");
     }
 }
 
@@ -264,9 +264,9 @@ fn a_reader_that_goes_away_is_no_error() {
     let mut first = [0; 8];
     child.stdout.take().unwrap().read_exact(&mut first).unwrap();
     assert_eq!(&first, b"tags, 64");
-    let mut told = String::new();
-    child.stderr.take().unwrap().read_to_string(&mut told).unwrap();
-    assert_eq!((told.as_str(), child.wait().unwrap().code()), ("", Some(0)));
+    let mut printed = String::new();
+    child.stderr.take().unwrap().read_to_string(&mut printed).unwrap();
+    assert_eq!((printed.as_str(), child.wait().unwrap().code()), ("", Some(0)));
     let mut refused = studio.command(&["read", "s", "tags"].map(OsStr::new));
     let (reader, writer) = std::io::pipe().unwrap();
     drop(reader);

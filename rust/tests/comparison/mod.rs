@@ -56,7 +56,7 @@ impl Comparison {
         plain
     }
 
-    /// A call that hands out fields: what they are if it accepts. Now and then the room for them is too small, or larger than needed.
+    /// A call that returns fields: what they are if it accepts. Now and then the room for them is too small, or larger than needed.
     pub fn fields(
         &mut self,
         call: &'static str,

@@ -35,7 +35,7 @@ fn injure(random: &mut Random, bytes: &mut Vec<u8>) {
     }
 }
 
-/// Two runs of four bytes, as counts are, change places.
+/// Two runs of four bytes, as counts are, are exchanged.
 fn swap_runs(random: &mut Random, bytes: &mut [u8]) {
     if bytes.len() < 8 {
         return bytes.reverse();

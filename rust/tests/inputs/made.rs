@@ -6,7 +6,7 @@ use super::grown::grown;
 use super::messages::{packet, query, tag_list};
 use super::met::{known_met, part_met, server_met};
 
-/// A message of the kind, mostly lawful.
+/// A message of the kind, mostly valid.
 pub fn message(random: &mut Random, kind: u8) -> Vec<u8> {
     match kind {
         0..=2 => packet(random, kind),

@@ -152,7 +152,7 @@ pub fn name(random: &mut Random) -> Vec<u8> {
     }
 }
 
-/// What a tag carries behind its name.
+/// What a tag carries after its name.
 pub fn tag_of(kind: u8, name: &[u8], random: &mut Random, out: &mut Vec<u8>) {
     out.push(kind);
     counted(name, out);

@@ -109,7 +109,7 @@ fn some_gaps(random: &mut Random, size: u64) -> Gaps {
     gaps
 }
 
-/// How the gaps of a file are numbered. The last two are not lawful.
+/// How the gaps of a file are numbered. The last two are not valid.
 #[derive(Clone, Copy)]
 enum Numbering {
     Shortest,
@@ -196,12 +196,12 @@ fn drop_half(random: &mut Random, group: &mut TagGroup) {
 }
 
 /// Puts another tag between a start and its end.
-fn part_pair(random: &mut Random, place: usize, groups: &mut [TagGroup]) {
-    let half = groups[place].1.len() / 2;
-    let end = groups[place].1.split_off(half);
-    tag(random, &mut groups[place].1);
-    groups[place].1.extend(end);
-    groups[place].0 = 3;
+fn part_pair(random: &mut Random, index: usize, groups: &mut [TagGroup]) {
+    let half = groups[index].1.len() / 2;
+    let end = groups[index].1.split_off(half);
+    tag(random, &mut groups[index].1);
+    groups[index].1.extend(end);
+    groups[index].0 = 3;
 }
 
 fn size_tag(size: u32) -> TagGroup {
@@ -271,7 +271,7 @@ fn blocks(random: &mut Random, size: u32, out: &mut Vec<u8>) {
     put_blocks(random, lengths, out);
 }
 
-/// A part.met, mostly lawful.
+/// A part.met, mostly valid.
 pub fn part_met(random: &mut Random) -> Vec<u8> {
     let size = random.pick(SIZES);
     let gaps = some_gaps(random, size.into());
@@ -311,7 +311,7 @@ fn put_blocks(random: &mut Random, lengths: &[usize], out: &mut Vec<u8>) {
     out.push(0);
 }
 
-/// The record of these gaps; the unused places hold what `fill` says.
+/// The record of these gaps; the unused slots hold what `fill` says.
 pub fn gap_record(size: u64, gaps: &Gaps, fill: u64) -> Vec<u64> {
     let mut record = vec![size, gaps.len() as u64];
     record.extend(gaps.iter().flat_map(|&(start, end)| [start, end]));

@@ -135,7 +135,7 @@ fn hashset(cursor: &mut Cursor, fields: &mut Fields) -> Answer<()> {
     Ok(())
 }
 
-/// Order is judged before the data, of which there are neither fewer nor more bytes than the range has.
+/// Order is checked before the data, of which there are neither fewer nor more bytes than the range has.
 #[inline]
 fn sending_part(cursor: &mut Cursor, fields: &mut Fields) -> Answer<()> {
     hash(cursor, fields)?;
@@ -163,7 +163,7 @@ fn request_parts(cursor: &mut Cursor, fields: &mut Fields) -> Answer<()> {
     Ok(())
 }
 
-/// All status bytes are there before a bit is judged.
+/// All status bytes are there before a bit is checked.
 #[inline]
 fn file_status(cursor: &mut Cursor, fields: &mut Fields) -> Answer<()> {
     hash(cursor, fields)?;
@@ -185,7 +185,7 @@ fn status_request(cursor: &mut Cursor, fields: &mut Fields) -> Answer<()> {
     Ok(())
 }
 
-/// A body of 12 bytes is always the plain one. The shape handed out says which it is.
+/// A body of 12 bytes is always the plain one. The shape that is returned says which it is.
 #[inline]
 fn status(cursor: &mut Cursor, fields: &mut Fields) -> Answer<()> {
     if cursor.left() != 12 {

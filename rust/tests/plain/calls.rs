@@ -39,37 +39,39 @@ pub const PLAIN: Calls = Calls {
     block_count,
     read_gaps: |file, record| number(&read_gaps(file, record)),
     all_missing: |size, record| number(&all_missing(size, record)),
-    count_missing: |record, missing| told(count_missing(record), missing),
-    mark: |record, start, end, missing| told(mark(record, start, end), missing),
-    put_gaps: |file, record, output, written| told(put_gaps(file, record, output), written),
-    save: |stored, opened, saved, output, written| told(save(stored, opened, saved, output), written),
-    truth: |query, tags, holds| told(truth(query, tags).map(u8::from), holds),
-    write_keyword: |text, output, written| told(write_keyword(text, output), written),
-    write_field: |text, name, output, written| told(write_field(text, name, output), written),
+    count_missing: |record, missing| returned(count_missing(record), missing),
+    mark: |record, start, end, missing| returned(mark(record, start, end), missing),
+    put_gaps: |file, record, output, written| returned(put_gaps(file, record, output), written),
+    save: |stored, opened, saved, output, written| returned(save(stored, opened, saved, output), written),
+    truth: |query, tags, holds| returned(truth(query, tags).map(u8::from), holds),
+    write_keyword: |text, output, written| returned(write_keyword(text, output), written),
+    write_field: |text, name, output, written| returned(write_field(text, name, output), written),
     write_limit: |number, bound, name, output, written| {
-        told(write_limit(number, bound, name, output), written)
+        returned(write_limit(number, bound, name, output), written)
     },
     write_join: |operation, left, right, output, written| {
-        told(write_join(operation, left, right, output), written)
+        returned(write_join(operation, left, right, output), written)
     },
-    write_text_tag: |name, text, output, written| told(write_text_tag(name, text, output), written),
-    write_dword_tag: |name, number, output, written| told(write_dword_tag(name, number, output), written),
-    write_float_tag: |name, bits, output, written| told(write_float_tag(name, bits, output), written),
-    write_hash_tag: |name, hash, output, written| told(write_hash_tag(name, hash, output), written),
+    write_text_tag: |name, text, output, written| returned(write_text_tag(name, text, output), written),
+    write_dword_tag: |name, number, output, written| returned(write_dword_tag(name, number, output), written),
+    write_float_tag: |name, bits, output, written| returned(write_float_tag(name, bits, output), written),
+    write_hash_tag: |name, hash, output, written| returned(write_hash_tag(name, hash, output), written),
     write_tag_list: |bytes, at, count, output, written| {
-        told(write_tag_list(bytes, at, count, output), written)
+        returned(write_tag_list(bytes, at, count, output), written)
     },
-    write_query: |bytes, at, output, written| told(write_query(bytes, at, output), written),
-    write: |kind, bytes, fields, output, written| told(write_message(kind, bytes, fields, output), written),
-    write_address: |ip, port, output, written| told(write_address(ip, port, output), written),
+    write_query: |bytes, at, output, written| returned(write_query(bytes, at, output), written),
+    write: |kind, bytes, fields, output, written| {
+        returned(write_message(kind, bytes, fields, output), written)
+    },
+    write_address: |ip, port, output, written| returned(write_address(ip, port, output), written),
     write_record: |bytes, hash, client, tags, output, written| {
-        told(write_record(bytes, hash, client, tags, output), written)
+        returned(write_record(bytes, hash, client, tags, output), written)
     },
     write_file_entry: |bytes, file, hashes, tags, output, written| {
-        told(write_file_entry(bytes, file, hashes, tags, output), written)
+        returned(write_file_entry(bytes, file, hashes, tags, output), written)
     },
     write_server_entry: |bytes, address, tags, output, written| {
-        told(write_server_entry(bytes, address, tags, output), written)
+        returned(write_server_entry(bytes, address, tags, output), written)
     },
 };
 
@@ -81,9 +83,9 @@ fn number<T>(answer: &Answer<T>) -> u8 {
     }
 }
 
-/// A length, a count or a truth: a refusal tells 0.
+/// A length, a count or a truth: after a refusal it is 0.
 #[inline]
-fn told<T: Copy + Default>(answer: Answer<T>, value: &mut T) -> u8 {
+fn returned<T: Copy + Default>(answer: Answer<T>, value: &mut T) -> u8 {
     *value = answer.unwrap_or_default();
     number(&answer)
 }
@@ -91,10 +93,10 @@ fn told<T: Copy + Default>(answer: Answer<T>, value: &mut T) -> u8 {
 /// Room for the fields is asked for last.
 #[inline]
 fn lend(answer: Answer<Fields>, fields: &mut [u64]) -> u8 {
-    let placed = answer.and_then(|read| {
-        let place = fields.first_chunk_mut().ok_or(Refusal::Room)?;
-        *place = read.numbers;
+    let stored = answer.and_then(|read| {
+        let slots = fields.first_chunk_mut().ok_or(Refusal::Room)?;
+        *slots = read.numbers;
         Ok(())
     });
-    number(&placed)
+    number(&stored)
 }

@@ -1,8 +1,8 @@
-//! The items: numbers, hashes, texts and names, each there (1) before it is judged.
+//! The items: numbers, hashes, texts and names, each there (1) before it is checked.
 
 use super::{Answer, List, NAME_CEILING, Refusal};
 
-/// A run of bytes and where it lies.
+/// A run of bytes and its offset.
 #[derive(Clone, Copy, Debug)]
 pub struct Run<'a> {
     pub at: usize,
@@ -101,7 +101,7 @@ impl<'a> Cursor<'a> {
         self.run(length.into())
     }
 
-    /// The length is judged before the bytes are looked at.
+    /// The length is checked before the bytes are read.
     #[inline]
     pub fn name(&mut self) -> Answer<Run<'a>> {
         let length = usize::from(self.word()?);

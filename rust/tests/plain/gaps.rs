@@ -10,9 +10,9 @@ pub type Gap = [u64; 2];
 
 /// The size and the gaps of a lawful record.
 pub fn lawful(record: &[u64]) -> Answer<(u64, &[Gap])> {
-    let [size, count, places @ ..] = record.first_chunk::<GAP_NUMBERS>().ok_or(Refusal::Range)?;
+    let [size, count, slots @ ..] = record.first_chunk::<GAP_NUMBERS>().ok_or(Refusal::Range)?;
     let count = usize::try_from(*count).map_err(|_| Refusal::Range)?;
-    let gaps = places.as_chunks().0.get(..count).ok_or(Refusal::Range)?;
+    let gaps = slots.as_chunks().0.get(..count).ok_or(Refusal::Range)?;
     if *size <= SIZE_CEILING && in_order(*size, gaps) { Ok((*size, gaps)) } else { Err(Refusal::Range) }
 }
 
@@ -54,25 +54,25 @@ pub fn mark(record: &mut [u64], start: u64, end: u64) -> Answer<u64> {
     }
     let count = gaps.len();
     let first = gaps.partition_point(|gap| gap[1] <= start);
-    let behind = gaps.partition_point(|gap| gap[0] < end).max(first);
-    let (left, right) = remains(&gaps[first..behind], start, end);
+    let next = gaps.partition_point(|gap| gap[0] < end).max(first);
+    let (left, right) = remains(&gaps[first..next], start, end);
     let kept = first + usize::from(left.is_some()) + usize::from(right.is_some());
-    let outcome = kept + count - behind;
+    let outcome = kept + count - next;
     if outcome > GAP_CEILING {
         return Err(Refusal::Limit);
     }
-    let places: &mut [Gap] = record[2..GAP_NUMBERS].as_chunks_mut().0;
-    places.copy_within(behind..count, kept);
-    for (place, gap) in places[first..].iter_mut().zip(left.into_iter().chain(right)) {
-        *place = gap;
+    let slots: &mut [Gap] = record[2..GAP_NUMBERS].as_chunks_mut().0;
+    slots.copy_within(next..count, kept);
+    for (slot, gap) in slots[first..].iter_mut().zip(left.into_iter().chain(right)) {
+        *slot = gap;
     }
-    places[outcome..].fill([0, 0]);
-    let missing = total(&places[..outcome]);
+    slots[outcome..].fill([0, 0]);
+    let missing = total(&slots[..outcome]);
     record[1] = outcome as u64;
     Ok(missing)
 }
 
-/// What is left of touched gaps before the range and behind it.
+/// What is left of touched gaps before the range and after it.
 fn remains(touched: &[Gap], start: u64, end: u64) -> (Option<Gap>, Option<Gap>) {
     let left = touched.first().filter(|gap| gap[0] < start);
     let right = touched.last().filter(|gap| end < gap[1]);

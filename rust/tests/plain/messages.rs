@@ -23,18 +23,18 @@ enum Field {
     Dword,
     /// A number that says which alternative is taken, up to this one; it has no bytes.
     Choice(u64),
-    /// A number that is handed out beside the message's own, up to this one; it has no bytes.
+    /// A number that is returned beside the message's own, up to this one; it has no bytes.
     Beside(u64),
     Hash,
-    /// Bytes by place and length.
+    /// Bytes by offset and length.
     Run,
     /// The same, with a WORD count.
     Text,
-    /// Status bits, by how many parts and place.
+    /// Status bits, by how many parts and offset.
     Bits,
-    /// By place; end and depth are handed out beside it.
+    /// By offset; end and depth are returned beside it.
     Query,
-    /// By place and count; the end is handed out beside them.
+    /// By offset and count; the end is returned beside them.
     List(Listed),
 }
 
@@ -119,17 +119,17 @@ fn keeps_width(given: &Given) -> bool {
     }
 }
 
-/// Gives the numbers to the fields. Those behind the last field are 0.
+/// Gives the numbers to the fields. Those after the last field are 0.
 fn give<'a>(fields: &[Field], numbers: &'a [u64]) -> Answer<Vec<Given<'a>>> {
     let mut rest = numbers;
     let mut given = Vec::new();
     for &field in fields {
-        let (own, behind) = rest.split_at(width(field));
+        let (own, after) = rest.split_at(width(field));
         given.push(Given { field, numbers: own });
-        rest = behind;
+        rest = after;
     }
-    let lawful = given.iter().all(keeps_width) && rest.iter().all(|number| *number == 0);
-    if lawful { Ok(given) } else { Err(Refusal::Choice) }
+    let keeps = given.iter().all(keeps_width) && rest.iter().all(|number| *number == 0);
+    if keeps { Ok(given) } else { Err(Refusal::Choice) }
 }
 
 /// Bytes in the making.
@@ -146,7 +146,7 @@ impl Draft {
         self.bytes.extend(&count.to_le_bytes()[..N]);
     }
 
-    /// The bytes from a place up to another, both of which are there.
+    /// So many bytes from an offset on, if they are there.
     fn run(&mut self, source: &[u8], at: usize, length: usize) -> Answer<()> {
         let end = at.checked_add(length).ok_or(Refusal::Short)?;
         self.bytes.extend(source.get(at..end).ok_or(Refusal::Short)?);
@@ -169,8 +169,8 @@ impl Draft {
             }
             Bits => self.bits(source, numbers[0] as usize, numbers[1] as usize)?,
             Query => {
-                let place = Cursor::at_offset(source, numbers[0] as usize);
-                self.read(source, place, |cursor| query(cursor, QUERY_DEPTH).map(drop))?;
+                let start = Cursor::at_offset(source, numbers[0] as usize);
+                self.read(source, start, |cursor| query(cursor, QUERY_DEPTH).map(drop))?;
             }
             List(listed) => self.list(source, listed, numbers[0] as usize, numbers[2] as u32)?,
         }
@@ -185,16 +185,16 @@ impl Draft {
         if unused { Err(Refusal::Choice) } else { Ok(()) }
     }
 
-    /// What is read at a place, as it lies there.
+    /// What is read from a cursor on, as it is encoded there.
     fn read<'a>(
         &mut self,
         source: &'a [u8],
-        place: Cursor<'a>,
+        start: Cursor<'a>,
         item: impl FnOnce(&mut Cursor<'a>) -> Answer<()>,
     ) -> Answer<()> {
-        let mut cursor = place;
+        let mut cursor = start;
         item(&mut cursor)?;
-        self.bytes.extend(&source[place.at()..cursor.at()]);
+        self.bytes.extend(&source[start.at()..cursor.at()]);
         Ok(())
     }
 
@@ -205,8 +205,8 @@ impl Draft {
             PartHashes | BlockHashes => (),
             Tags | Records | FileEntries | ServerEntries => self.count::<4>(count as usize),
         }
-        let place = Cursor::at_offset(source, at);
-        self.read(source, place, |cursor| {
+        let start = Cursor::at_offset(source, at);
+        self.read(source, start, |cursor| {
             match listed {
                 Addresses => cursor.even_list(count, 6),
                 Hashes | PartHashes => cursor.even_list(count, 16),
@@ -245,7 +245,7 @@ pub fn write_message(kind: u8, source: &[u8], numbers: &[u64], output: &mut [u8]
     write(&[&draft.bytes], output)
 }
 
-/// The bytes of the fields, one after the other; the first place at fault decides.
+/// The bytes of the fields, one after the other; the first offset at fault decides.
 fn drafted(source: &[u8], given: &[Given]) -> Answer<Draft> {
     let mut draft = Draft::default();
     given.iter().try_for_each(|one| draft.put(source, *one))?;
@@ -281,7 +281,7 @@ const PART_HASHES: u64 = 1;
 const BLOCK_HASHES: u64 = 2;
 const COUNTED_HASHES: u64 = 4;
 
-/// The numbers are in the order in which they are handed out; the bytes are in that of the layout. What is not there has no numbers.
+/// The numbers are in the order in which they are returned; the bytes are in that of the layout. What is not there has no numbers.
 fn part_draft(source: &[u8], numbers: &[u64]) -> Answer<Draft> {
     let (opening, which) = (numbers[0], numbers[7]);
     if !matches!((opening, which), (0xE0, COUNTED_HASHES) | (0xE1, 0..=3)) {

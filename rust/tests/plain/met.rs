@@ -150,7 +150,7 @@ fn block_follows(cursor: &mut Cursor) -> Answer<bool> {
 /// The tag list, then its size, then its gaps.
 fn part_tags(cursor: &mut Cursor) -> Answer<(List, GapNumbers)> {
     let count = cursor.dword()?;
-    let tags = Tags::behind(*cursor, count);
+    let tags = Tags::from_cursor(*cursor, count);
     let list = cursor.list(count, tag)?;
     let size = size(tags)?;
     Ok((list, gaps(tags, size)?))
@@ -187,8 +187,8 @@ fn gaps(mut tags: Tags, size: u32) -> Answer<GapNumbers> {
         }
         let gap = tags.next().and_then(|end| gap(start, end));
         let (number, [start, end]) = gap.ok_or(Refusal::Range)?;
-        let lawful = start < end && end <= size && previous_end < Some(start);
-        if !lawful || numbers[..count].contains(&number) {
+        let in_order = start < end && end <= size && previous_end < Some(start);
+        if !in_order || numbers[..count].contains(&number) {
             return Err(Refusal::Range);
         }
         numbers[count] = number;

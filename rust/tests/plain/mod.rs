@@ -1,5 +1,5 @@
-//! A second reading of document 01 in plain Rust, written from the papers alone and kept apart from the proved code. The tests
-//! hold the archive to it, and the benchmark measures the archive against it. Answers have the form that `ed2k.h` gives them.
+//! A second reading of document 01 in plain Rust, written from it alone and kept apart from the proved code. The tests hold
+//! the archive to it. Answers have the form that `ed2k.h` gives them.
 #![allow(dead_code, unused_imports)]
 
 mod bodies;
@@ -58,7 +58,7 @@ pub type Answer<T> = Result<T, Refusal>;
 
 pub const FIELDS: usize = 16;
 
-/// The numbers that a reading hands out, in order; those behind the last are 0.
+/// The numbers that a reading returns, in order; those after the last are 0.
 #[derive(Clone, Debug, Default, PartialEq, Eq)]
 pub struct Fields {
     numbers: [u64; FIELDS],
@@ -77,7 +77,7 @@ impl Fields {
     }
 }
 
-/// Entries that lie from `at` up to `end`.
+/// Entries that are encoded from `at` up to `end`.
 #[derive(Clone, Copy, Debug)]
 struct List {
     at: usize,
@@ -123,7 +123,7 @@ fn within<'a, T>(
     Ok(value)
 }
 
-/// The items that lie at an offset; the first number is the offset behind.
+/// The items that are encoded at an offset; the first number is the offset after them.
 #[derive(Clone, Copy, Debug, PartialEq, Eq)]
 pub enum Item {
     Tag,

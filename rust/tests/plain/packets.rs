@@ -6,7 +6,7 @@ use super::{Answer, CLIENT_LINK, Fields, Refusal, SERVER_LINK};
 
 const OPENING: u8 = 0xE3;
 
-/// The shapes of bodies, by their numbers in `ed2k.h`. The extended 97 is told from the plain one by its body.
+/// The shapes of bodies, by their numbers in `ed2k.h`. The extended 97 is distinguished from the plain one by its body.
 #[derive(Clone, Copy, Debug, PartialEq, Eq)]
 pub enum Shape {
     Nothing = 0,

@@ -17,7 +17,7 @@ pub struct Tag<'a> {
     pub value: Value<'a>,
 }
 
-/// The type is judged before the name is looked at.
+/// The type is checked before the name is read.
 #[inline]
 pub fn tag<'a>(cursor: &mut Cursor<'a>) -> Answer<Tag<'a>> {
     let kind = cursor.byte()?;
@@ -69,11 +69,11 @@ pub struct Tags<'a> {
 
 impl<'a> Tags<'a> {
     pub fn of(bytes: &'a [u8], list: List) -> Self {
-        Tags::behind(Cursor::at_offset(bytes, list.at), list.count)
+        Tags::from_cursor(Cursor::at_offset(bytes, list.at), list.count)
     }
 
-    /// As many tags, the first of which lies at the cursor.
-    pub fn behind(cursor: Cursor<'a>, count: u32) -> Self {
+    /// As many tags, the first of which is encoded at the cursor.
+    pub fn from_cursor(cursor: Cursor<'a>, count: u32) -> Self {
         Tags { cursor, left: count }
     }
 

@@ -13,7 +13,7 @@ pub enum Json {
 }
 
 impl Json {
-    /// The value that the text is, with nothing around it but white space; or the place where it is no JSON.
+    /// The value that the text is, with nothing around it but white space; or the offset where it is no JSON.
     pub fn parse(text: &str) -> Result<Json, usize> {
         let mut reader = Reader { bytes: text.as_bytes(), at: 0 };
         let value = reader.value()?;
@@ -194,7 +194,7 @@ impl Reader<'_> {
 }
 
 #[test]
-fn what_is_no_json_is_told() {
+fn what_is_no_json_is_reported() {
     for wrong in [
         "",
         "{",

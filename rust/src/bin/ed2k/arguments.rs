@@ -1,4 +1,4 @@
-//! The words behind a subcommand. File names are whatever the system allows.
+//! The words after a subcommand. File names are whatever the system allows.
 
 use std::ffi::{OsStr, OsString};
 use std::os::unix::ffi::OsStrExt;
@@ -18,7 +18,7 @@ pub struct Arguments {
 
 impl Arguments {
     /// Sorts the words: options that take a value (`--new NEW` or `--new=NEW`), flags, and operands, which are all words
-    /// behind `--` too.
+    /// after `--` too.
     pub fn sort(
         words: Vec<OsString>,
         with_value: &[&'static str],
@@ -34,7 +34,7 @@ impl Arguments {
             }
             let (option, value) = split(&word);
             if let Some(name) = with_value.iter().find(|name| option == **name) {
-                let missing = || sorted.wrong(format!("{name} needs a value behind it"));
+                let missing = || sorted.wrong(format!("{name} needs a value after it"));
                 let value = value.map(OsStr::to_os_string).or_else(|| words.next()).ok_or_else(missing)?;
                 sorted.set(name, value)?;
             } else if let Some(name) = flags.iter().find(|name| option == **name) {
@@ -123,8 +123,8 @@ impl Arguments {
 fn split(word: &OsStr) -> (&OsStr, Option<&OsStr>) {
     let bytes = word.as_bytes();
     match bytes.iter().position(|byte| *byte == b'=') {
-        Some(place) if bytes.starts_with(b"--") => {
-            (OsStr::from_bytes(&bytes[..place]), Some(OsStr::from_bytes(&bytes[place + 1..])))
+        Some(sign) if bytes.starts_with(b"--") => {
+            (OsStr::from_bytes(&bytes[..sign]), Some(OsStr::from_bytes(&bytes[sign + 1..])))
         }
         _ => (word, None),
     }

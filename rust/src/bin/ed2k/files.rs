@@ -1,4 +1,4 @@
-//! Reading files, never more of them than is needed to judge them.
+//! Reading files, never more of them than is needed to check them.
 
 use std::ffi::OsStr;
 use std::fs::{self, File};

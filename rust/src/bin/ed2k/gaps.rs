@@ -14,10 +14,10 @@ use crate::{Outcome, files, text};
 pub const HELP: &str = "\
 ed2k gaps [--json] FILE
 
-Shows what is missing of the model that the part.met FILE tells of: the model
+Shows what is missing of the model that the part.met FILE describes: the model
 as a bar, how much is missing, and the missing ranges, part by part. FILE may
 be - for standard input. A range goes from its first byte up to the number
-behind 'to', which is not in it any more, as 'ed2k mark' takes it.
+after 'to', which is not in it any more, as 'ed2k mark' takes it.
 
 With --json one object is printed for scripts, on one line; man ed2k lists its
 keys. 'number' is 0 for a file that is accepted, or the number of its refusal.

@@ -22,7 +22,7 @@ pub enum Json {
 
 impl Json {
     /// Bytes that are meant as a text: a string if they are UTF-8, else an object with their hexadecimal digits, so that
-    /// every byte can be told and none can be mistaken.
+    /// every byte is given and none can be mistaken.
     pub fn bytes(bytes: &[u8]) -> Json {
         match str::from_utf8(bytes) {
             Ok(text) => Json::Text(text.into()),
@@ -96,8 +96,8 @@ fn enclosed<T>(
     f: &mut fmt::Formatter<'_>,
 ) -> fmt::Result {
     f.write_char(open)?;
-    for (place, value) in inside.iter().enumerate() {
-        f.write_str(if place > 0 { "," } else { "" })?;
+    for (index, value) in inside.iter().enumerate() {
+        f.write_str(if index > 0 { "," } else { "" })?;
         one(value, f)?;
     }
     f.write_char(close)
@@ -123,7 +123,7 @@ mod tests {
     use super::*;
 
     #[test]
-    fn texts_are_ascii_and_every_byte_can_be_told() {
+    fn texts_are_ascii_and_every_byte_is_given() {
         assert_eq!(Json::bytes(b"5\" \\ heel\n").to_string(), r#""5\" \\ heel\u000a""#);
         assert_eq!(Json::bytes("größe 👞".as_bytes()).to_string(), r#""gr\u00f6\u00dfe \ud83d\udc5e""#);
         assert_eq!(Json::bytes(b"last \xFF").to_string(), r#"{"hex":"6C61737420FF"}"#);

@@ -18,7 +18,7 @@ Marks the bytes from START up to END, which is the first byte that is not
 meant, as arrived in the part.met FILE, and says what is still missing. Numbers
 are taken as 'ed2k gaps' prints them (7,321,600) and without commas.
 
-FILE is changed: its gaps are written anew behind its other tags, and it is
+FILE is changed: its gaps are written anew after its other tags, and it is
 saved as 'ed2k save' does it, so that FILE is at any moment the old or the new
 file, whole. Marks made at the same time wait for each other and all count; one
 that waited SECONDS (10 unless given) is told who is saving FILE, and marks
@@ -42,7 +42,7 @@ pub fn run(words: Vec<OsString>, output: &mut dyn Write) -> Outcome {
         Ok(writeln!(output, "not saved, as --dry-run asks")?)
     } else {
         let (marked, saved) = mark.saved(&store)?;
-        marked.tell(&store, saved, output)
+        marked.print(&store, saved, output)
     }
 }
 
@@ -105,21 +105,21 @@ impl Marked {
         self.before - self.record.missing()
     }
 
-    fn tell(&self, store: &Store, saved: Option<Saved>, output: &mut dyn Write) -> Outcome {
+    fn print(&self, store: &Store, saved: Option<Saved>, output: &mut dyn Write) -> Outcome {
         let name = text::file_name(store.name);
         let Some(saved) = saved else {
             self.report(output)?;
             let line = format!("these bytes had arrived before: {name} is as it was");
             return Ok(write!(output, "{}", text::message(&line))?);
         };
-        let mut told = || -> Outcome {
+        let mut printed = || -> Outcome {
             self.report(output)?;
             let line = format!("saved    {name}, {}", text::bytes(saved.length as u64));
             write!(output, "{}", text::message(&line))?;
-            store.tell_owner(saved, output)?;
+            store.print_owner(saved, output)?;
             Ok(output.flush()?)
         };
-        told().map_err(|failure| failure.and_say(format!("{name} is saved.")))
+        printed().map_err(|failure| failure.and_say(format!("{name} is saved.")))
     }
 
     fn report(&self, output: &mut dyn Write) -> Outcome {

@@ -41,7 +41,7 @@ pub fn run(words: Vec<OsString>, output: &mut dyn Write) -> Outcome {
     }
 }
 
-/// What stands behind `accepted`.
+/// What stands after `accepted`.
 fn first_number(message: &Message<'_>) -> usize {
     match message {
         Message::Packet(_, packet) => packet.opcode.into(),

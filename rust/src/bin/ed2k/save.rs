@@ -56,7 +56,7 @@ pub fn run(words: Vec<OsString>, output: &mut dyn Write) -> Outcome {
     }
     let store = Store { name: &stored, wait: store::wait(&arguments)?, work: (new != "-").then_some(new) };
     let save = Save { opened, new, store };
-    save.tell(save.run()?, output).map_err(|failure| {
+    save.print(save.run()?, output).map_err(|failure| {
         let line = format!("{} is saved.", text::file_name(&stored));
         failure.and_say(line)
     })
@@ -100,11 +100,11 @@ impl Save<'_> {
         MET_CEILING.max(length as usize) + 1
     }
 
-    fn tell(&self, saved: Saved, output: &mut dyn Write) -> Outcome {
+    fn print(&self, saved: Saved, output: &mut dyn Write) -> Outcome {
         let (stored, new) = (text::file_name(self.store.name), text::input_name(self.new));
         let line = format!("saved: {stored} is now {new}, {}", text::bytes(saved.length as u64));
         write!(output, "{}", text::message(&line))?;
-        self.store.tell_owner(saved, output)?;
+        self.store.print_owner(saved, output)?;
         Ok(output.flush()?)
     }
 

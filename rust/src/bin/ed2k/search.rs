@@ -30,7 +30,7 @@ without, up to 4,294,967,295.
     $ ed2k search --name 'ball girth' --min 1,000,000 known.met
 
 QUERY-FILE holds the bytes of one query and nothing else, as they stand in a
-Search file packet behind the opcode; it may be - for standard input. It must
+Search file packet after the opcode; it may be - for standard input. It must
 hold too. For models with 'last' or with 'heel' in their name:
 
     $ printf '\\0\\1\\1\\4\\0last\\1\\4\\0heel' > either.query
@@ -41,7 +41,7 @@ or the tag list of an entry is refused (a list has at most 65,536 bytes),
 2 wrong usage or a file that cannot be read.
 ";
 
-/// The tags that options look at, by their published special names.
+/// The tags that options ask about, by their published special names.
 const SIZE: &[u8] = &[0x02];
 const TYPE: &[u8] = &[0x03];
 
@@ -106,7 +106,7 @@ fn query(file: Option<&OsStr>, conditions: Vec<Vec<u8>>) -> Result<Vec<u8>, Fail
 /// What a search came to.
 struct Search {
     found: usize,
-    /// The places, counted from 1, of the entries that could not be searched, and why.
+    /// The numbers, counted from 1, of the entries that could not be searched, and why.
     unsearched: Vec<(usize, Refusal)>,
 }
 
@@ -115,25 +115,25 @@ impl Search {
     /// tag list may have more bytes than a lone one may have. The others are searched all the same.
     fn run(query: &[u8], entries: FileEntries<'_>, output: &mut dyn Write) -> io::Result<Search> {
         let mut search = Search { found: 0, unsearched: vec![] };
-        for (place, entry) in (1..).zip(entries) {
+        for (number, entry) in (1..).zip(entries) {
             match ed2k::truth(query, &entry.tags.encoded()) {
                 Ok(false) => {}
                 Ok(true) => {
                     search.found += 1;
                     writeln!(output, "{}", name_of(&entry))?;
                 }
-                Err(refusal) => search.unsearched.push((place, refusal)),
+                Err(refusal) => search.unsearched.push((number, refusal)),
             }
         }
         Ok(search)
     }
 
     fn outcome(&self, met_name: &str) -> Outcome {
-        let Some((place, refusal)) = self.unsearched.first() else {
+        let Some((number, refusal)) = self.unsearched.first() else {
             return Ok(());
         };
         let unsearched = text::count(self.unsearched.len(), "entry was", "entries were");
-        let what = format!("the tag list of entry {place} of {met_name}");
+        let what = format!("the tag list of entry {number} of {met_name}");
         Err(Failure::Refused(what, *refusal, format!("{unsearched} not searched; all others were.\n")))
     }
 }

@@ -7,8 +7,8 @@ use std::fmt::Write;
 pub fn grouped(number: u64) -> String {
     let digits = number.to_string();
     let mut grouped = String::new();
-    for (place, digit) in digits.chars().enumerate() {
-        if place > 0 && (digits.len() - place).is_multiple_of(3) {
+    for (index, digit) in digits.chars().enumerate() {
+        if index > 0 && (digits.len() - index).is_multiple_of(3) {
             grouped.push(',');
         }
         grouped.push(digit);
@@ -161,8 +161,8 @@ pub fn message(lines: &str) -> String {
     lines.lines().map(|line| wrapped("", line, 2) + "\n").collect()
 }
 
-/// A line within 80 columns: what does not fit stands in lines below, behind `hang` spaces. It is cut before a space where
-/// one is far enough to the right, and no sign is lost: the pieces behind the spaces make up the line.
+/// A line within 80 columns: what does not fit stands in lines below, after `hang` spaces. It is cut before a space where
+/// one is far enough to the right, and no sign is lost: the pieces after the spaces make up the line.
 pub fn folded(line: &str, hang: usize) -> String {
     let (first, mut rest) = line.split_at(cut(line, COLUMNS, hang));
     let mut lines = vec![first.to_string()];
@@ -174,15 +174,15 @@ pub fn folded(line: &str, hang: usize) -> String {
     lines.join("\n")
 }
 
-/// How many bytes of a text stand in a line of this room: all, or those before the last space behind the column `least`, or
+/// How many bytes of a text stand in a line of this room: all, or those before the last space after the column `least`, or
 /// as many as the room has.
 fn cut(text: &str, room: usize, least: usize) -> usize {
     let Some((full, _)) = text.char_indices().nth(room) else {
         return text.len();
     };
     let before_space = |at: &usize| text[*at..].starts_with(' ') && !text[..*at].ends_with(' ');
-    let places = text.char_indices().map(|(at, _)| at).take(room + 1).skip(least + 1);
-    places.filter(before_space).last().unwrap_or(full)
+    let offsets = text.char_indices().map(|(at, _)| at).take(room + 1).skip(least + 1);
+    offsets.filter(before_space).last().unwrap_or(full)
 }
 
 #[cfg(test)]
@@ -235,8 +235,8 @@ mod tests {
         assert!(lines.lines().all(|line| line.len() <= 80));
         assert!(lines.lines().skip(1).all(|line| line.starts_with("      ")));
         let name = "n".repeat(100);
-        let told = message(&format!("ed2k: '{name}' is gone\nso\n"));
-        assert_eq!(told, format!("ed2k:\n  '{name}'\n  is gone\nso\n"));
+        let printed = message(&format!("ed2k: '{name}' is gone\nso\n"));
+        assert_eq!(printed, format!("ed2k:\n  '{name}'\n  is gone\nso\n"));
     }
 
     #[test]

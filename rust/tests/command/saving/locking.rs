@@ -39,10 +39,10 @@ fn assert_given_up(run: Run, seconds: &str) {
     let run = run.expect(2);
     let user = if is_root() { "root".to_string() } else { "".to_string() };
     let held = format!("'stored' is being saved by process {} of user {user}", process::id());
-    let told = run.stderr.lines().filter(|line| !line.ends_with("; waiting for it"));
-    let told: Vec<&str> = told.collect();
-    assert!(told[0].starts_with(&format!("ed2k: {held}")), "{}", run.stderr);
-    assert_eq!(told[1], "Nothing was lost: 'stored' is as it was.");
+    let lines = run.stderr.lines().filter(|line| !line.ends_with("; waiting for it"));
+    let lines: Vec<&str> = lines.collect();
+    assert!(lines[0].starts_with(&format!("ed2k: {held}")), "{}", run.stderr);
+    assert_eq!(lines[1], "Nothing was lost: 'stored' is as it was.");
     assert!(run.stderr.contains(&format!("\nWaited {seconds} for it. Try again, ")), "{}", run.stderr);
     assert!(run.stderr.lines().all(|line| line.chars().count() <= 80), "{}", run.stderr);
 }
@@ -51,12 +51,12 @@ fn assert_given_up(run: Run, seconds: &str) {
 fn who_waited_long_enough_is_told_who_holds_the_lock() {
     let (studio, old, _) = studio();
     let held = hold(&studio);
-    for (seconds, told) in [("0", "0 seconds"), ("1", "1 second"), ("2", "2 seconds")] {
+    for (seconds, waited) in [("0", "0 seconds"), ("1", "1 second"), ("2", "2 seconds")] {
         let started = Instant::now();
-        assert_given_up(studio.run(&save_waiting(seconds)), told);
+        assert_given_up(studio.run(&save_waiting(seconds)), waited);
         let took = started.elapsed().as_secs_f64();
         assert!((seconds.parse().unwrap()..60.0).contains(&took), "{seconds}: {took}");
-        assert_given_up(studio.run(&["mark", "--wait", seconds, "stored", "0", "10"]), told);
+        assert_given_up(studio.run(&["mark", "--wait", seconds, "stored", "0", "10"]), waited);
     }
     assert_eq!(studio.bytes("stored"), old);
     drop(held);
@@ -131,8 +131,8 @@ fn what_is_no_lock_is_left_alone() {
     let (studio, old, _) = studio();
     let lock = studio.path(".stored.lock");
     symlink("other", &lock).unwrap();
-    let told = studio.run(&save_waiting("0")).expect(2).stderr;
-    assert!(told.starts_with("ed2k: cannot take the lock '.stored.lock' beside 'stored': "), "{told}");
+    let printed = studio.run(&save_waiting("0")).expect(2).stderr;
+    assert!(printed.starts_with("ed2k: cannot take the lock '.stored.lock' beside 'stored': "), "{printed}");
     assert!(!studio.path("other").exists());
     fs::remove_file(&lock).unwrap();
     assert!(Command::new("mkfifo").arg(&lock).status().expect("mkfifo runs").success());

@@ -122,7 +122,7 @@ fn body(packet: &Packet<'_>) -> Option<Members> {
     })
 }
 
-/// Members one behind the other.
+/// Members one after the other.
 fn joined<const N: usize>(pieces: [Members; N]) -> Members {
     pieces.into_iter().flatten().collect()
 }

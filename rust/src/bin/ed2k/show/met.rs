@@ -16,8 +16,8 @@ fn opening(sheet: &mut Sheet<'_>, byte: u8, meaning: &str) -> io::Result<()> {
 pub fn show_known(sheet: &mut Sheet<'_>, met: &KnownMet<'_>) -> io::Result<()> {
     opening(sheet, met.opening, "known.met")?;
     sheet.item(4, "File details list", text::count(met.entries.len(), "entry", "entries"))?;
-    for (place, entry) in met.entries.clone().enumerate() {
-        sheet.head(&format!("File details {}", place + 1))?;
+    for (index, entry) in met.entries.clone().enumerate() {
+        sheet.head(&format!("File details {}", index + 1))?;
         sheet.within(|sheet| file_entry(sheet, entry))?;
     }
     Ok(())
@@ -46,15 +46,15 @@ fn numbered<'a, T: Entry<'a> + Display>(
     sheet.within(|sheet| {
         hashes
             .enumerate()
-            .try_for_each(|(place, hash)| sheet.item(byte_count, &format!("{name} {}", place + 1), hash))
+            .try_for_each(|(index, hash)| sheet.item(byte_count, &format!("{name} {}", index + 1), hash))
     })
 }
 
 pub fn show_server(sheet: &mut Sheet<'_>, met: &ServerMet<'_>) -> io::Result<()> {
     opening(sheet, met.opening, "server.met")?;
     sheet.item(4, "Server desc list", text::count(met.entries.len(), "entry", "entries"))?;
-    for (place, entry) in met.entries.clone().enumerate() {
-        sheet.head(&format!("Server desc {}", place + 1))?;
+    for (index, entry) in met.entries.clone().enumerate() {
+        sheet.head(&format!("Server desc {}", index + 1))?;
         sheet.within(|sheet| {
             sheet.address("IP and Port", entry.address)?;
             tags::show(sheet, entry.tags)

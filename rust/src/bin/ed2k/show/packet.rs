@@ -18,7 +18,7 @@ enum Subject {
 }
 
 impl Subject {
-    /// A server's 01 and 43 and a client's 01 and 4C tell of clients, all other records of files.
+    /// A server's 01 and 43 and a client's 01 and 4C describe clients, all other records files.
     fn of(link: Link, opcode: u8) -> Subject {
         match (link, opcode) {
             (Link::Server, 0x01 | 0x43) | (Link::Client, 0x01 | 0x4C) => Subject::Client,
@@ -44,8 +44,8 @@ impl Subject {
 pub fn show(sheet: &mut Sheet<'_>, link: Link, packet: &Packet<'_>, length: usize) -> io::Result<()> {
     sheet.item(1, "Protocol", format!("({:02X}) eDonkey", packet.opening))?;
     if link != Link::Udp {
-        let behind_header = text::bytes(length as u64 - 5);
-        sheet.item(4, "Packet data length", format!("{behind_header} after the header"))?;
+        let after_header = text::bytes(length as u64 - 5);
+        sheet.item(4, "Packet data length", format!("{after_header} after the header"))?;
     }
     let name = ed2k::opcode_name(link, packet.opcode).unwrap_or("no published name");
     sheet.item(1, "opcode", format!("({:02X}) {name}", packet.opcode))?;
@@ -129,7 +129,7 @@ fn body(sheet: &mut Sheet<'_>, packet: &Packet<'_>, subject: Subject) -> io::Res
     }
 }
 
-/// The two bytes of an extended request, which its answer repeats, and those that tell it from a plain one.
+/// The two bytes of an extended request, which its answer repeats, and those that distinguish it from a plain one.
 fn extension(sheet: &mut Sheet<'_>, bytes: &[u8]) -> io::Result<()> {
     bytes.iter().try_for_each(|byte| sheet.item(1, "BYTE", format!("({byte:02X})")))?;
     sheet.item(2, "fixed bytes", "(AA 5A) extension")
@@ -160,8 +160,8 @@ fn record(sheet: &mut Sheet<'_>, record: &Record<'_>, subject: Subject) -> io::R
 fn records(sheet: &mut Sheet<'_>, list: &Records<'_>, subject: Subject) -> io::Result<()> {
     let entries = text::count(list.len(), "entry", "entries");
     sheet.item(4, &format!("{} list", subject.info()), entries)?;
-    for (place, entry) in list.clone().enumerate() {
-        sheet.head(&format!("{} {}", subject.info(), place + 1))?;
+    for (index, entry) in list.clone().enumerate() {
+        sheet.head(&format!("{} {}", subject.info(), index + 1))?;
         sheet.within(|sheet| record(sheet, &entry, subject))?;
     }
     Ok(())
@@ -176,13 +176,13 @@ fn sending_part(sheet: &mut Sheet<'_>, hash: Hash, start: u32, end: u32, data: &
 
 fn request_parts(sheet: &mut Sheet<'_>, hash: Hash, starts: &[u32; 3], ends: &[u32; 3]) -> io::Result<()> {
     sheet.hash("File hash", hash)?;
-    for (place, start) in starts.iter().enumerate() {
-        sheet.number(&format!("Start offset {}", place + 1), *start)?;
+    for (index, start) in starts.iter().enumerate() {
+        sheet.number(&format!("Start offset {}", index + 1), *start)?;
     }
-    for (place, (start, end)) in starts.iter().zip(ends).enumerate() {
+    for (index, (start, end)) in starts.iter().zip(ends).enumerate() {
         let asked = text::grouped((end - start).into());
         let value = format!("{}, asks for {asked} bytes", text::grouped((*end).into()));
-        sheet.item(4, &format!("End offset {}", place + 1), value)?;
+        sheet.item(4, &format!("End offset {}", index + 1), value)?;
     }
     Ok(())
 }

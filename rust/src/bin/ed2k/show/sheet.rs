@@ -7,7 +7,7 @@ use ed2k::{Address, Hash};
 
 use crate::text;
 
-/// How many columns an offset and the space behind it have.
+/// How many columns an offset and the space after it have.
 const OFFSET_COLUMNS: usize = 9;
 
 /// How many columns an item's name has.
@@ -32,7 +32,7 @@ impl<'o> Sheet<'o> {
         self.line(byte_count, &format!("{name:<columns$}  {value}"), OFFSET_COLUMNS + NAME_COLUMNS + 2)
     }
 
-    /// An item that is told in one phrase, so far to the right.
+    /// An item that is given in one phrase, so far to the right.
     pub fn phrase(&mut self, byte_count: usize, indent: usize, phrase: &str) -> io::Result<()> {
         let below = OFFSET_COLUMNS + 2 * self.level + indent + 2;
         self.line(byte_count, &format!("{:indent$}{phrase}", ""), below)
@@ -57,7 +57,7 @@ impl<'o> Sheet<'o> {
         shown
     }
 
-    /// The offset behind the last item.
+    /// The offset after the last item.
     pub fn end(self) -> io::Result<()> {
         writeln!(self.output, "{:>7}  end", self.at)
     }

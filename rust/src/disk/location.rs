@@ -8,22 +8,22 @@ use std::path::{Path, PathBuf};
 
 use super::{SaveError, Step};
 
-/// A folder, and the name of a file in it. Links are followed, so that all ways to one file have one place; the file
+/// A folder, and the name of a file in it. Links are followed, so that all ways to one file have one location; the file
 /// itself need not be there.
-pub(super) struct Place {
+pub(super) struct Location {
     pub(super) folder: PathBuf,
     name: OsString,
 }
 
-impl Place {
-    pub(super) fn of(path: &Path) -> Result<Place, SaveError> {
+impl Location {
+    pub(super) fn of(path: &Path) -> Result<Location, SaveError> {
         let real = match fs::canonicalize(path) {
             Ok(real) => real,
             Err(error) if error.kind() == ErrorKind::NotFound && !path.is_symlink() => missing(path)?,
             Err(error) => return Err(Step::Find.failed(path, error)),
         };
         match (real.parent(), real.file_name()) {
-            (Some(folder), Some(name)) => Ok(Place { folder: folder.into(), name: name.into() }),
+            (Some(folder), Some(name)) => Ok(Location { folder: folder.into(), name: name.into() }),
             _ => Err(SaveError::NotAFile),
         }
     }

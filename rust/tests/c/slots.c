@@ -1,5 +1,5 @@
 /* Prints a packet, file, query or tag list by the names that ed2k.h has for its values. The kind's number is the argument, the bytes
- * are standard input. A hash is told by its first byte. */
+ * are standard input. A hash is printed by its first byte. */
 #include <inttypes.h>
 #include <stdio.h>
 #include <stdlib.h>
@@ -87,7 +87,7 @@ static void print_record(const uint64_t *item)
     tags(item + ED2K_ITEM_RECORD_TAGS);
 }
 
-/* Hashes have no call of their own: they lie one behind the other. */
+/* Hashes have no call of their own: they are one after the other. */
 static void hashes(const uint64_t *list, size_t size)
 {
     number("count", list[ED2K_LIST_COUNT]);
@@ -109,7 +109,7 @@ static void print_server(const uint64_t *item)
     tags(item + ED2K_ITEM_SERVER_TAGS);
 }
 
-/* The query at an offset; the offset behind it. */
+/* The query at an offset; the offset after it. */
 static size_t print_query(size_t at)
 {
     uint64_t node[ED2K_FIELDS];
