@@ -5,7 +5,7 @@
 mod packets;
 
 use std::fs::{self, Permissions};
-use std::io::{BufRead, BufReader, Read};
+use std::io::{BufRead, BufReader, ErrorKind, Read};
 use std::os::unix::fs::{MetadataExt, PermissionsExt};
 use std::path::{Path, PathBuf};
 use std::process::{self, Child, Command, Stdio};
@@ -37,12 +37,24 @@ impl Folder {
     }
 
     fn names(&self) -> Vec<String> {
-        let entries = fs::read_dir(&self.0).unwrap();
-        let mut names: Vec<String> =
-            entries.map(|entry| entry.unwrap().file_name().into_string().unwrap()).collect();
-        names.sort();
-        names
+        names(&self.0)
     }
+
+    /// This test program, where every user can reach it.
+    fn copy_of_this_program(&self) -> PathBuf {
+        let program = self.path("program");
+        let copied = Command::new("cp").arg(env::current_exe().unwrap()).arg(&program).status();
+        assert!(copied.expect("cp runs").success());
+        program
+    }
+}
+
+fn names(folder: &Path) -> Vec<String> {
+    let entries = fs::read_dir(folder).unwrap();
+    let mut names: Vec<String> =
+        entries.map(|entry| entry.unwrap().file_name().into_string().unwrap()).collect();
+    names.sort();
+    names
 }
 
 impl Drop for Folder {
@@ -172,12 +184,18 @@ fn hold() {
     drop(stored);
 }
 
-/// The same test program as another user, who shares nothing by default, and what it prints.
-fn holder(user: u32, program: &Path, path: &Path) -> (Child, impl Sized) {
+/// Runs a program as another user, who shares nothing by default.
+fn as_user(user: u32) -> Command {
     let mut command = Command::new("setpriv");
     command.args([format!("--reuid={user}"), format!("--regid={user}"), "--clear-groups".into()]);
-    command.args(["sh", "-c", "umask 0077; exec \"$@\"", "sh"]).arg(program);
-    command.args(["--ignored", "--exact", "hold", "--nocapture"]).env("HELD", path);
+    command.args(["sh", "-c", "umask 0077; exec \"$@\"", "sh"]);
+    command
+}
+
+/// The same test program as another user, and what it prints.
+fn holder(user: u32, program: &Path, path: &Path) -> (Child, impl Sized) {
+    let mut command = as_user(user);
+    command.arg(program).args(["--ignored", "--exact", "hold", "--nocapture"]).env("HELD", path);
     let mut child = command.stdin(Stdio::piped()).stdout(Stdio::piped()).spawn().expect("setpriv runs");
     let mut lines = BufReader::new(child.stdout.take().unwrap()).lines();
     assert!(lines.any(|line| line.unwrap() == "held"), "only root can act as several users");
@@ -188,9 +206,7 @@ fn holder(user: u32, program: &Path, path: &Path) -> (Child, impl Sized) {
 #[cfg_attr(not(as_root), ignore = "only root can act as several users")]
 fn a_lock_is_open_to_every_user() {
     let folder = Folder::new();
-    let (path, program) = (folder.path("stored"), folder.path("program"));
-    let copied = Command::new("cp").arg(env::current_exe().unwrap()).arg(&program).status();
-    assert!(copied.expect("cp runs").success());
+    let (path, program) = (folder.path("stored"), folder.copy_of_this_program());
     let (mut anna, _printed) = holder(5_001, &program, &path);
     let lock = fs::metadata(folder.path(".stored.lock")).unwrap();
     assert_eq!((lock.uid(), lock.mode() & 0o7777, lock.len()), (5_001, 0o666, 0));
@@ -212,4 +228,39 @@ fn a_lock_is_open_to_every_user() {
     drop(ben.stdin.take());
     assert!(ben.wait().unwrap().success());
     assert_eq!(folder.names(), ["program"]);
+}
+
+/// Saves twice to the file that SAVED names, in a folder that may be written and not read. Run by the test below.
+#[test]
+#[ignore = "part of a_save_whose_folder_cannot_be_synced_says_so, which runs it as a user whom permissions bind"]
+fn save_unsynced() {
+    let path = PathBuf::from(env::var_os("SAVED").expect("SAVED names a file"));
+    for (opened, new) in [(vec![], part_met(1)), (part_met(1), part_met(2))] {
+        let unsynced = disk::save(&path, &opened, &new, WAIT).unwrap_err();
+        let SaveError::Unsynced(error) = &unsynced else { panic!("{unsynced}") };
+        assert_eq!(error.kind(), ErrorKind::PermissionDenied);
+        let words = format!("the file is saved, but a power cut might undo it: its folder: {error}");
+        assert_eq!((unsynced.to_string(), fs::read(&path).unwrap()), (words, new));
+    }
+}
+
+/// A folder that may be written and not read takes the new file, but cannot be opened to be brought to the disk. Root could
+/// open it, so another user saves where root runs the tests.
+#[test]
+fn a_save_whose_folder_cannot_be_synced_says_so() {
+    let folder = Folder::new();
+    let (unreadable, program) = (folder.path("unreadable"), folder.copy_of_this_program());
+    let stored = unreadable.join("stored");
+    fs::create_dir(&unreadable).unwrap();
+    fs::set_permissions(&unreadable, Permissions::from_mode(0o333)).unwrap();
+    let mut command = match fs::metadata("/proc/self").unwrap().uid() {
+        0 => as_user(5_001),
+        _ => Command::new("env"),
+    };
+    command.arg(&program).args(["--ignored", "--exact", "save_unsynced"]).env("SAVED", &stored);
+    let run = command.output().expect("setpriv and env run");
+    fs::set_permissions(&unreadable, Permissions::from_mode(0o777)).unwrap();
+    let printed = String::from_utf8_lossy(&run.stdout);
+    assert!(run.status.success() && printed.contains("1 passed"), "{printed}");
+    assert_eq!((fs::read(&stored).unwrap(), names(&unreadable)), (part_met(2), vec!["stored".to_string()]));
 }

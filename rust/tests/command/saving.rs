@@ -205,6 +205,25 @@ fn read_only_files_and_folders_are_left_alone() {
     assert_eq!(studio.bytes("stored"), old);
 }
 
+/// A folder that may be written and not read takes the new file, but cannot be opened to be brought to the disk.
+#[test]
+fn a_save_whose_folder_cannot_be_synced_says_so() {
+    let studio = Studio::new();
+    let new = packets::part_met(2, 0, 100, &[]);
+    studio.file("new", &new);
+    fs::create_dir(studio.path("models")).unwrap();
+    let command = studio.bound_command(&["save", "--opened", "none", "--new", "new", "models/stored"]);
+    fs::set_permissions(studio.path("models"), fs::Permissions::from_mode(0o333)).unwrap();
+    let run = finish(command);
+    fs::set_permissions(studio.path("models"), fs::Permissions::from_mode(0o755)).unwrap();
+    let run = run.expect(2);
+    let tried = "ed2k: cannot bring the folder of 'models/stored' to the disk: Permission denied";
+    assert!(run.stderr.starts_with(tried), "{}", run.stderr);
+    let saved = "\n'models/stored' is saved, but a power cut might undo it.\n";
+    assert!(run.stderr.ends_with(saved) && run.stdout.is_empty(), "{}{}", run.stdout, run.stderr);
+    assert_eq!(studio.bytes("models/stored"), new);
+}
+
 /// A save of a larger file fails while it writes; the stored one must be as it was, and nothing left beside it.
 fn assert_failed_write(studio: &Studio, run: Run, old: &[u8], beside: &[String]) {
     let run = run.expect(2);
