@@ -108,8 +108,8 @@ impl PartMet<'_> {
 /// # Ok::<(), ed2k::Refusal>(())
 /// ```
 pub fn read_known_met(bytes: &[u8]) -> Result<KnownMet<'_>, Refusal> {
-    let mut v = Values::read(Kind::KnownMet, bytes)?;
-    Ok(KnownMet { opening: v.byte(), entries: v.list() })
+    let mut values = Values::read(Kind::KnownMet, bytes)?;
+    Ok(KnownMet { opening: values.byte(), entries: values.list() })
 }
 
 /// Reads a server.met.
@@ -121,8 +121,8 @@ pub fn read_known_met(bytes: &[u8]) -> Result<KnownMet<'_>, Refusal> {
 /// # Ok::<(), ed2k::Refusal>(())
 /// ```
 pub fn read_server_met(bytes: &[u8]) -> Result<ServerMet<'_>, Refusal> {
-    let mut v = Values::read(Kind::ServerMet, bytes)?;
-    Ok(ServerMet { opening: v.byte(), entries: v.list(), tail: v.text() })
+    let mut values = Values::read(Kind::ServerMet, bytes)?;
+    Ok(ServerMet { opening: values.byte(), entries: values.list(), tail: values.text() })
 }
 
 /// Reads a part.met.
@@ -138,15 +138,15 @@ pub fn read_server_met(bytes: &[u8]) -> Result<ServerMet<'_>, Refusal> {
 /// # Ok::<(), ed2k::Refusal>(())
 /// ```
 pub fn read_part_met(bytes: &[u8]) -> Result<PartMet<'_>, Refusal> {
-    let mut v = Values::read(Kind::PartMet, bytes)?;
-    let opening = v.byte();
-    let size = v.dword();
-    let date = v.dword();
-    let hash = v.hash();
-    let tags = v.list();
-    let lists = v.byte();
-    let parts: Hashes<'_> = v.list();
-    let blocks: BlockHashes<'_> = v.list();
+    let mut values = Values::read(Kind::PartMet, bytes)?;
+    let opening = values.byte();
+    let size = values.dword();
+    let date = values.dword();
+    let hash = values.hash();
+    let tags = values.list();
+    let lists = values.byte();
+    let parts: Hashes<'_> = values.list();
+    let blocks: BlockHashes<'_> = values.list();
     // The numbers are those of ED2K_HASHES_.. in ed2k.h: 1 parts, 2 blocks, 3 both, 4 the counted list of an E0.
     let part_hashes = matches!(lists, 1 | 3 | 4).then_some(parts);
     let block_hashes = matches!(lists, 2 | 3).then_some(blocks);

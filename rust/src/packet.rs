@@ -209,33 +209,38 @@ pub fn read_packet(link: Link, bytes: &[u8]) -> Result<Packet<'_>, Refusal> {
 }
 
 /// The body of a shape: the cases and their values are those of ED2K_BODY_.. in ed2k.h.
-fn body(mut v: Values<'_>) -> Body<'_> {
-    match v.byte() {
+fn body(mut values: Values<'_>) -> Body<'_> {
+    match values.byte() {
         0 => Body::Nothing,
-        1 => Body::Query(Query::from_values(&mut v)),
-        2 => Body::Hash(v.hash()),
-        3 => Body::Dword(v.dword()),
-        4 => Body::TwoDwords(v.dword(), v.dword()),
-        5 => Body::Text(v.text()),
-        6 => Body::TwoTexts(v.text(), v.text()),
-        7 => Body::Address(v.address()),
-        8 => Body::Addresses(v.list()),
-        9 => Body::HashAddresses { hash: v.hash(), addresses: v.list() },
-        10 => Body::AddressDword { address: v.address(), number: v.dword() },
-        11 => Body::HashAddressTags { hash: v.hash(), address: v.address(), tags: v.list() },
-        12 => Body::Record(v.record()),
-        13 => Body::Records(v.list()),
-        14 => Body::RecordsFlag { records: v.list(), flag: v.byte() },
-        15 => Body::RecordAddress { record: v.record(), address: v.address() },
-        16 => Body::Hello { record: v.record(), address: v.address() },
-        17 => Body::HashText { hash: v.hash(), text: v.text() },
-        18 => Body::Hashset { hash: v.hash(), hashes: v.list() },
-        19 => Body::SendingPart { hash: v.hash(), start: v.dword(), end: v.dword(), data: v.text() },
-        20 => Body::RequestParts { hash: v.hash(), starts: v.dwords(), ends: v.dwords() },
-        21 => Body::FileStatus { hash: v.hash(), status: part_status(v) },
-        22 => Body::StatusRequest { extended: v.byte() == 1, number: v.dword() },
-        23 => Body::Status(v.dwords()),
-        24 => Body::ExtendedStatus { bytes: [v.byte(), v.byte()], numbers: v.dwords() },
+        1 => Body::Query(Query::from_values(&mut values)),
+        2 => Body::Hash(values.hash()),
+        3 => Body::Dword(values.dword()),
+        4 => Body::TwoDwords(values.dword(), values.dword()),
+        5 => Body::Text(values.text()),
+        6 => Body::TwoTexts(values.text(), values.text()),
+        7 => Body::Address(values.address()),
+        8 => Body::Addresses(values.list()),
+        9 => Body::HashAddresses { hash: values.hash(), addresses: values.list() },
+        10 => Body::AddressDword { address: values.address(), number: values.dword() },
+        11 => Body::HashAddressTags { hash: values.hash(), address: values.address(), tags: values.list() },
+        12 => Body::Record(values.record()),
+        13 => Body::Records(values.list()),
+        14 => Body::RecordsFlag { records: values.list(), flag: values.byte() },
+        15 => Body::RecordAddress { record: values.record(), address: values.address() },
+        16 => Body::Hello { record: values.record(), address: values.address() },
+        17 => Body::HashText { hash: values.hash(), text: values.text() },
+        18 => Body::Hashset { hash: values.hash(), hashes: values.list() },
+        19 => Body::SendingPart {
+            hash: values.hash(),
+            start: values.dword(),
+            end: values.dword(),
+            data: values.text(),
+        },
+        20 => Body::RequestParts { hash: values.hash(), starts: values.dwords(), ends: values.dwords() },
+        21 => Body::FileStatus { hash: values.hash(), status: part_status(values) },
+        22 => Body::StatusRequest { extended: values.byte() == 1, number: values.dword() },
+        23 => Body::Status(values.dwords()),
+        24 => Body::ExtendedStatus { bytes: [values.byte(), values.byte()], numbers: values.dwords() },
         shape => panic!("the archive names a shape that ed2k.h does not have: {shape}"),
     }
 }
@@ -247,109 +252,109 @@ fn part_status(mut values: Values<'_>) -> PartStatus<'_> {
 }
 
 /// The other way round: the number of the shape, and the values.
-fn give(body: &Body<'_>, s: &mut Source) {
-    let shape = |s: &mut Source, number: u8| s.number(number);
+fn give(body: &Body<'_>, source: &mut Source) {
+    let shape = |source: &mut Source, number: u8| source.number(number);
     match body {
-        Body::Nothing => shape(s, 0),
+        Body::Nothing => shape(source, 0),
         Body::Query(query) => {
-            shape(s, 1);
-            s.query(query);
+            shape(source, 1);
+            source.query(query);
         }
         Body::Hash(hash) => {
-            shape(s, 2);
-            s.hash(*hash);
+            shape(source, 2);
+            source.hash(*hash);
         }
-        Body::Dword(number) => s.numbers([3, *number]),
-        Body::TwoDwords(one, two) => s.numbers([4, *one, *two]),
+        Body::Dword(number) => source.numbers([3, *number]),
+        Body::TwoDwords(one, two) => source.numbers([4, *one, *two]),
         Body::Text(text) => {
-            shape(s, 5);
-            s.text(text);
+            shape(source, 5);
+            source.text(text);
         }
         Body::TwoTexts(one, two) => {
-            shape(s, 6);
-            s.text(one);
-            s.text(two);
+            shape(source, 6);
+            source.text(one);
+            source.text(two);
         }
         Body::Address(address) => {
-            shape(s, 7);
-            s.address(*address);
+            shape(source, 7);
+            source.address(*address);
         }
         Body::Addresses(addresses) => {
-            shape(s, 8);
-            s.list(addresses);
+            shape(source, 8);
+            source.list(addresses);
         }
         Body::HashAddresses { hash, addresses } => {
-            shape(s, 9);
-            s.hash(*hash);
-            s.list(addresses);
+            shape(source, 9);
+            source.hash(*hash);
+            source.list(addresses);
         }
         Body::AddressDword { address, number } => {
-            shape(s, 10);
-            s.address(*address);
-            s.number(*number);
+            shape(source, 10);
+            source.address(*address);
+            source.number(*number);
         }
         Body::HashAddressTags { hash, address, tags } => {
-            shape(s, 11);
-            s.hash(*hash);
-            s.address(*address);
-            s.list(tags);
+            shape(source, 11);
+            source.hash(*hash);
+            source.address(*address);
+            source.list(tags);
         }
         Body::Record(record) => {
-            shape(s, 12);
-            s.record(record);
+            shape(source, 12);
+            source.record(record);
         }
         Body::Records(records) => {
-            shape(s, 13);
-            s.list(records);
+            shape(source, 13);
+            source.list(records);
         }
         Body::RecordsFlag { records, flag } => {
-            shape(s, 14);
-            s.list(records);
-            s.number(*flag);
+            shape(source, 14);
+            source.list(records);
+            source.number(*flag);
         }
         Body::RecordAddress { record, address } => {
-            shape(s, 15);
-            s.record(record);
-            s.address(*address);
+            shape(source, 15);
+            source.record(record);
+            source.address(*address);
         }
         Body::Hello { record, address } => {
-            shape(s, 16);
-            s.record(record);
-            s.address(*address);
+            shape(source, 16);
+            source.record(record);
+            source.address(*address);
         }
         Body::HashText { hash, text } => {
-            shape(s, 17);
-            s.hash(*hash);
-            s.text(text);
+            shape(source, 17);
+            source.hash(*hash);
+            source.text(text);
         }
         Body::Hashset { hash, hashes } => {
-            shape(s, 18);
-            s.hash(*hash);
-            s.list(hashes);
+            shape(source, 18);
+            source.hash(*hash);
+            source.list(hashes);
         }
         Body::SendingPart { hash, start, end, data } => {
-            shape(s, 19);
-            s.hash(*hash);
-            s.numbers([*start, *end]);
-            s.text(data);
+            shape(source, 19);
+            source.hash(*hash);
+            source.numbers([*start, *end]);
+            source.text(data);
         }
         Body::RequestParts { hash, starts, ends } => {
-            shape(s, 20);
-            s.hash(*hash);
-            s.numbers(starts.iter().chain(ends).copied());
+            shape(source, 20);
+            source.hash(*hash);
+            source.numbers(starts.iter().chain(ends).copied());
         }
         Body::FileStatus { hash, status } => {
-            shape(s, 21);
-            s.hash(*hash);
-            s.number(status.parts);
-            s.run(status.bits);
+            shape(source, 21);
+            source.hash(*hash);
+            source.number(status.parts);
+            source.run(status.bits);
         }
-        Body::StatusRequest { extended, number } => s.numbers([22, u32::from(*extended), *number]),
-        Body::Status([one, two, three]) => s.numbers([23, *one, *two, *three]),
+        Body::StatusRequest { extended, number } => source.numbers([22, u32::from(*extended), *number]),
+        Body::Status([one, two, three]) => source.numbers([23, *one, *two, *three]),
         Body::ExtendedStatus { bytes, numbers } => {
-            shape(s, 24);
-            s.numbers(*bytes);
-            s.numbers(*numbers);
+            shape(source, 24);
+            source.numbers(*bytes);
+            source.numbers(*numbers);
         }
     }
 }

@@ -122,7 +122,7 @@ impl Cells {
 fn speaks_utf8() -> bool {
     let locale = ["LC_ALL", "LC_CTYPE", "LANG"]
         .into_iter()
-        .find_map(|name| env::var(name).ok().filter(|v| !v.is_empty()));
+        .find_map(|name| env::var(name).ok().filter(|value| !value.is_empty()));
     locale.is_some_and(|locale| locale.to_uppercase().replace('-', "").contains("UTF8"))
 }
 
