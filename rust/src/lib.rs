@@ -38,6 +38,7 @@ mod query;
 mod raw;
 mod refusal;
 mod saving;
+mod shape;
 mod source;
 mod values;
 pub mod write;

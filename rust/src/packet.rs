@@ -4,6 +4,7 @@ use crate::items::{Address, Addresses, Hash, Hashes, Record, Records, Tags};
 use crate::kind::Link;
 use crate::query::Query;
 use crate::refusal::Refusal;
+use crate::shape;
 use crate::source::Source;
 use crate::values::Values;
 
@@ -211,36 +212,42 @@ pub fn read_packet(link: Link, bytes: &[u8]) -> Result<Packet<'_>, Refusal> {
 /// The body of a shape: the cases and their values are those of ED2K_BODY_.. in ed2k.h.
 fn body(mut values: Values<'_>) -> Body<'_> {
     match values.byte() {
-        0 => Body::Nothing,
-        1 => Body::Query(Query::from_values(&mut values)),
-        2 => Body::Hash(values.hash()),
-        3 => Body::Dword(values.dword()),
-        4 => Body::TwoDwords(values.dword(), values.dword()),
-        5 => Body::Text(values.text()),
-        6 => Body::TwoTexts(values.text(), values.text()),
-        7 => Body::Address(values.address()),
-        8 => Body::Addresses(values.list()),
-        9 => Body::HashAddresses { hash: values.hash(), addresses: values.list() },
-        10 => Body::AddressDword { address: values.address(), number: values.dword() },
-        11 => Body::HashAddressTags { hash: values.hash(), address: values.address(), tags: values.list() },
-        12 => Body::Record(values.record()),
-        13 => Body::Records(values.list()),
-        14 => Body::RecordsFlag { records: values.list(), flag: values.byte() },
-        15 => Body::RecordAddress { record: values.record(), address: values.address() },
-        16 => Body::Hello { record: values.record(), address: values.address() },
-        17 => Body::HashText { hash: values.hash(), text: values.text() },
-        18 => Body::Hashset { hash: values.hash(), hashes: values.list() },
-        19 => Body::SendingPart {
+        shape::NOTHING => Body::Nothing,
+        shape::QUERY => Body::Query(Query::from_values(&mut values)),
+        shape::HASH => Body::Hash(values.hash()),
+        shape::DWORD => Body::Dword(values.dword()),
+        shape::TWO_DWORDS => Body::TwoDwords(values.dword(), values.dword()),
+        shape::TEXT => Body::Text(values.text()),
+        shape::TWO_TEXTS => Body::TwoTexts(values.text(), values.text()),
+        shape::ADDRESS => Body::Address(values.address()),
+        shape::ADDRESSES => Body::Addresses(values.list()),
+        shape::HASH_ADDRESSES => Body::HashAddresses { hash: values.hash(), addresses: values.list() },
+        shape::ADDRESS_DWORD => Body::AddressDword { address: values.address(), number: values.dword() },
+        shape::HASH_ADDRESS_TAGS => {
+            Body::HashAddressTags { hash: values.hash(), address: values.address(), tags: values.list() }
+        }
+        shape::RECORD => Body::Record(values.record()),
+        shape::RECORDS => Body::Records(values.list()),
+        shape::RECORDS_FLAG => Body::RecordsFlag { records: values.list(), flag: values.byte() },
+        shape::RECORD_ADDRESS => Body::RecordAddress { record: values.record(), address: values.address() },
+        shape::HELLO => Body::Hello { record: values.record(), address: values.address() },
+        shape::HASH_TEXT => Body::HashText { hash: values.hash(), text: values.text() },
+        shape::HASHSET => Body::Hashset { hash: values.hash(), hashes: values.list() },
+        shape::SENDING_PART => Body::SendingPart {
             hash: values.hash(),
             start: values.dword(),
             end: values.dword(),
             data: values.text(),
         },
-        20 => Body::RequestParts { hash: values.hash(), starts: values.dwords(), ends: values.dwords() },
-        21 => Body::FileStatus { hash: values.hash(), status: part_status(values) },
-        22 => Body::StatusRequest { extended: values.byte() == 1, number: values.dword() },
-        23 => Body::Status(values.dwords()),
-        24 => Body::ExtendedStatus { bytes: [values.byte(), values.byte()], numbers: values.dwords() },
+        shape::REQUEST_PARTS => {
+            Body::RequestParts { hash: values.hash(), starts: values.dwords(), ends: values.dwords() }
+        }
+        shape::FILE_STATUS => Body::FileStatus { hash: values.hash(), status: part_status(values) },
+        shape::STATUS_REQUEST => Body::StatusRequest { extended: values.byte() == 1, number: values.dword() },
+        shape::STATUS => Body::Status(values.dwords()),
+        shape::EXTENDED_STATUS => {
+            Body::ExtendedStatus { bytes: [values.byte(), values.byte()], numbers: values.dwords() }
+        }
         shape => panic!("the archive names a shape that ed2k.h does not have: {shape}"),
     }
 }
@@ -253,106 +260,107 @@ fn part_status(mut values: Values<'_>) -> PartStatus<'_> {
 
 /// The other way round: the number of the shape, and the values.
 fn give(body: &Body<'_>, source: &mut Source) {
-    let shape = |source: &mut Source, number: u8| source.number(number);
     match body {
-        Body::Nothing => shape(source, 0),
+        Body::Nothing => source.number(shape::NOTHING),
         Body::Query(query) => {
-            shape(source, 1);
+            source.number(shape::QUERY);
             source.query(query);
         }
         Body::Hash(hash) => {
-            shape(source, 2);
+            source.number(shape::HASH);
             source.hash(*hash);
         }
-        Body::Dword(number) => source.numbers([3, *number]),
-        Body::TwoDwords(one, two) => source.numbers([4, *one, *two]),
+        Body::Dword(number) => source.numbers([shape::DWORD.into(), *number]),
+        Body::TwoDwords(one, two) => source.numbers([shape::TWO_DWORDS.into(), *one, *two]),
         Body::Text(text) => {
-            shape(source, 5);
+            source.number(shape::TEXT);
             source.text(text);
         }
         Body::TwoTexts(one, two) => {
-            shape(source, 6);
+            source.number(shape::TWO_TEXTS);
             source.text(one);
             source.text(two);
         }
         Body::Address(address) => {
-            shape(source, 7);
+            source.number(shape::ADDRESS);
             source.address(*address);
         }
         Body::Addresses(addresses) => {
-            shape(source, 8);
+            source.number(shape::ADDRESSES);
             source.list(addresses);
         }
         Body::HashAddresses { hash, addresses } => {
-            shape(source, 9);
+            source.number(shape::HASH_ADDRESSES);
             source.hash(*hash);
             source.list(addresses);
         }
         Body::AddressDword { address, number } => {
-            shape(source, 10);
+            source.number(shape::ADDRESS_DWORD);
             source.address(*address);
             source.number(*number);
         }
         Body::HashAddressTags { hash, address, tags } => {
-            shape(source, 11);
+            source.number(shape::HASH_ADDRESS_TAGS);
             source.hash(*hash);
             source.address(*address);
             source.list(tags);
         }
         Body::Record(record) => {
-            shape(source, 12);
+            source.number(shape::RECORD);
             source.record(record);
         }
         Body::Records(records) => {
-            shape(source, 13);
+            source.number(shape::RECORDS);
             source.list(records);
         }
         Body::RecordsFlag { records, flag } => {
-            shape(source, 14);
+            source.number(shape::RECORDS_FLAG);
             source.list(records);
             source.number(*flag);
         }
         Body::RecordAddress { record, address } => {
-            shape(source, 15);
+            source.number(shape::RECORD_ADDRESS);
             source.record(record);
             source.address(*address);
         }
         Body::Hello { record, address } => {
-            shape(source, 16);
+            source.number(shape::HELLO);
             source.record(record);
             source.address(*address);
         }
         Body::HashText { hash, text } => {
-            shape(source, 17);
+            source.number(shape::HASH_TEXT);
             source.hash(*hash);
             source.text(text);
         }
         Body::Hashset { hash, hashes } => {
-            shape(source, 18);
+            source.number(shape::HASHSET);
             source.hash(*hash);
             source.list(hashes);
         }
         Body::SendingPart { hash, start, end, data } => {
-            shape(source, 19);
+            source.number(shape::SENDING_PART);
             source.hash(*hash);
             source.numbers([*start, *end]);
             source.text(data);
         }
         Body::RequestParts { hash, starts, ends } => {
-            shape(source, 20);
+            source.number(shape::REQUEST_PARTS);
             source.hash(*hash);
             source.numbers(starts.iter().chain(ends).copied());
         }
         Body::FileStatus { hash, status } => {
-            shape(source, 21);
+            source.number(shape::FILE_STATUS);
             source.hash(*hash);
             source.number(status.parts);
             source.run(status.bits);
         }
-        Body::StatusRequest { extended, number } => source.numbers([22, u32::from(*extended), *number]),
-        Body::Status([one, two, three]) => source.numbers([23, *one, *two, *three]),
+        Body::StatusRequest { extended, number } => {
+            source.numbers([shape::STATUS_REQUEST.into(), u32::from(*extended), *number])
+        }
+        Body::Status([one, two, three]) => source.numbers([shape::STATUS.into(), *one, *two, *three]),
         Body::ExtendedStatus { bytes, numbers } => {
-            shape(source, 24);
+            source.number(shape::EXTENDED_STATUS);
             source.numbers(*bytes);
             source.numbers(*numbers);
         }
