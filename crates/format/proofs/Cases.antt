@@ -11,4 +11,4 @@ use Rattle.format.specs.Cases.{Holds, cases}
 
 pub all-hold : All Holds cases
 unfolding missing ordered follows lawful count between remaining subtract marking binary tabulate bitsIn unusedClear depth decodeRun fromLittleEndian decodeByte decodeWord decodeDword decodeHash decodeString decodeCode decodeName decodeCounted decodeType decodeValue decodeTag decodeTags decodeQueryIn decodeQuery decodeBits decodeFileStatus decodeStatusRequest decodeBody decodeOpening decodeLength decodeOpcode decodeTcp decodeUdp decode
-all-hold = (refl, (refl, (refl, (refl, (refl, (refl, (refl, (refl, (refl, (refl, (refl, (refl, (refl, (refl, (refl, (refl, (refl, (refl, tt))))))))))))))))))
+all-hold = (refl, (refl, (refl, (refl, (refl, (refl, (refl, (refl, (refl, (refl, (refl, (refl, (refl, (refl, (refl, (refl, (refl, (refl, ((refl, refl), ((refl, refl), ((refl, refl), ((refl, refl), tt))))))))))))))))))))))

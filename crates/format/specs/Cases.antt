@@ -1,4 +1,5 @@
--- The cases that document 01 marks P, and its limits on depth and names, as one table (proofs/Cases shows that each holds).
+-- The cases that document 01 marks P, its limits on depth and names, and its counts of parts and blocks, as one table
+-- (proofs/Cases shows that each holds).
 use mathlib.Core.Path.{_≡_}
 use mathlib.Core.Bool.{true, _&&_}
 use mathlib.Core.List.{List, [], _∷_, _++_}
@@ -7,14 +8,16 @@ use lib.ListN.{replicate}
 use Rattle.format.specs.Messages.{stringType, dwordType, and, join, keyword, Query, plain, extended, twoDwordsBody, statusRequestBody, fileStatusBody}
 use Rattle.format.specs.Messages.{Kind, serverLink, clientLink, udpLink, loneQuery, loneTags, Message}
 use Rattle.format.specs.Gaps.{Gap, gap, lawful, sizeLimit, inside, Marking, rejected, leaves, marking}
-use Rattle.format.specs.Rules.{depth}
+use Rattle.format.specs.Rules.{depth, partCount, blockCount}
 use Rattle.format.specs.Decoding.{Reply, refusedWith, message, reply}
 use Rattle.format.specs.MetOrder.{decode}
 
--- What a case claims: the reply to the bytes of a kind, the depth of the query that the bytes are, or what marking leaves of a gap list.
+-- What a case claims: the reply to the bytes of a kind, the depth of the query that the bytes are, how many parts and blocks a file of
+-- a size has, or what marking leaves of a gap list.
 pub data Claim : Type 0 where
   replies : (k : Kind) → List ℕ → Reply (Message k) → Claim
   hasDepth : List ℕ → ℕ → Claim
+  hasParts : (size parts blocks : ℕ) → Claim
   marks : (size : ℕ) → List Gap → (start end : ℕ) → Marking → Claim
 
 abbrev depthIn : Reply Query → ℕ
@@ -24,6 +27,7 @@ depthIn (message q) = depth q
 abbrev pub Holds : Claim → Type 0
 Holds (replies k s r) = reply (decode k s) ≡ r
 Holds (hasDepth s d) = depthIn (reply (decode loneQuery s)) ≡ d
+Holds (hasParts size parts blocks) = (partCount size ≡ parts) × (blockCount size ≡ blocks)
 Holds (marks size gaps start end m) = marking (lawful sizeLimit size gaps && inside size start end) size gaps start end ≡ m
 
 abbrev abTexts : List ℕ
@@ -81,4 +85,8 @@ cases =
     ∷ replies loneQuery (nested 24) (refusedWith 6)
     ∷ replies loneTags (namedTag 255 0xFF 0x00) (message (record { name = nameOf 255; value = (dwordType, 7) } ∷ []))
     ∷ replies loneTags (namedTag 256 0x00 0x01) (refusedWith 6)
+    ∷ hasParts 0 0 0
+    ∷ hasParts 9728000 1 20
+    ∷ hasParts 9728001 2 21
+    ∷ hasParts 4294967295 442 8831
     ∷ []

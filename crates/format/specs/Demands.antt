@@ -7,7 +7,8 @@
 --   what was written gives the meaning. After markings a byte is missing exactly if it was and no accepted range holds it, and the
 --   reported number of missing bytes is true.
 -- Demand 3. For each kind and any bytes, even none: the reader accepts exactly when the layouts spell the bytes from a lawful message,
---   and gives that message; no bytes are spelled by two lawful messages of one kind.
+--   and gives that message; no bytes are spelled by two lawful messages of one kind. A lawful message is called valid here and in the
+--   code, and its bytes its encoding.
 use mathlib.Core.Path.{_≡_}
 use mathlib.Core.Bool.{true, _&&_, not}
 use mathlib.Core.Logic.{_↔_}
@@ -69,7 +70,7 @@ Saved =
 
 -- Demand 2
 
--- A write of a message has one answer; it is accepted exactly where the message is lawful and has room.
+-- A write of a message has one answer; it is accepted exactly where the message is valid and has room.
 abbrev pub WriteOnce : Type 0
 WriteOnce = (k : Kind) (m : Message k) (output : List ℕ) (v w : Written) → Writes k m output v → Writes k m output w → v ≡ w
 

@@ -20,8 +20,8 @@ both r q = do
 
 -- 46: start and end are checked together, by themselves and then by the number of bytes after them.
 abbrev pub checkRange : ℕ → ℕ × ℕ → Check (ℕ × ℕ)
-checkRange behind p =
-    pick (leb (p .0) (p .1)) (pick (eqb behind (p .1 - p .0)) (passes p) (violates dataLength)) (violates order)
+checkRange after p =
+    pick (leb (p .0) (p .1)) (pick (eqb after (p .1 - p .0)) (passes p) (violates dataLength)) (violates order)
 
 unfoldable pub decodeRange : Decoder (ℕ × ℕ)
 decodeRange = checkedBefore 8 checkRange (both decodeDword decodeDword)
@@ -138,8 +138,8 @@ unfoldable pub decodeOpening : List ℕ → Decoder ℕ
 decodeOpening openings = checked 1 (checkOpening openings) decodeByte
 
 abbrev pub checkLength : ℕ → ℕ → Check ℕ
-checkLength behind n =
-    pick (eqb n 0) (violates frameLength) (pick (eqb n behind) (passes n) (violates frameLength))
+checkLength after n =
+    pick (eqb n 0) (violates frameLength) (pick (eqb n after) (passes n) (violates frameLength))
 
 unfoldable pub decodeLength : Decoder ℕ
 decodeLength = checkedBefore 4 checkLength decodeDword

@@ -59,7 +59,7 @@ ValidHash h = (length h ≡ 16) × Bytes h
 abbrev pub ValidString : List ℕ → Type 0
 ValidString t = Word (length t) × Bytes t
 
--- A name has 1 to 255 bytes. Every byte is lawful in it, and a one-byte name needs no listing: "a one-byte name is the
+-- A name has 1 to 255 bytes. Every byte is valid in it, and a one-byte name needs no listing: "a one-byte name is the
 -- published special tag and nothing else" (01) says what it means, not which there are.
 pub record ValidName (t : List ℕ) : Type 0 where
   pub some : 1 ≤ length t
@@ -330,7 +330,7 @@ ValidContent partMet m = ValidPartMet m
 ValidContent loneQuery m = ValidQuery m
 ValidContent loneTags m = ValidTags m
 
--- A lawful message of a kind.
+-- A valid message of a kind: one that "keeps the rules and limits" (01).
 pub record Valid (k : Kind) (m : Message k) : Type 0 where
   pub content : ValidContent k m
   pub few : length (encode k m) ≤ ceiling k
