@@ -1,4 +1,5 @@
-// What the programs share: reading a descriptor until a buffer is full, the inputs of a file, and printing the line for some bytes.
+// What the programs share: reading a descriptor until a buffer is full, the inputs of a file, the fields of a file of cases, and printing
+// the line for some bytes.
 //
 // No contract can say what is read or written, so these say how much was read at most, and those that print say nothing.
 use libc::STDOUT_FILENO;
@@ -6,7 +7,7 @@ use read_any::Summary;
 use wire::ByteStep;
 use wire::Cursor;
 use wire::DwordStep;
-ghost use Prim.Native.Nat.{_≤_};
+ghost use Prim.Native.Nat.{_+_, _≤_, _<_};
 ghost use lib.ListN.{length};
 
 // One read: how many bytes came. None come at the end of the input, and where the read fails.
@@ -66,6 +67,63 @@ pub fn next_input(fd: i32, bytes: &mut [u8]) -> Input {
         return Input::End;
     }
     Input::Of(letter, n)
+}
+
+// A file of cases is lines of fields, with a space after each but the last. Bytes are a field of two hexadecimal digits each; `-` is no
+// bytes.
+
+// The offset of the next byte from `at` on that is `mark` or ends a line, or of the end of the text: a field ends at a space, the last
+// field of a line at its end.
+pub fn field_end(text: &[u8], at: usize, mark: u8) -> usize
+    ensures { λ r. ⌜ (at ≤ r) × (r ≤ at + length (now (text .entry))) ⌝ }
+{
+    let mut end = at;
+    while end < text.len() {
+        let byte = text[end];
+        if byte == mark {
+            return end;
+        }
+        if byte == b'\n' {
+            return end;
+        }
+        end += 1;
+    }
+    end
+}
+
+// The number of a hexadecimal digit; 0 for any other byte.
+fn digit(byte: u8) -> u8
+    ensures { λ r. ⌜ r < 16 ⌝ }
+{
+    if byte < b'0' {
+        return 0;
+    }
+    if byte <= b'9' {
+        return byte - b'0';
+    }
+    if byte < b'a' {
+        return 0;
+    }
+    if byte <= b'f' {
+        return byte - b'a' + 10;
+    }
+    0
+}
+
+// The bytes of a field, as many as the buffer holds: how many they are.
+pub fn read_hex(field: &[u8], out: &mut [u8]) -> usize
+    ensures { λ r. ⌜ r ≤ length (now (out .entry)) ⌝ }
+{
+    let count = field.len() / 2;
+    let mut made = 0;
+    while made < count {
+        if made == out.len() {
+            return made;
+        }
+        out[made] = 16 * digit(field[2 * made]) + digit(field[2 * made + 1]);
+        made += 1;
+    }
+    made
 }
 
 // `refused`, with the number of the refusal.
