@@ -1,0 +1,162 @@
+// Whether a part occurs in a text, in time that is linear in both.
+//
+// A short part, or a part in a short text, is compared at each offset: at most 18 comparisons for each byte of the text. Any other
+// part is looked for by the method of Knuth, Morris and Pratt, with a table that samples every eighth length, so that the table for
+// a part of 65,535 bytes takes 16 KiB of the stack. The measures of the two loops bound their turns: fewer than 10 for each byte of
+// the part to fill the table, and fewer than 10 for each byte of the text to search by it. A part of more than 65,535 bytes is
+// compared at each offset, which is not linear: no String has one.
+//
+// specs/Shifts.antt says what the table holds.
+ghost use mathlib.Core.Path.{_≡_};
+ghost use mathlib.Core.Bool.{true, false};
+ghost use Prim.Native.Nat.{_+_, _≤_, _<_};
+ghost use lib.ListN.{length};
+ghost use Rattle.format.specs.Truth.{occurs};
+ghost use Rattle.find.specs.Shifts.{Agrees, Decides, Samples, Moves};
+
+// Entry k of the table is for the length SAMPLE * k.
+const SAMPLE: usize = 8;
+
+const SAMPLES: usize = 8192;
+
+// The longest part that the table serves: SAMPLE * SAMPLES - 1.
+const LONGEST_PART: usize = 65535;
+
+// Up to either of these lengths no table is made.
+const SHORT_PART: usize = 16;
+
+const SHORT_TEXT: usize = 64;
+
+// Whether the part stands in the text at an offset.
+fn stands_at(text: &[u8], part: &[u8], start: usize) -> bool
+    requires { ⌜ start + length (now part) ≤ length (now text) ⌝ }
+    ensures { λ r. ⌜ Decides r (Agrees (now (part .entry)) (now (text .entry)) start (length (now (part .entry)))) ⌝ }
+{
+    let mut i = 0;
+    while i < part.len() {
+        if part[i] != text[start + i] {
+            return false;
+        }
+        i += 1;
+    }
+    true
+}
+
+// Compares the part at each offset. Most offsets fail at the first byte.
+fn search_each(text: &[u8], part: &[u8]) -> bool
+    requires { ⌜ (0 < length (now part)) × (length (now part) ≤ length (now text)) ⌝ }
+    ensures { λ r. ⌜ r ≡ occurs (now (part .entry)) (now (text .entry)) ⌝ }
+{
+    let last = text.len() - part.len();
+    let first = part[0];
+    let mut start = 0;
+    while start <= last {
+        if text[start] != first {
+            start += 1;
+            continue;
+        }
+        if stands_at(text, part, start) {
+            return true;
+        }
+        start += 1;
+    }
+    false
+}
+
+// How far the part is moved after a mismatch, and how many of its bytes are known to agree there.
+struct Move {
+    shift: usize,
+    kept: usize,
+}
+
+// The move after `matched` bytes that agree and one that does not. The length is rounded down to a sampled one, so that at most 7
+// bytes are compared again.
+fn after_mismatch(part: &[u8], table: &[u16; SAMPLES], matched: usize) -> Move
+    requires { ⌜ (matched < 65536) × Samples (now part) (now table) matched ⌝ }
+    ensures { λ r. ⌜ Moves (now (part .entry)) matched (r .shift) (r .kept) ⌝ }
+{
+    if matched < SAMPLE {
+        return Move { shift: 1, kept: 0 };
+    }
+    let sample = matched / SAMPLE;
+    let shift = table[sample] as usize;
+    Move {
+        shift,
+        kept: SAMPLE * sample - shift,
+    }
+}
+
+// Fills the table: the part is looked for in itself, from offset 1 on. Where the bytes that agree first end at a sampled length, the
+// offset is the least shift of that length.
+fn fill_table(part: &[u8], table: &mut [u16; SAMPLES])
+    requires { ⌜ (length (now part) < 65536) × (length (now table) ≡ 8192) ⌝ }
+    ensures { λ r. ⌜ Samples (now (part .entry)) (now (table .exit)) (length (now (part .entry))) ⌝ }
+{
+    let mut start = 1;
+    let mut matched = 0;
+    let mut sample = 1;
+    while SAMPLE * sample <= part.len() {
+        if start + matched == SAMPLE * sample {
+            table[sample] = start as u16;
+            sample += 1;
+            continue;
+        }
+        if part[matched] == part[start + matched] {
+            matched += 1;
+            continue;
+        }
+        let m = after_mismatch(part, table, matched);
+        start += m.shift;
+        matched = m.kept;
+    }
+}
+
+// Searches the text by the table of the part.
+fn search_by_table(text: &[u8], part: &[u8], table: &[u16; SAMPLES]) -> bool
+    requires { ⌜ (length (now part) < 65536) × (length (now part) ≤ length (now text)) ⌝ }
+    requires { ⌜ Samples (now part) (now table) (length (now part)) ⌝ }
+    ensures { λ r. ⌜ r ≡ occurs (now (part .entry)) (now (text .entry)) ⌝ }
+{
+    let last = text.len() - part.len();
+    let mut start = 0;
+    let mut matched = 0;
+    while start <= last {
+        if matched == part.len() {
+            return true;
+        }
+        if part[matched] == text[start + matched] {
+            matched += 1;
+            continue;
+        }
+        let m = after_mismatch(part, table, matched);
+        start += m.shift;
+        matched = m.kept;
+    }
+    false
+}
+
+// Makes the table, which has a function of its own so that a short case does not clear it.
+fn search_long(text: &[u8], part: &[u8]) -> bool
+    requires { ⌜ (length (now part) < 65536) × (length (now part) ≤ length (now text)) ⌝ }
+    ensures { λ r. ⌜ r ≡ occurs (now (part .entry)) (now (text .entry)) ⌝ }
+{
+    let mut table = [0; SAMPLES];
+    fill_table(part, &mut table);
+    search_by_table(text, part, &table)
+}
+
+// Whether the part occurs in the text, its bytes adjacent and in order.
+pub fn contains(text: &[u8], part: &[u8]) -> bool
+    ensures { λ r. ⌜ r ≡ occurs (now (part .entry)) (now (text .entry)) ⌝ }
+{
+    if part.len() == 0 {
+        return true;
+    }
+    if text.len() < part.len() {
+        return false;
+    }
+    if part.len() <= SHORT_PART || text.len() <= SHORT_TEXT || LONGEST_PART < part.len() {
+        return search_each(text, part);
+    }
+    search_long(text, part)
+}
