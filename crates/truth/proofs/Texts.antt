@@ -1,17 +1,16 @@
 -- The laws of the loops that compare bytes: i bytes are after, and the rest decides.
-use Prim.Native.Nat.{ℕ, _+_, _-_, _<_, _≤_}
-use mathlib.Core.Path.{_≡_, refl, _∙_}
+use Prim.Native.Nat.{ℕ, _+_, _<_, _≤_}
+use mathlib.Core.Path.{_≡_, refl}
 use mathlib.Core.Bool.{Bool, true, false}
 use mathlib.Core.List.{List, [], _∷_}
 use native.Mathlib.Omega.{arith}
 use native.Mathlib.Numerals.{add-one}
-use lib.ListN.{length, drop, getD, length-drop, drop-of-length-le}
-use lib.Seq.{drop-cons, take-all}
+use lib.ListN.{length, drop, getD, drop-of-length-le}
+use lib.Seq.{drop-cons}
 use lib.Dec.{eqb}
 use borrow.Author.Tests.{eq-eqb, ne-eqb}
 use Rattle.format.specs.Tables.{pick, same}
-use Rattle.format.specs.Decoding.{bytesAt}
-use Rattle.format.specs.Truth.{prefix, occurs}
+use Rattle.format.specs.Truth.{prefix}
 
 both-false : (x : Bool) → pick x false false ≡ false
 both-false true = refl
@@ -50,29 +49,3 @@ same-prefix [] [] e = refl
 same-prefix [] (b ∷ l) e = absurd (omega arith)
 same-prefix (a ∷ k) [] e = absurd (omega arith)
 same-prefix (a ∷ k) (b ∷ l) e = rw (same-prefix k l (omega arith)) refl
-
--- A text somewhere in another.
-module _ (t s : List ℕ) (i : ℕ) where
-  occurs-rest : i < length s → occurs t (drop i s) ≡ pick (prefix t (drop i s)) true (occurs t (drop (i + 1) s))
-  unfolding occurs
-  occurs-rest h = rw (add-one, drop-cons s i 0 h) refl
-
-  -- the rest of the text, as code lends it
-  rest-whole : prefix t (bytesAt s i (length s - i)) ≡ prefix t (drop i s)
-  rest-whole = rw (take-all (length s - i) (drop i s) (simp length-drop (omega arith))) refl
-
-  pub occurs-here : i < length s → true ≡ prefix t (bytesAt s i (length s - i)) → occurs t (drop i s) ≡ true
-  occurs-here h e = rw (occurs-rest h, ← rest-whole, ← e) refl
-
-  pub occurs-step : i < length s → false ≡ prefix t (bytesAt s i (length s - i)) → occurs t (drop i s) ≡ occurs t (drop (i + 1) s)
-  occurs-step h e = rw (occurs-rest h, ← rest-whole, ← e) refl
-
-  occurs-done : length s ≤ i → occurs t (drop i s) ≡ prefix t []
-  unfolding occurs
-  occurs-done h = rw (drop-of-length-le s h) refl
-
-  pub occurs-empty : length s ≤ i → length t ≡ 0 → occurs t (drop i s) ≡ true
-  occurs-empty h e = occurs-done h ∙ prefix-done t [] 0 (omega arith)
-
-  pub occurs-nowhere : length s ≤ i → (length t ≡ 0 → ⊥) → occurs t (drop i s) ≡ false
-  occurs-nowhere h f = occurs-done h ∙ prefix-longer t [] (omega arith)

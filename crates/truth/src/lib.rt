@@ -2,8 +2,8 @@
 //
 // The query and the tag list are skipped once, and refused as their readers refuse them, the query first. Then the query is
 // evaluated node by node: an operator asks the same question of its two sides, and a leaf looks for a tag of the list. Nothing is
-// copied: names and texts are compared where they lie in the lent bytes. The work is at most the number of leaves times the bytes
-// of the tag list times the length of the longest text that is looked for.
+// copied: names and texts are compared where they lie in the lent bytes. The work is linear in the number of leaves times the bytes
+// of the tag list.
 //
 // specs/TruthAnswers.antt says what each answer stands for.
 ghost use mathlib.Core.Path.{_≡_};
@@ -19,6 +19,7 @@ ghost use Rattle.wire.specs.WireAnswers.{ItemsPlaced};
 ghost use Rattle.tags.specs.TagAnswers.{tagOf, tagsIn};
 ghost use Rattle.query.specs.QueryAnswers.{operatorOf, boundOf, nodeIn};
 ghost use Rattle.truth.specs.TruthAnswers.{Lies, LooksFor, Passes, isOf, onItem, tagMeets, tagsFrom, truths, truthStepMeaning, truthMeaning, truthFault};
+use find::contains;
 use query::Bound;
 use query::Node;
 use query::NodeStep;
@@ -82,23 +83,6 @@ fn equal(a: &[u8], b: &[u8]) -> bool
 {
     if a.len() == b.len() {
         return starts_with(b, a);
-    }
-    false
-}
-
-// Whether the bytes t occur in s, adjacent and in order.
-fn contains(s: &[u8], t: &[u8]) -> bool
-    ensures { λ r. ⌜ r ≡ occurs (now (t .entry)) (now (s .entry)) ⌝ }
-{
-    let mut i = 0;
-    while i < s.len() {
-        if starts_with(&s[i..], t) {
-            return true;
-        }
-        i += 1;
-    }
-    if t.len() == 0 {
-        return true;
     }
     false
 }
