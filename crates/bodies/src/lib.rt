@@ -2,8 +2,6 @@
 //
 // Numbers are returned as numbers, and texts, hashes, lists and data as places in the lent bytes.
 ghost use mathlib.Core.Path.{_≡_};
-ghost use Prim.Native.Nat.{_-_};
-ghost use lib.ListN.{length};
 ghost use Rattle.format.specs.PacketOrder.{decodeBody};
 ghost use Rattle.bodies.specs.BodyAnswers.{shapeOf, bodyMeaning, BodyStepPlaced};
 ghost use Rattle.bodies.specs.BodyAnswers.{rangeFault, tripleFault, rangesFault, bitsFault, extendedStatusFault, bodyFault};
@@ -244,14 +242,6 @@ impl BitsStep {
             BitsStep::Refused(f) => f,
         }
     }
-}
-
-// How many bytes come after the cursor.
-pub fn remaining(s: &[u8], c: Cursor) -> usize
-    ensures { λ r. ⌜ r ≡ length (now (s .entry)) - c .at ⌝ }
-{
-    let at = c.at;
-    if at <= s.len() { s.len() - at } else { 0 }
 }
 
 // The body of a shape.

@@ -12,7 +12,6 @@ use crate::RequestParts;
 use crate::SendingPart;
 use crate::Triple;
 use crate::TripleStep;
-use crate::remaining;
 use wire::Cursor;
 use wire::DwordStep;
 use wire::Fault;
@@ -41,7 +40,7 @@ fn read_range(s: &[u8], c: Cursor) -> RangeStep
             size: 8,
         });
     }
-    let behind = remaining(s, next);
+    let behind = next.remaining(s);
     let wanted = (end - start) as usize;
     if behind == wanted {
         return RangeStep::Got(start, end, next);
@@ -65,7 +64,7 @@ pub fn read_sending_part(s: &[u8], c: Cursor) -> BodyStep
     let RangeStep::Got(start, end, next) = r else {
         return BodyStep::Refused(r.fault());
     };
-    let len = remaining(s, next);
+    let len = next.remaining(s);
     let data = Place { at: next.at, len };
     let part = SendingPart {
         hash,

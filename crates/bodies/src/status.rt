@@ -17,7 +17,6 @@ use crate::Form;
 use crate::StatusRequest;
 use crate::TripleStep;
 use crate::ranges::read_triple;
-use crate::remaining;
 use wire::ByteStep;
 use wire::Cursor;
 use wire::DoneStep;
@@ -153,7 +152,7 @@ pub fn read_status(s: &[u8], c: Cursor) -> BodyStep
     ensures meaning { λ r. ⌜ bodyMeaning (now (s .entry)) r ≡ decodeBody statusBody (now (s .entry)) (c .at) ⌝ }
     ensures placed { λ r. ⌜ BodyStepPlaced (now (s .entry)) r ⌝ }
 {
-    if remaining(s, c) == 12 {
+    if c.remaining(s) == 12 {
         let p = read_triple(s, c);
         let TripleStep::Got(numbers, next) = p else {
             return BodyStep::Refused(p.fault());

@@ -18,7 +18,6 @@ use bodies::Body;
 use bodies::BodyStep;
 use bodies::Shape;
 use bodies::read_body;
-use bodies::remaining;
 use wire::ByteStep;
 use wire::Cursor;
 use wire::DwordStep;
@@ -190,7 +189,7 @@ fn read_length(s: &[u8], c: Cursor) -> DwordStep
         return DwordStep::Refused(fault);
     }
     let length = n as usize;
-    let behind = remaining(s, next);
+    let behind = next.remaining(s);
     if length == behind {
         return DwordStep::Got(n, next);
     }

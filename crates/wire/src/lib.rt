@@ -1,24 +1,34 @@
 // The cursor, and the items that every packet and file is made of: BYTE, WORD, DWORD, HASH, String and name.
 //
-// A cursor is a place in bytes that the caller lends. It holds no reference to them: each step is lent the bytes, consumes
-// the cursor and answers with what it read and a new cursor, after it; or with the fault it found. What lies in the bytes
-// is not copied: a hash, a text or a list is answered as the place where it lies.
+// A cursor is an offset in bytes that the caller lends. It holds no reference to them: each step is lent the bytes, consumes
+// the cursor and returns what it read and a new cursor, after it; or the fault that it found. The bytes are not copied: a hash, a
+// text or a list is returned as the offset where it is encoded.
 //
 // A fault is propagated unchanged. A caller takes the answer apart at once, and hands the fault of a refusal to its own caller:
 //
-//     let w = c.word(s);
-//     let WordStep::Got(n, next) = w else {
-//         return PlaceStep::Refused(w.fault());
+//     let length_step = c.word(s);
+//     let WordStep::Got(length, next) = length_step else {
+//         return PlaceStep::Refused(length_step.fault());
 //     };
 //
 // specs/WireAnswers.antt says what each answer stands for; a contract equates that with what the format decodes at the cursor.
 ghost use mathlib.Core.Path.{_≡_};
-ghost use Prim.Native.Nat.{_+_, _*_};
+ghost use Prim.Native.Nat.{_+_, _-_, _*_};
+ghost use lib.ListN.{length};
 ghost use Rattle.format.specs.Decoding as decoding;
 ghost use Rattle.format.specs.Decoding.{bytesAt, decodeRun};
 ghost use Rattle.format.specs.Order.{decodeByte, decodeWord, decodeDword, decodeHash, decodeString, decodeName, decodeFixed};
 ghost use Rattle.wire.specs.WireAnswers.{ruleMeaning, byteMeaning, wordMeaning, dwordMeaning, hashMeaning, placeMeaning, PlaceStepInside, doneMeaning};
 ghost use Rattle.wire.specs.WireAnswers.{noFault, byteFault, wordFault, dwordFault, hashFault, placeFault, itemsFault, doneFault};
+
+// The most bytes that a packet can have, and a query or a tag list alone.
+pub const PACKET_CEILING: usize = 65536;
+
+// The most bytes that a name can have.
+const NAME_LIMIT: u16 = 255;
+
+// The size of a HASH.
+const HASH_SIZE: usize = 16;
 
 // The rules that bytes can break. Where document 01 gives one number to several rules, they are reported apart here.
 pub enum Rule {
@@ -108,7 +118,7 @@ pub enum DwordStep {
     Refused(Fault),
 }
 
-// The place of a HASH, which has always 16 bytes.
+// The offset of a HASH.
 pub enum HashStep {
     Got(usize, Cursor),
     Refused(Fault),
@@ -221,20 +231,29 @@ impl DoneStep {
 }
 
 // Numbers lie low byte first.
-pub fn pair(a: u8, b: u8) -> u16
-    ensures { λ r. ⌜ r ≡ a + 256 * b ⌝ }
+pub fn pair(low: u8, high: u8) -> u16
+    ensures { λ r. ⌜ r ≡ low + 256 * high ⌝ }
 {
-    a as u16 + 256 * (b as u16)
+    low as u16 + 256 * (high as u16)
 }
 
-fn quad(a: u8, b: u8, c: u8, d: u8) -> u32
-    ensures { λ r. ⌜ r ≡ a + 256 * b + 65536 * c + 16777216 * d ⌝ }
+fn quad(first: u8, second: u8, third: u8, fourth: u8) -> u32
+    ensures { λ r. ⌜ r ≡ first + 256 * second + 65536 * third + 16777216 * fourth ⌝ }
 {
-    a as u32 + 256 * (b as u32) + 65536 * (c as u32) + 16777216 * (d as u32)
+    first as u32 + 256 * (second as u32) + 65536 * (third as u32) + 16777216 * (fourth as u32)
 }
 
-// That n bytes are there is tested by what is left of the length, so that no sum can wrap, wherever the cursor stands.
+// Whether there are as many bytes as an item has is tested by the length less its size, so that no sum can wrap, wherever the cursor
+// stands.
 impl Cursor {
+    // How many bytes come after the cursor.
+    pub fn remaining(self, s: &[u8]) -> usize
+        ensures { λ r. ⌜ r ≡ length (now (s .entry)) - self .at ⌝ }
+    {
+        let at = self.at;
+        if at <= s.len() { s.len() - at } else { 0 }
+    }
+
     pub fn byte(self, s: &[u8]) -> ByteStep
         ensures { λ r. ⌜ byteMeaning r ≡ decodeByte (now (s .entry)) (self .at) ⌝ }
     {
@@ -300,46 +319,46 @@ impl Cursor {
         ensures { λ r. ⌜ hashMeaning (now (s .entry)) r ≡ decodeHash (now (s .entry)) (self .at) ⌝ }
     {
         let at = self.at;
-        if s.len() < 16 {
+        if s.len() < HASH_SIZE {
             return HashStep::Refused(Fault {
                 rule: Rule::Short,
                 at,
-                size: 16,
+                size: HASH_SIZE,
             });
         }
-        if s.len() - 16 < at {
+        if s.len() - HASH_SIZE < at {
             return HashStep::Refused(Fault {
                 rule: Rule::Short,
                 at,
-                size: 16,
+                size: HASH_SIZE,
             });
         }
-        let next = at + 16;
+        let next = at + HASH_SIZE;
         HashStep::Got(at, Cursor { at: next })
     }
 
-    // A run of n bytes.
-    pub fn run(self, s: &[u8], n: usize) -> PlaceStep
-        ensures { λ r. ⌜ placeMeaning (now (s .entry)) r ≡ decodeRun n (now (s .entry)) (self .at) ⌝ }
+    // A run of `len` bytes.
+    pub fn run(self, s: &[u8], len: usize) -> PlaceStep
+        ensures { λ r. ⌜ placeMeaning (now (s .entry)) r ≡ decodeRun len (now (s .entry)) (self .at) ⌝ }
         ensures inside { λ r. ⌜ PlaceStepInside (now (s .entry)) r ⌝ }
     {
         let at = self.at;
-        if s.len() < n {
+        if s.len() < len {
             return PlaceStep::Refused(Fault {
                 rule: Rule::Short,
                 at,
-                size: n,
+                size: len,
             });
         }
-        if s.len() - n < at {
+        if s.len() - len < at {
             return PlaceStep::Refused(Fault {
                 rule: Rule::Short,
                 at,
-                size: n,
+                size: len,
             });
         }
-        let next = at + n;
-        PlaceStep::Got(Place { at, len: n }, Cursor { at: next })
+        let next = at + len;
+        PlaceStep::Got(Place { at, len }, Cursor { at: next })
     }
 
     // A WORD and that many bytes.
@@ -347,11 +366,11 @@ impl Cursor {
         ensures { λ r. ⌜ placeMeaning (now (s .entry)) r ≡ decodeString (now (s .entry)) (self .at) ⌝ }
         ensures inside { λ r. ⌜ PlaceStepInside (now (s .entry)) r ⌝ }
     {
-        let w = self.word(s);
-        let WordStep::Got(n, next) = w else {
-            return PlaceStep::Refused(w.fault());
+        let length_step = self.word(s);
+        let WordStep::Got(length, next) = length_step else {
+            return PlaceStep::Refused(length_step.fault());
         };
-        next.run(s, n as usize)
+        next.run(s, length as usize)
     }
 
     // A name is a String of 1 to 255 bytes. Its length is checked before its bytes are read.
@@ -359,36 +378,36 @@ impl Cursor {
         ensures { λ r. ⌜ placeMeaning (now (s .entry)) r ≡ decodeName (now (s .entry)) (self .at) ⌝ }
         ensures inside { λ r. ⌜ PlaceStepInside (now (s .entry)) r ⌝ }
     {
-        let w = self.word(s);
-        let WordStep::Got(n, next) = w else {
-            return PlaceStep::Refused(w.fault());
+        let length_step = self.word(s);
+        let WordStep::Got(length, next) = length_step else {
+            return PlaceStep::Refused(length_step.fault());
         };
-        if n == 0 {
+        if length == 0 {
             return PlaceStep::Refused(Fault {
                 rule: Rule::Choice,
                 at: self.at,
                 size: 2,
             });
         }
-        if 255 < n {
+        if NAME_LIMIT < length {
             return PlaceStep::Refused(Fault {
                 rule: Rule::NameCeiling,
                 at: self.at,
                 size: 2,
             });
         }
-        next.run(s, n as usize)
+        next.run(s, length as usize)
     }
 
     // A byte that the layout fixes.
-    pub fn fixed(self, s: &[u8], b: u8) -> DoneStep
-        ensures { λ r. ⌜ doneMeaning r ≡ decodeFixed b (now (s .entry)) (self .at) ⌝ }
+    pub fn fixed(self, s: &[u8], expected: u8) -> DoneStep
+        ensures { λ r. ⌜ doneMeaning r ≡ decodeFixed expected (now (s .entry)) (self .at) ⌝ }
     {
-        let x = self.byte(s);
-        let ByteStep::Got(found, next) = x else {
-            return DoneStep::Refused(x.fault());
+        let found_step = self.byte(s);
+        let ByteStep::Got(found, next) = found_step else {
+            return DoneStep::Refused(found_step.fault());
         };
-        if found == b {
+        if found == expected {
             return DoneStep::Got(next);
         }
         DoneStep::Refused(Fault {
@@ -399,16 +418,16 @@ impl Cursor {
     }
 }
 
-// The n bytes from at on, or as many of them as there are. It takes any numbers, so that no caller has to show that a
-// place lies inside.
-pub fn bytes_at(s: &[u8], at: usize, n: usize) -> &[u8]
-    ensures { λ r. ⌜ now r ≡ bytesAt (now (s .entry)) at n ⌝ }
+// The `len` bytes from the offset on, or as many of them as there are. It takes any numbers, so that no caller has to show that a
+// byte range lies inside.
+pub fn bytes_at(s: &[u8], at: usize, len: usize) -> &[u8]
+    ensures { λ r. ⌜ now r ≡ bytesAt (now (s .entry)) at len ⌝ }
 {
     if s.len() <= at {
         &s[..0]
     } else {
-        if n <= s.len() - at {
-            let end = at + n;
+        if len <= s.len() - at {
+            let end = at + len;
             &s[at..end]
         } else {
             &s[at..]

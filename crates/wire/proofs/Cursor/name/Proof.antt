@@ -9,8 +9,8 @@ use Rattle.wire.proofs.Cursor.name.Tie as tie
 word-requires : tie.Need-word-requires
 word-requires c κs = search needs
 
-enum-known-w : tie.Need-enum-known-w
-enum-known-w c = search needs
+enum-known-length-step : tie.Need-enum-known-length-step
+enum-known-length-step c = search needs
 
 enum-told : tie.Need-enum-told
 enum-told c = search needs
@@ -24,13 +24,13 @@ returns c = rw (c .fault .ensures, ← c .before .before .before .word .ensures,
 
 returns-2 : tie.Need-returns-2
 unfolding decodeName
-returns-2 c = rw (← c .before .before .before .before .word .ensures, c .before .before .w .given .1, eq-eqb _ 0 (c .if1 .taken)) (refl, tt)
+returns-2 c = rw (← c .before .before .before .before .word .ensures, c .before .before .length-step .given .1, eq-eqb _ 0 (c .if1 .taken)) (refl, tt)
 
 returns-3 : tie.Need-returns-3
 unfolding decodeName
 returns-3 c =
     let b = c .before .before .before in
-    rw (← b .before .before .word .ensures, b .w .given .1, ne-eqb _ 0 (c .before .if1 .left), lt-leb _ nameLimit (c .if2 .taken)) (refl, tt)
+    rw (← b .before .before .word .ensures, b .length-step .given .1, ne-eqb _ 0 (c .before .if1 .left), lt-leb _ nameLimit (c .if2 .taken)) (refl, tt)
 
 cast-run : tie.Need-cast-run
 cast-run c = search needs
@@ -42,7 +42,7 @@ returns-4 : tie.Need-returns-4
 unfolding decodeName
 returns-4 c =
     let b = c .before .before .before .before in
-    rw (← b .before .before .word .ensures, b .w .given .1, ne-eqb _ 0 (c .before .before .if1 .left), le-leb _ nameLimit (c .before .if2 .left))
+    rw (← b .before .before .word .ensures, b .length-step .given .1, ne-eqb _ 0 (c .before .before .if1 .left), le-leb _ nameLimit (c .before .if2 .left))
     (c .run .ensures)
 
 pub name-spec : {M : Type 1} → statement M
@@ -50,7 +50,7 @@ name-spec =
     tie.close
     (tie.spec
     word-requires
-    enum-known-w
+    enum-known-length-step
     enum-told
     fault-requires
     returns

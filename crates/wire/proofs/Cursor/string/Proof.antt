@@ -7,8 +7,8 @@ use Rattle.wire.proofs.Cursor.string.Tie as tie
 word-requires : tie.Need-word-requires
 word-requires c κs = search needs
 
-enum-known-w : tie.Need-enum-known-w
-enum-known-w c = search needs
+enum-known-length-step : tie.Need-enum-known-length-step
+enum-known-length-step c = search needs
 
 enum-told : tie.Need-enum-told
 enum-told c = search needs
@@ -28,14 +28,14 @@ run-requires c κs = search needs
 
 returns-2 : tie.Need-returns-2
 unfolding decodeString
-returns-2 c = rw (← c .before .before .before .before .word .ensures, c .before .before .w .given .1) (c .run .ensures)
+returns-2 c = rw (← c .before .before .before .before .word .ensures, c .before .before .length-step .given .1) (c .run .ensures)
 
 pub string-spec : {M : Type 1} → statement M
 string-spec =
     tie.close
     (tie.spec
     word-requires
-    enum-known-w
+    enum-known-length-step
     enum-told
     fault-requires
     returns
