@@ -17,6 +17,11 @@ abbrev pub placeBehind : {A : Type 0} → Outcome A → ℕ
 placeBehind (refused f) = 0
 placeBehind (got a next) = next
 
+-- Something was decoded.
+abbrev pub Lies : {A : Type 0} → Outcome A → Type 0
+Lies (refused f) = ⊥
+Lies (got a next) = Unit {0}
+
 -- The value of a type that is listed.
 abbrev pub valueEnds : Option TagType → List ℕ → ℕ → Outcome (Unit {0})
 valueEnds none s at = refused (fault choice at 0)

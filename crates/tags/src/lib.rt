@@ -9,19 +9,19 @@ ghost use mathlib.Core.Path.{_≡_};
 ghost use mathlib.Core.List.{List};
 ghost use mathlib.Core.Logic.{_↔_};
 ghost use Prim.Native.Nat.{_+_, _*_, _≤_, _<_};
-ghost use lib.ListN.{length};
+ghost use lib.ListN.{length, getD};
 ghost use lib.Dec.{eqb};
 ghost use Rattle.format.specs.Messages as messages;
 ghost use Rattle.format.specs.Messages.{loneTags};
 ghost use Rattle.format.specs.Layout.{encodeTags};
 ghost use Rattle.format.specs.Rules.{Valid};
 ghost use Rattle.format.specs.Tables.{lookup, pick};
-ghost use Rattle.format.specs.Decoding.{decodeMany, ends, reply, message};
+ghost use Rattle.format.specs.Decoding.{decodeMany, ends, got, reply, message};
 ghost use Rattle.format.specs.Order.{decodeDword, decodeType, decodeValue, decodeTag, decodeTags, tagTypes};
 ghost use Rattle.format.specs.MetOrder.{decode};
 ghost use Rattle.wire.specs.WireAnswers.{itemsMeaning, ItemsStepPlaced, ItemsStepInside};
 ghost use Rattle.tags.specs.TagAnswers.{typeOf, typeMeaning, valueMeaning, ValueStepInside, tagMeaning, TagStepInside, tagListReply, TagListPlaced};
-ghost use Rattle.tags.specs.Skips.{EndsThere, placeBehind, valueSize, valueEnds};
+ghost use Rattle.tags.specs.Skips.{EndsThere, Lies, placeBehind, valueSize, valueEnds};
 ghost use Rattle.tags.specs.TagAnswers.{typeFault, valueFault, tagFault};
 use wire::ByteStep;
 use wire::Cursor;
@@ -274,6 +274,40 @@ fn tag_end(s: &[u8], at: usize) -> usize
         return 0;
     }
     value_end(s, name + n, code)
+}
+
+// The offset after the whole tag at `at`, whose name has `name_len` bytes.
+fn named_tag_end(s: &[u8], at: usize, name_len: usize) -> usize
+    requires { ⌜ Lies (decodeTag (now s) at) ⌝ }
+    requires { ⌜ «name_len» ≡ getD (now s) (at + 1) 0 + 256 * getD (now s) (at + 2) 0 ⌝ }
+    ensures { λ r. ⌜ ends (decodeTag (now (s .entry)) at) ≡ got tt r ⌝ }
+{
+    let name = at + 3;
+    let value = name + name_len;
+    let code = s[at];
+    if code == 2 {
+        let text_len = pair(s[value], s[value + 1]) as usize;
+        let text = value + 2;
+        return text + text_len;
+    }
+    if code == 1 {
+        return value + 16;
+    }
+    value + 4
+}
+
+// The offset after the tag at `at`, which was read before. Unlike tag_end it jumps by the type and by a name of one byte: a list that was
+// read before may be scanned many times, once for each leaf of a query, so that these jumps are guessed right, and the next tag is begun
+// before this one's lengths are read.
+pub fn whole_tag_end(s: &[u8], at: usize) -> usize
+    requires { ⌜ Lies (decodeTag (now s) at) ⌝ }
+    ensures { λ r. ⌜ ends (decodeTag (now (s .entry)) at) ≡ got tt r ⌝ }
+{
+    let name_len = pair(s[at + 1], s[at + 2]) as usize;
+    if name_len == 1 {
+        return named_tag_end(s, at, 1);
+    }
+    named_tag_end(s, at, name_len)
 }
 
 // n tags one after the other.

@@ -9,7 +9,8 @@ use Rattle.format.specs.Decoding.{Decoder, Outcome, refused, got, andThen, pure
 use Rattle.format.specs.Truth.{some}
 use Rattle.format.proofs.Codec.{never}
 use Rattle.wire.proofs.Loops.{ended-got}
-use Rattle.truth.specs.TruthAnswers.{Lies, onItem}
+use Rattle.tags.specs.Skips.{Lies}
+use Rattle.truth.specs.TruthAnswers.{onItem}
 
 -- What was decoded and has an end lies there.
 pub ended-lies : {A : Type 0} (o : Outcome A) {end : ℕ} → ends o ≡ got tt end → Lies o

@@ -12,6 +12,7 @@ use Rattle.format.specs.Order.{decodeTag}
 use Rattle.format.specs.Truth.{occurs, stringTag, dwordTag, within, holds, some, TruthReply}
 use Rattle.wire.specs.WireAnswers.{faultMeaning, noFault}
 use Rattle.wire.specs.declared.Fault.{Fault}
+use Rattle.tags.specs.Skips.{Lies}
 use Rattle.query.specs.Nodes.{Node, join, keyword, field, limit}
 use Rattle.truth.specs.declared.Spot.{Spot}
 use Rattle.truth.specs.declared.TruthStep.{TruthStep}
@@ -36,11 +37,6 @@ LooksFor code name p = (t : Tag) → isOf code name t ≡ false → p t ≡ fals
 abbrev pub onItem : {A : Type 0} → (A → Bool) → Outcome A → Bool
 onItem p (refused f) = false
 onItem p (got a next) = p a
-
--- An item was decoded.
-abbrev pub Lies : {A : Type 0} → Outcome A → Type 0
-Lies (refused f) = ⊥
-Lies (got a next) = Unit {0}
 
 -- The tags of a list from one of them on: so many are left, and they lie from a place on.
 abbrev pub tagsFrom : List ℕ → Spot → Outcome (List Tag)

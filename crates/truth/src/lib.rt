@@ -8,17 +8,15 @@
 // specs/TruthAnswers.antt says what each answer stands for.
 ghost use mathlib.Core.Path.{_≡_};
 ghost use mathlib.Core.List.{[], _∷_};
-ghost use Prim.Native.Nat.{_+_, _*_};
-ghost use lib.ListN.{getD};
-ghost use Rattle.format.specs.Decoding.{ends, got};
 ghost use Rattle.format.specs.Order.{decodeTag, decodeQueryIn};
 ghost use Rattle.format.specs.Tables.{same};
 ghost use Rattle.format.specs.Truth as format;
 ghost use Rattle.format.specs.Truth.{some, prefix, occurs, stringTag, dwordTag, within};
 ghost use Rattle.wire.specs.WireAnswers.{ItemsPlaced};
+ghost use Rattle.tags.specs.Skips.{Lies};
 ghost use Rattle.tags.specs.TagAnswers.{tagOf, tagsIn};
 ghost use Rattle.query.specs.QueryAnswers.{operatorOf, boundOf, nodeIn};
-ghost use Rattle.truth.specs.TruthAnswers.{Lies, LooksFor, Passes, isOf, onItem, tagMeets, tagsFrom, truths, truthStepMeaning, truthMeaning, truthFault};
+ghost use Rattle.truth.specs.TruthAnswers.{LooksFor, Passes, isOf, onItem, tagMeets, tagsFrom, truths, truthStepMeaning, truthMeaning, truthFault};
 use find::contains;
 use query::Bound;
 use query::Node;
@@ -33,6 +31,7 @@ use tags::TagStep;
 use tags::TagValue;
 use tags::read_tag;
 use tags::read_tag_list;
+use tags::whole_tag_end;
 use wire::Cursor;
 use wire::Fault;
 use wire::Items;
@@ -188,39 +187,6 @@ fn is_candidate(tags: &[u8], at: usize, code: u8, name: &[u8]) -> bool
     equal(bytes_at(tags, at + 3, n), name)
 }
 
-// The offset after the tag at a place, whose name has n bytes. It jumps by the type: a list is gone through once for each leaf, so that the
-// jumps are guessed right, unlike those of a list that is read once.
-fn behind_named(tags: &[u8], at: usize, n: usize) -> usize
-    requires { ⌜ Lies (decodeTag (now tags) at) ⌝ }
-    requires { ⌜ n ≡ getD (now tags) (at + 1) 0 + 256 * getD (now tags) (at + 2) 0 ⌝ }
-    ensures { λ r. ⌜ ends (decodeTag (now (tags .entry)) at) ≡ got tt r ⌝ }
-{
-    let name = at + 3;
-    let value = name + n;
-    let code = tags[at];
-    if code == 2 {
-        let m = pair(tags[value], tags[value + 1]) as usize;
-        let text = value + 2;
-        return text + m;
-    }
-    if code == 1 {
-        return value + 16;
-    }
-    value + 4
-}
-
-// Most names have one byte. Where that is guessed right, the place of the value is known before the length of the name is.
-fn behind_tag(tags: &[u8], at: usize) -> usize
-    requires { ⌜ Lies (decodeTag (now tags) at) ⌝ }
-    ensures { λ r. ⌜ ends (decodeTag (now (tags .entry)) at) ≡ got tt r ⌝ }
-{
-    let n = pair(tags[at + 1], tags[at + 2]) as usize;
-    if n == 1 {
-        return behind_named(tags, at, 1);
-    }
-    behind_named(tags, at, n)
-}
-
 // Where in a list: how many tags are left, and where the first of them lies.
 struct Spot {
     left: u32,
@@ -238,7 +204,7 @@ fn next_candidate(tags: &[u8], from: Spot, code: u8, name: &[u8]) -> Spot
         if is_candidate(tags, at, code, name) {
             return Spot { left, at };
         }
-        at = behind_tag(tags, at);
+        at = whole_tag_end(tags, at);
         left -= 1;
     }
     Spot { left, at }
@@ -272,7 +238,7 @@ fn some_tag(query: &[u8], leaf: Node, code: u8, name: &[u8], tags: &[u8], list: 
         if meets_at(query, leaf, tags, here) {
             return true;
         }
-        at = behind_tag(tags, here);
+        at = whole_tag_end(tags, here);
         left = n - 1;
     }
     false

@@ -1,6 +1,7 @@
 use mathlib.Core.Path.{refl, _∙_}
 use native.Mathlib.Omega.{arith}
-use Rattle.truth.proofs.Candidates.{by-name, head-lies, other-length, other-type}
+use Rattle.tags.proofs.WholeTags.{head-lies}
+use Rattle.truth.proofs.Candidates.{by-name, other-length, other-type}
 use borrow.Author.Needs.{needs}
 use Rattle.truth.proofs.is_candidate.Statement.{statement}
 use Rattle.truth.proofs.is_candidate.Tie as tie

@@ -22,8 +22,8 @@ is-candidate-requires c κs = let l = c .before .loop in first-lies decodeTag _ 
 returns : tie.Need-returns Inv-loop μ-loop
 returns c = c .before .before .before .loop .inv
 
-behind-tag-requires : tie.Need-behind-tag-requires Inv-loop μ-loop
-behind-tag-requires c κs = let t = c .before .before in let l = t .before .loop in first-lies decodeTag _ (l .left) (l .at) (t .loop-test .taken) (l .inv .lie)
+whole-tag-end-requires : tie.Need-whole-tag-end-requires Inv-loop μ-loop
+whole-tag-end-requires c κs = let t = c .before .before in let l = t .before .loop in first-lies decodeTag _ (l .left) (l .at) (t .loop-test .taken) (l .inv .lie)
 
 sub-left : tie.Need-sub-left Inv-loop μ-loop
 sub-left c = search needs
@@ -36,7 +36,7 @@ loop-again c =
     let t = c .before .before .before in
     let l = t .before .loop in
     let other = sym (c .before .if1 .left) ∙ c .before .before .is-candidate .ensures in
-    passes-one _ _ _ _ (l .left) (l .at) (t .loop-test .taken) (l .inv) (c .behind-tag .ensures) other
+    passes-one _ _ _ _ (l .left) (l .at) (t .loop-test .taken) (l .inv) (c .whole-tag-end .ensures) other
 
 returns-2 : tie.Need-returns-2 Inv-loop μ-loop
 returns-2 c = c .before .loop .inv
@@ -50,7 +50,7 @@ next-candidate-spec =
     loop-holds
     is-candidate-requires
     returns
-    behind-tag-requires
+    whole-tag-end-requires
     sub-left
     loop-less
     loop-again

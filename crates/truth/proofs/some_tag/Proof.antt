@@ -7,7 +7,8 @@ use Rattle.format.specs.Decoding.{decodeMany, itemsOf}
 use Rattle.format.specs.Order.{decodeTag}
 use Rattle.format.specs.Truth.{some}
 use Rattle.query.specs.QueryAnswers.{nodeIn}
-use Rattle.truth.specs.TruthAnswers.{Lies, tagMeets}
+use Rattle.tags.specs.Skips.{Lies}
+use Rattle.truth.specs.TruthAnswers.{tagMeets}
 use Rattle.truth.proofs.Found.{ended-lies, first-lies, rest-lies, some-here, some-none, some-step}
 use Rattle.truth.proofs.some_tag.Statement.{statement}
 use Rattle.truth.proofs.some_tag.Tie as tie
@@ -46,8 +47,8 @@ returns-2 c =
     let meets = sym (c .if2 .taken) ∙ c .before .meets-at .ensures in
     sym (l .loop .inv .1 ∙ f .ensures .same-truth _ (b .pre .0) ∙ some-here decodeTag (now (b .args .tags)) (f .result .left) (f .result .at) (omega arith) (f .ensures .lie) _ meets)
 
-behind-tag-requires : tie.Need-behind-tag-requires Inv-loop μ-loop
-behind-tag-requires c κs =
+whole-tag-end-requires : tie.Need-whole-tag-end-requires Inv-loop μ-loop
+whole-tag-end-requires c κs =
     let f = c .before .before .before .next-candidate in
     let some-left = c .before .before .if1 .left in
     first-lies decodeTag _ (f .result .left) (f .result .at) (omega arith) (f .ensures .lie)
@@ -67,7 +68,7 @@ loop-again c =
     let b = l .before .before .before .before in
     let some-left : 0 < f .result .left = omega (arith, c .before .before .before .if1 .left) in
     let meets = sym (c .before .if2 .left) ∙ c .before .before .meets-at .ensures in
-    let e = c .behind-tag .ensures in (
+    let e = c .whole-tag-end .ensures in (
       rest-lies decodeTag _ (f .result .left) (f .result .at) some-left (f .ensures .lie) e,
       l .loop .inv .1 ∙ f .ensures .same-truth _ (b .pre .0) ∙ some-step decodeTag (now (b .args .tags)) (f .result .left) (f .result .at) some-left (f .ensures .lie) e _ meets,
     )
@@ -88,7 +89,7 @@ some-tag-spec =
     returns
     meets-at-requires
     returns-2
-    behind-tag-requires
+    whole-tag-end-requires
     sub-left
     loop-less
     loop-again

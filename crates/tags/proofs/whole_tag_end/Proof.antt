@@ -1,8 +1,8 @@
 use native.Mathlib.Omega.{arith}
-use Rattle.truth.proofs.Candidates.{head-lies}
+use Rattle.tags.proofs.WholeTags.{head-lies}
 use borrow.Author.Needs.{needs}
-use Rattle.truth.proofs.behind_tag.Statement.{statement}
-use Rattle.truth.proofs.behind_tag.Tie as tie
+use Rattle.tags.proofs.whole_tag_end.Statement.{statement}
+use Rattle.tags.proofs.whole_tag_end.Tie as tie
 
 add-pair : tie.Need-add-pair
 add-pair c = omega (arith, head-lies _ _ (c .before .pre))
@@ -19,23 +19,23 @@ shared-slice-read-pair-2 c = omega (arith, head-lies _ _ (c .before .before .bef
 pair-requires : tie.Need-pair-requires
 pair-requires c κs = search needs
 
-cast-n : tie.Need-cast-n
-cast-n c = search needs
+cast-name-len : tie.Need-cast-name-len
+cast-name-len c = search needs
 
-behind-named-requires : tie.Need-behind-named-requires
-behind-named-requires c κs = search needs
+named-tag-end-requires : tie.Need-named-tag-end-requires
+named-tag-end-requires c κs = search needs
 
 returns : tie.Need-returns
 returns c = search needs
 
-behind-named-requires-2 : tie.Need-behind-named-requires-2
-behind-named-requires-2 c κs = search needs
+named-tag-end-requires-2 : tie.Need-named-tag-end-requires-2
+named-tag-end-requires-2 c κs = search needs
 
 returns-2 : tie.Need-returns-2
 returns-2 c = search needs
 
-pub behind-tag-spec : {M : Type 1} → statement M
-behind-tag-spec =
+pub whole-tag-end-spec : {M : Type 1} → statement M
+whole-tag-end-spec =
     tie.close
     (tie.spec
     add-pair
@@ -43,8 +43,8 @@ behind-tag-spec =
     add-pair-2
     shared-slice-read-pair-2
     pair-requires
-    cast-n
-    behind-named-requires
+    cast-name-len
+    named-tag-end-requires
     returns
-    behind-named-requires-2
+    named-tag-end-requires-2
     returns-2)

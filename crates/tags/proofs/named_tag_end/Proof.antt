@@ -1,8 +1,8 @@
 use native.Mathlib.Omega.{arith}
-use Rattle.truth.proofs.Candidates.{hash-ends, head-lies, name-lies, other-ends, text-ends, text-lies}
+use Rattle.tags.proofs.WholeTags.{hash-ends, head-lies, name-lies, other-ends, text-ends, text-lies}
 use borrow.Author.Needs.{needs}
-use Rattle.truth.proofs.behind_named.Statement.{statement}
-use Rattle.truth.proofs.behind_named.Tie as tie
+use Rattle.tags.proofs.named_tag_end.Statement.{statement}
+use Rattle.tags.proofs.named_tag_end.Tie as tie
 
 add-name : tie.Need-add-name
 add-name c = omega (arith, head-lies _ _ (c .before .pre .0))
@@ -25,8 +25,8 @@ shared-slice-read-pair-2 c = let pre = c .before .before .before .before .before
 pair-requires : tie.Need-pair-requires
 pair-requires c κs = search needs
 
-cast-m : tie.Need-cast-m
-cast-m c = search needs
+cast-text-len : tie.Need-cast-text-len
+cast-text-len c = search needs
 
 add-text : tie.Need-add-text
 add-text c = let pre = c .before .before .before .before .before .before .pre in omega (arith, text-lies _ _ _ (pre .1) (pre .0) (c .before .before .before .if1 .taken))
@@ -49,8 +49,8 @@ add-result-3 c = let pre = c .before .before .before .before .pre in omega (arit
 returns-3 : tie.Need-returns-3
 returns-3 c = let pre = c .before .before .before .before .pre in other-ends _ _ _ (pre .1) (pre .0) (c .before .if1 .left) (c .if2 .left) .1
 
-pub behind-named-spec : {M : Type 1} → statement M
-behind-named-spec =
+pub named-tag-end-spec : {M : Type 1} → statement M
+named-tag-end-spec =
     tie.close
     (tie.spec
     add-name
@@ -60,7 +60,7 @@ behind-named-spec =
     add-pair
     shared-slice-read-pair-2
     pair-requires
-    cast-m
+    cast-text-len
     add-text
     add-result
     returns
