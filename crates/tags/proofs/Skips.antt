@@ -1,9 +1,9 @@
 -- Laws of skipping a tag: where it and its parts end when they lie there.
 use Prim.Native.Nat.{ℕ, _+_, _*_, _≤_, _<_}
-use mathlib.Core.Path.{_≡_, refl, sym, ap}
+use mathlib.Core.Path.{_≡_, refl, sym, ap, _∙_}
 use mathlib.Core.Bool.{Bool, true, false}
 use mathlib.Core.Logic.{inl, inr}
-use mathlib.Core.Option.{Option, none, some}
+use mathlib.Core.Option.{some}
 use mathlib.Core.List.{List}
 use native.Mathlib.Omega.{arith}
 use lib.ListN.{length, getD}
@@ -11,83 +11,89 @@ use borrow.Author.Tests.{eqb-false, eqb-true, le-leb, ne-eqb}
 use lib.Dec.{eqb}
 use Rattle.format.specs.Tables.{lookup, pick}
 use Rattle.format.specs.Messages.{TagType, dwordType, floatType, hashType, stringType}
+use Rattle.format.specs.Layout.{typeCode}
 use Rattle.format.specs.Decoding.{Outcome, decodeRun, ends, got, refused}
 use Rattle.format.specs.Order.{decodeCode, decodeDword, decodeHash, decodeName, decodeString, decodeTag, decodeType, decodeValueOf, tagTypes}
-use Rattle.format.proofs.Differ.{differ}
 use Rattle.format.proofs.There.{byte-there, dword-there, run-there, value-is, word-there}
 use Rattle.wire.proofs.Loops.{ended-got}
-use Rattle.tags.specs.Skips.{EndsThere, placeBehind, valueEnds, valueSize}
+use Rattle.tags.specs.Skips.{EndsThere, ownSize, placeBehind, textSize, valueSize}
 
 run-ends : (s : List ℕ) (at n : ℕ) → at + n ≤ length s → ends (decodeRun n s at) ≡ got tt (at + n)
 unfolding ends
 run-ends s at n h = rw (← run-there s at n h) refl
 
--- A DWORD ends with its four bytes.
-pub dword-ends : (s : List ℕ) (at : ℕ) → at + 4 ≤ length s → ends (decodeDword s at) ≡ got tt (at + 4)
+dword-ends : (s : List ℕ) (at : ℕ) → at + 4 ≤ length s → ends (decodeDword s at) ≡ got tt (at + 4)
 unfolding ends
 dword-ends s at h = rw (← dword-there s at h) refl
 
--- The value of a type that is listed lies where its bytes do.
-value-ends : (o : Option TagType) (s : List ℕ) (at n : ℕ) → n ≡ getD s at 0 + 256 * getD s (at + 1) 0 → 2 ≤ valueSize o n →
-    at + valueSize o n ≤ length s → valueEnds o s at ≡ got tt (at + valueSize o n)
+-- A value ends with its bytes.
+value-ends : (t : TagType) (s : List ℕ) (at n : ℕ) → n ≡ getD s at 0 + 256 * getD s (at + 1) 0 → at + valueSize t n ≤ length s →
+    ends (decodeValueOf t s at) ≡ got tt (at + valueSize t n)
 unfolding ends decodeHash decodeString
-value-ends none s at n e w h = absurd (omega arith)
-value-ends (some hashType) s at n e w h = run-ends s at 16 h
-value-ends (some stringType) s at n e w h =
+value-ends hashType s at n e h = run-ends s at 16 h
+value-ends stringType s at n e h =
     let after : at + 2 + n ≡ at + (n + 2) = omega arith in
     rw (← word-there s at (omega arith), ← e, ← run-there s (at + 2) n (omega arith), after) refl
-value-ends (some dwordType) s at n e w h = dword-ends s at h
-value-ends (some floatType) s at n e w h = dword-ends s at h
+value-ends dwordType s at n e h = dword-ends s at h
+value-ends floatType s at n e h = dword-ends s at h
 
-step-up : (m code : ℕ) → m ≤ code → (code ≡ m → ⊥) → m + 1 ≤ code
-step-up m code h other = omega arith
+-- The codes from 1 to 4 are those of the types.
+typed : (code : ℕ) → 0 < code → code ≤ 4 → (t : TagType) × (typeCode t ≡ code)
+typed code low high = go (eqb code 1) refl (eqb code 2) refl (eqb code 3) refl
+  where
+    four : (code ≡ 1 → ⊥) → (code ≡ 2 → ⊥) → (code ≡ 3 → ⊥) → 4 ≡ code
+    four a b c = omega (arith, low, high, a, b, c)
 
-too-high : (code : ℕ) → 5 ≤ code → code ≤ 4 → ⊥
-too-high code h k = omega arith
+    go : (a : Bool) → eqb code 1 ≡ a → (b : Bool) → eqb code 2 ≡ b → (c : Bool) → eqb code 3 ≡ c → (t : TagType) × (typeCode t ≡ code)
+    go true p b q c r = (hashType, sym (eqb-true code 1 p))
+    go false p true q c r = (stringType, sym (eqb-true code 2 q))
+    go false p false q true r = (dwordType, sym (eqb-true code 3 r))
+    go false p false q false r = (floatType, four (eqb-false code 1 p) (eqb-false code 2 q) (eqb-false code 3 r))
 
--- The four codes are those of the types.
-module _ (code n : ℕ) (low : 0 < code) (high : code ≤ 4) where
-  pub fixed-size : (code ≡ 2 → ⊥) → pick (eqb code 1) 16 4 ≡ valueSize (lookup tagTypes code) n
-  fixed-size other = rw (ne-eqb code 2 other) (go (eqb code 1) refl (eqb code 3) refl (eqb code 4) refl)
-    where
-      go : (a : Bool) → eqb code 1 ≡ a → (b : Bool) → eqb code 3 ≡ b → (c : Bool) → eqb code 4 ≡ c →
-          pick a 16 4 ≡ valueSize (pick a (some hashType) (pick b (some dwordType) (pick c (some floatType) none))) n
-      go true p b q c r = refl
-      go false p true q c r = refl
-      go false p false q true r = refl
-      go false p false q false r =
-          let three = step-up 2 code (step-up 1 code low (eqb-false code 1 p)) other in
-          let five = step-up 4 code (step-up 3 code three (eqb-false code 3 q)) (eqb-false code 4 r) in
-          absurd (too-high code five high)
+listed : (t : TagType) → lookup tagTypes (typeCode t) ≡ some t
+listed hashType = refl
+listed stringType = refl
+listed dwordType = refl
+listed floatType = refl
 
-  at-least-two : 2 ≤ valueSize (lookup tagTypes code) n
-  at-least-two = go (eqb code 2) refl
-    where
-      sized : (a : Bool) → 2 ≤ pick a 16 4
-      sized true = omega arith
-      sized false = omega arith
+-- What a tag has beside its name is its head and its value.
+sized : (t : TagType) (n : ℕ) → ownSize (typeCode t) + textSize (typeCode t) n ≡ 3 + valueSize t n
+sized hashType n = refl
+sized stringType n = omega arith
+sized dwordType n = refl
+sized floatType n = refl
 
-      go : (t : Bool) → eqb code 2 ≡ t → 2 ≤ valueSize (lookup tagTypes code) n
-      go true p = rw (eqb-true code 2 p) (omega arith)
-      go false p = let e = fixed-size (eqb-false code 2 p) in let w = sized (eqb code 1) in omega (arith, e, w)
+sized-by : (t : TagType) (code n : ℕ) → typeCode t ≡ code → ownSize code + textSize code n ≡ 3 + valueSize t n
+sized-by t code n e = rw (← e) (sized t n)
 
-  pub value-there : (s : List ℕ) (at size : ℕ) → n ≡ getD s at 0 + 256 * getD s (at + 1) 0 → size ≡ valueSize (lookup tagTypes code) n →
-      at + size ≤ length s → EndsThere (valueEnds (lookup tagTypes code) s at) (at + size)
-  value-there s at size e is h = inr (rw is (value-ends (lookup tagTypes code) s at n e at-least-two (omega (arith, is, h))))
+pub own-fits : (code : ℕ) → ownSize code ≤ 19
+own-fits code = go (eqb code 2) (eqb code 1)
+  where
+    go : (a b : Bool) → pick a 5 (pick b 19 7) ≤ 19
+    go true b = omega arith
+    go false true = omega arith
+    go false false = omega arith
 
-module _ (s : List ℕ) (at n code : ℕ) (is : code ≡ getD s at 0) (e : n ≡ getD s (at + 1) 0 + 256 * getD s (at + 2) 0)
+pub text-fits : (code n : ℕ) → textSize code n ≤ n
+text-fits code n = go (eqb code 2)
+  where
+    go : (a : Bool) → pick a n 0 ≤ n
+    go true = omega arith
+    go false = omega arith
+
+-- A tag whose type is listed and whose name is lawful and there ends where its value does.
+module _ (s : List ℕ) (at n : ℕ) (t : TagType) (is : typeCode t ≡ getD s at 0) (e : n ≡ getD s (at + 1) 0 + 256 * getD s (at + 2) 0)
     (some-bytes : n ≡ 0 → ⊥) (few : n ≤ 255) (h : at + 3 + n ≤ length s) where
-  -- A tag whose type is listed and whose name is lawful and there ends where its value does.
-  ends-with : (t : TagType) → lookup tagTypes code ≡ some t → {r : ℕ} → ends (decodeValueOf t s (at + 3 + n)) ≡ got tt r → ends (decodeTag s at) ≡ got tt r
+  ends-with : {r : ℕ} → ends (decodeValueOf t s (at + 3 + n)) ≡ got tt r → ends (decodeTag s at) ≡ got tt r
   unfolding ends decodeTag decodeType decodeCode decodeName
-  ends-with t l v =
+  ends-with v =
       let a : at + 1 + 2 ≡ at + 3 = omega arith in
       let b : at + 1 + 1 ≡ at + 2 = omega arith in
       let w = ended-got (decodeValueOf t s (at + 3 + n)) (sym v) in
       rw (
         ← byte-there s at (omega arith),
         ← is,
-        l,
+        listed t,
         ← word-there s (at + 1) (omega arith),
         b,
         ← e,
@@ -100,13 +106,16 @@ module _ (s : List ℕ) (at n code : ℕ) (is : code ≡ getD s at 0) (e : n ≡
       )
       refl
 
-  pub tag-ends : (r : ℕ) → EndsThere (valueEnds (lookup tagTypes code) s (at + 3 + n)) r → EndsThere (ends (decodeTag s at)) r
-  tag-ends r = go (lookup tagTypes code) refl
-    where
-      go : (o : Option TagType) → lookup tagTypes code ≡ o → EndsThere (valueEnds o s (at + 3 + n)) r → EndsThere (ends (decodeTag s at)) r
-      go o l (inl z) = inl z
-      go none l (inr v) = differ cc
-      go (some t) l (inr v) = inr (ends-with t l v)
+-- A tag of such a type and name ends with its bytes.
+pub tag-ends : (s : List ℕ) (at n code : ℕ) → code ≡ getD s at 0 → 0 < code → code ≤ 4 → n ≡ getD s (at + 1) 0 + 256 * getD s (at + 2) 0 → (n ≡ 0 → ⊥) → n ≤ 255 →
+    {own text : ℕ} → own ≡ ownSize code → text ≡ textSize code (getD s (at + 3 + n) 0 + 256 * getD s (at + 3 + n + 1) 0) → at + own + n + text ≤ length s →
+    EndsThere (ends (decodeTag s at)) (at + own + n + text)
+tag-ends s at n code is low high e some-bytes few {own} {text} o x h =
+    let t = typed code low high in
+    let word = getD s (at + 3 + n) 0 + 256 * getD s (at + 3 + n + 1) 0 in
+    let whole : own + text ≡ 3 + valueSize (t .0) word = rw (o, x) (sized-by (t .0) code word (t .1)) in
+    let end : at + 3 + n + valueSize (t .0) word ≡ at + own + n + text = omega (arith, whole) in
+    inr (ends-with s at n (t .0) (t .1 ∙ is) e some-bytes few (omega (arith, h, end)) (rw (← end) (value-ends (t .0) s (at + 3 + n) word refl (omega (arith, h, end)))))
 
 -- What ends there has that offset after it; and what has an offset after it ends there.
 pub ends-behind : {A : Type 0} (o : Outcome A) {r : ℕ} → EndsThere (ends o) r → (r ≡ 0 → ⊥) → r ≡ placeBehind o

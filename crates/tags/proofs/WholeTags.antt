@@ -62,7 +62,7 @@ name-was s at n {name} {next} is e =
 
 -- How many bytes a value has, where it lies.
 abbrev width : TagType → List ℕ → ℕ → ℕ
-width k s at = valueSize (some k) (getD s at 0 + 256 * getD s (at + 1) 0)
+width k s at = valueSize k (getD s at 0 + 256 * getD s (at + 1) 0)
 
 value-spans : (k : TagType) (s : List ℕ) (at : ℕ) {v : TagValue k} {next : ℕ} → decodeValueOf k s at ≡ got v next → (at + width k s at ≤ length s) × (next ≡ at + width k s at)
 unfolding decodeHash decodeString

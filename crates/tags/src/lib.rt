@@ -8,20 +8,18 @@
 ghost use mathlib.Core.Path.{_≡_};
 ghost use mathlib.Core.List.{List};
 ghost use mathlib.Core.Logic.{_↔_};
-ghost use Prim.Native.Nat.{_+_, _*_, _≤_, _<_};
-ghost use lib.ListN.{length, getD};
-ghost use lib.Dec.{eqb};
+ghost use Prim.Native.Nat.{_+_, _*_};
+ghost use lib.ListN.{getD};
 ghost use Rattle.format.specs.Messages as messages;
 ghost use Rattle.format.specs.Messages.{loneTags};
 ghost use Rattle.format.specs.Layout.{encodeTags};
 ghost use Rattle.format.specs.Rules.{Valid};
-ghost use Rattle.format.specs.Tables.{lookup, pick};
 ghost use Rattle.format.specs.Decoding.{decodeMany, ends, got, reply, message};
-ghost use Rattle.format.specs.Order.{decodeDword, decodeType, decodeValue, decodeTag, decodeTags, tagTypes};
+ghost use Rattle.format.specs.Order.{decodeType, decodeValue, decodeTag, decodeTags};
 ghost use Rattle.format.specs.MetOrder.{decode};
 ghost use Rattle.wire.specs.WireAnswers.{itemsMeaning, ItemsStepPlaced, ItemsStepInside};
 ghost use Rattle.tags.specs.TagAnswers.{typeOf, typeMeaning, valueMeaning, ValueStepInside, tagMeaning, TagStepInside, tagListReply, TagListPlaced};
-ghost use Rattle.tags.specs.Skips.{EndsThere, Lies, placeBehind, valueSize, valueEnds};
+ghost use Rattle.tags.specs.Skips.{EndsThere, Lies, ownSize, placeBehind, textSize};
 ghost use Rattle.tags.specs.TagAnswers.{typeFault, valueFault, tagFault};
 use wire::ByteStep;
 use wire::Cursor;
@@ -191,43 +189,51 @@ pub fn read_tag(s: &[u8], c: Cursor) -> TagStep
     )
 }
 
-// To skip tags without their values, most of them need a few tests and no step of the cursor. Each function below answers with the place
-// after what lies whole at a place, or with 0 where its tests do not tell: nothing ends at 0.
+// To skip tags without their values takes a few tests and no step of the cursor. Each function below answers with the offset after what
+// lies whole at an offset, or with 0 where its tests do not tell: nothing ends at 0.
 
-// How many bytes a value has that is no text.
-fn fixed_width(code: u8) -> usize
-    ensures { λ r. ⌜ r ≡ pick (eqb code 1) 16 4 ⌝ }
+// How many bytes a tag has at least beside its name: the type, the length of the name, and the length of a text.
+const LEAST: usize = 5;
+
+// How many bytes a tag has beside its name and a text: as above, with 16 bytes or 4 in place of the length of a text.
+fn own_size(code: u8) -> usize
+    ensures { λ r. ⌜ r ≡ ownSize code ⌝ }
 {
-    if code == 1 { 16 } else { 4 }
+    if code == 2 {
+        return LEAST;
+    }
+    if code == 1 { 19 } else { 7 }
 }
 
-// How many bytes a value has, of which these are the first two: a text has those that they count, and themselves. Both numbers are made
-// before one is chosen, since in a list of many types a jump by the type would be guessed wrong often.
-fn value_size(code: u8, a: u8, b: u8) -> usize
-    requires { ⌜ 0 < code ⌝ }
-    requires { ⌜ code ≤ 4 ⌝ }
-    ensures { λ r. ⌜ r ≡ valueSize (lookup tagTypes code) (a + 256 * b) ⌝ }
+// How many bytes a text has, if the value is one: these are its first two.
+fn text_size(code: u8, a: u8, b: u8) -> usize
+    ensures { λ r. ⌜ r ≡ textSize code (a + 256 * b) ⌝ }
 {
-    let fixed = fixed_width(code);
-    let text = pair(a, b) as usize + 2;
-    if code == 2 { text } else { fixed }
+    if code == 2 { pair(a, b) as usize } else { 0 }
 }
 
-fn dword_end(s: &[u8], at: usize) -> usize
-    requires { ⌜ at ≤ length (now s) ⌝ }
-    ensures { λ r. ⌜ EndsThere (ends (decodeDword (now (s .entry)) at)) r ⌝ }
+// The offset after a tag that is read for the first time. There is no jump by the type or by the length of the name, which in a list of many
+// types and names would be guessed wrong often: the sizes are chosen by conditional moves, and every test fails for a refused tag alone. The
+// bytes of a text are added last, since their number is known last.
+fn tag_end(s: &[u8], at: usize) -> usize
+    ensures { λ r. ⌜ EndsThere (ends (decodeTag (now (s .entry)) at)) r ⌝ }
 {
-    if s.len() - at < 4 { 0 } else { at + 4 }
-}
-
-// A value, by the code of its type. A client writes its tags in the same order again and again, most of them DWORDs: the processor guesses
-// that jump right, and begins the next tag before it has read this one.
-fn value_end(s: &[u8], at: usize, code: u8) -> usize
-    requires { ⌜ at ≤ length (now s) ⌝ }
-    ensures { λ r. ⌜ EndsThere (valueEnds (lookup tagTypes code) (now (s .entry)) at) r ⌝ }
-{
-    if code == 3 {
-        return dword_end(s, at);
+    if s.len() < LEAST {
+        return 0;
+    }
+    if s.len() - LEAST < at {
+        return 0;
+    }
+    let code = s[at];
+    let name_len = s[at + 1] as usize;
+    if s.len() - LEAST - at < name_len {
+        return 0;
+    }
+    if s[at + 2] != 0 {
+        return 0;
+    }
+    if name_len == 0 {
+        return 0;
     }
     if code == 0 {
         return 0;
@@ -235,45 +241,13 @@ fn value_end(s: &[u8], at: usize, code: u8) -> usize
     if 4 < code {
         return 0;
     }
-    let room = s.len() - at;
-    if room < 2 {
+    let value = at + 3 + name_len;
+    let before_text = at + own_size(code) + name_len;
+    let end = before_text + text_size(code, s[value], s[value + 1]);
+    if s.len() < end {
         return 0;
     }
-    let size = value_size(code, s[at], s[at + 1]);
-    if room < size {
-        return 0;
-    }
-    at + size
-}
-
-// Most names have one byte. Where that is guessed right, the place of the value is known before the length of the name is.
-fn tag_end(s: &[u8], at: usize) -> usize
-    ensures { λ r. ⌜ EndsThere (ends (decodeTag (now (s .entry)) at)) r ⌝ }
-{
-    if s.len() < 4 {
-        return 0;
-    }
-    if s.len() - 4 < at {
-        return 0;
-    }
-    let high = s[at + 2];
-    if high != 0 {
-        return 0;
-    }
-    let low = s[at + 1];
-    let code = s[at];
-    if low == 1 {
-        return value_end(s, at + 4, code);
-    }
-    if low == 0 {
-        return 0;
-    }
-    let n = low as usize;
-    let name = at + 3;
-    if s.len() - name < n {
-        return 0;
-    }
-    value_end(s, name + n, code)
+    end
 }
 
 // The offset after the whole tag at `at`, whose name has `name_len` bytes.
