@@ -13,6 +13,25 @@ ghost use Rattle.format.specs.Layout.{byte, word, dword, encodeString};
 ghost use Rattle.format.specs.Tables.{pick, same};
 ghost use Rattle.format.specs.Writing.{overwritten};
 
+// Numbers of document 01 that code returns where no reading reports a broken rule. 0 is an accepted call.
+pub const SHORT: u8 = 1;
+
+pub const OPENING: u8 = 2;
+
+pub const KIND: u8 = 4;
+
+pub const CHOICE: u8 = 5;
+
+pub const LIMIT: u8 = 6;
+
+pub const REST: u8 = 7;
+
+pub const RANGE: u8 = 8;
+
+pub const ROOM: u8 = 10;
+
+pub const CONFLICT: u8 = 11;
+
 // The answer of a call that writes: 0 and how many bytes were written at the front of the output; or the number of the refusal, and 0.
 pub struct WriteAnswer {
     pub number: u8,
