@@ -1,9 +1,12 @@
 -- The answer to a write, once the number and the finished bytes are known: one law for messages and for single items.
 use Prim.Native.Nat.{ℕ, _≤_, _<_}
-use mathlib.Core.Path.{_≡_, sym, subst}
+use mathlib.Core.Path.{_≡_, refl, sym, subst}
+use mathlib.Core.Bool.{Bool, true, false}
 use mathlib.Core.List.{List}
 use lib.ListN.{length}
-use borrow.Author.Tests.{le-leb, lt-leb}
+use lib.Dec.{eqb}
+use borrow.Author.Tests.{eq-eqb, eqb-false, eqb-true, le-leb, lt-leb, ne-eqb}
+use Rattle.format.specs.Tables.{pick}
 use Rattle.format.specs.Messages.{Kind, Message}
 use Rattle.format.specs.Layout as layout
 use Rattle.format.specs.Rules.{Bytes}
@@ -13,6 +16,7 @@ use Rattle.format.specs.RoundTrip.{IsThere, RoundTrip, WritesAt, absent, presen
 use Rattle.format.proofs.RoundTrip.{round-trip}
 use Rattle.write_items.specs.Item as item
 use Rattle.write_items.specs.Item.{ItemJudged, WritesItem}
+use Rattle.write_items.specs.Numbers.{tried}
 
 -- What is owed is `W`, `n` is the number that code works out before it checks the room, and these are the finished bytes.
 pub record Ready (W : List ℕ → Written → Type 0) (n : ℕ) (bytes : List ℕ) (size : ℕ) : Type 0 where
@@ -30,6 +34,18 @@ module _ {W : List ℕ → Written → Type 0} (output : List ℕ) {n : ℕ} {by
 
     pub written : size ≤ length output → W output (record { number = 0; length = size; output = overwritten bytes output })
     written h = rw (← r .sized) (rw (le-leb (length bytes) (length output) (rw (r .sized) h)) at (r .tries output none))
+
+  -- A function that promises the write that it works out serves every writer that owes W.
+  pub as-tried : {w : Written} → w ≡ tried n bytes output → W output w
+  as-tried e = rw e (go (eqb n 0) refl)
+    where
+      go : (t : Bool) → eqb n 0 ≡ t → W output (pick t (writtenInto bytes output) (unwritten n output))
+      go true e = r .tries output (eqb-true n 0 e)
+      go false e = r .refuses output (eqb-false n 0 e)
+
+pub tried-ready : {n : ℕ} (bytes : List ℕ) {size : ℕ} → length bytes ≡ size → Ready (λ output w. w ≡ tried n bytes output) n bytes size
+tried-ready {n} bytes sized =
+    record { refuses = λ output some. rw (ne-eqb n 0 some) refl; tries = λ output none. rw (eq-eqb n 0 none) refl; sized = sized }
 
 -- Both promises of a writer of messages.
 abbrev pub Promised : (k : Kind) → Outcome (Unit {0}) → Message k → List ℕ → Written → Type 0

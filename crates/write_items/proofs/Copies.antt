@@ -58,9 +58,15 @@ module _ (k : Kind) {encoded : Message k → List ℕ} {Right : Message k → Ty
       let number = subst (λ n. Judged k m (ceilingNumber n 0)) (ap length (sym same) ∙ all) judged in
       record { order = omega (arith, l .end); size = size; ready = message-ready there number same (bytes-append own bytes ho (bytes-part s hs at (end - at))) all }
 
+-- What the writers of a query and of a tag list copy, as far as the offset `end` that their reading gives.
+abbrev pub QueryCopies : List ℕ → Query → ℕ → Type 0
+QueryCopies s q end = Copies (Promised loneQuery (ends (decodeQuery s (q .at))) (queryIn s q)) s (q .at) end [] (end - q .at)
+
+abbrev pub ListCopies : List ℕ → Items → ℕ → Type 0
+ListCopies s l end = Copies (Promised loneTags (itemsThere decodeTag s l) (itemsIn decodeTag s l)) s (l .at) end (dword (l .count)) (4 + (end - l .at))
+
 module _ (s : List ℕ) (hs : Bytes s) where
-  pub query-copies : (q : Query) {m : messages.Query} {end : ℕ} → got m end ≡ decodeQuery s (q .at) →
-      Copies (Promised loneQuery (ends (decodeQuery s (q .at))) (queryIn s q)) s (q .at) end [] (end - q .at)
+  pub query-copies : (q : Query) {m : messages.Query} {end : ℕ} → got m end ≡ decodeQuery s (q .at) → QueryCopies s q end
   unfolding ends
   query-copies q {m} {end} e =
       let l = lies codec-query query-needed s hs (q .at) (sym e) in
@@ -68,8 +74,7 @@ module _ (s : List ℕ) (hs : Bytes s) where
       (lies-copies loneQuery m s hs refl l [] (end - q .at) refl tt (omega arith)
       (ceiling-judged loneQuery m 0 (query-fits m (l .valid .0)) (λ few. valid-judged loneQuery m (record { content = l .valid; few = few }))))
 
-  pub list-copies : (l : Items) → Dword (l .count) → {end : ℕ} → got tt end ≡ itemsThere decodeTag s l →
-      Copies (Promised loneTags (itemsThere decodeTag s l) (itemsIn decodeTag s l)) s (l .at) end (dword (l .count)) (4 + (end - l .at))
+  pub list-copies : (l : Items) → Dword (l .count) → {end : ℕ} → got tt end ≡ itemsThere decodeTag s l → ListCopies s l end
   unfolding encodeTags
   list-copies l small {end} e =
       let o = decodeMany (l .count) decodeTag s (l .at) in

@@ -226,6 +226,9 @@ module _ (o : Operator) (a b : List ℕ) where
   abbrev JoinPromised : Answer Query → Answer Query → List ℕ → Written → Type 0
   JoinPromised x y output w = Promised loneQuery (sidesThere x y) (joinOf o x y) output w
 
+  abbrev pub JoinReady : (number : ℕ) → Type 0
+  JoinReady number = Ready (JoinPromised (decode loneQuery a) (decode loneQuery b)) number joined (2 + length a + length b)
+
   -- A side that is no lone query has its own number.
   pub left-refused : (output : List ℕ) {n : ℕ} → refusedWith n ≡ reply (decode loneQuery a) → JoinPromised (decode loneQuery a) (decode loneQuery b) output (unwritten n output)
   left-refused output e = go (decode loneQuery a) e
@@ -250,8 +253,7 @@ module _ (o : Operator) (a b : List ℕ) where
     number-same : joinNumber (length (encodeQuery (join o q r))) (depth (join o q r)) ≡ joinNumber (2 + length a + length b) (suc (max d e))
     number-same = rw (← join-bytes, join-size, join-depth o q r, h .deep, k .deep) refl
 
-    pub join-ready : {n : ℕ} → n ≡ joinNumber (2 + length a + length b) (suc (max d e)) →
-        Ready (JoinPromised (decode loneQuery a) (decode loneQuery b)) n joined (2 + length a + length b)
+    pub join-ready : {n : ℕ} → n ≡ joinNumber (2 + length a + length b) (suc (max d e)) → JoinReady n
     join-ready {n} same =
         let judged : Judged loneQuery (join o q r) n =
         rw (same, ← number-same) (join-judged o q r (accepts loneQuery a ha q .0 (h .is) .1) (accepts loneQuery b hb r .0 (k .is) .1)) in

@@ -136,23 +136,24 @@ string-bytes t h = bytes-append (word (length t)) t (bytes-littleEndian 2 (lengt
 name-bytes : (n : List ℕ) → Bytes n → Bytes (encodeName n)
 name-bytes n h = rw (name-string n) (string-bytes n h)
 
+-- What the writer of a query from its pieces owes.
+abbrev pub QueryReady : (number : ℕ) → Query → (size : ℕ) → Type 0
+QueryReady number q size = Ready (Promised loneQuery noPlaces q) number (encodeQuery q) size
+
 module _ {number : ℕ} where
-  pub keyword-ready : (t : List ℕ) → Bytes t → number ≡ keywordNumber (length t) →
-      Ready (Promised loneQuery noPlaces (keyword t)) number (encodeQuery (keyword t)) (3 + length t)
+  pub keyword-ready : (t : List ℕ) → Bytes t → number ≡ keywordNumber (length t) → QueryReady number (keyword t) (3 + length t)
   unfolding encodeQuery
   keyword-ready t ht e =
       let bytes = bytes-append (byte 1) _ (bytes-littleEndian 1 1) (string-bytes t ht) in
       message-ready refl (rw e (keyword-judged t ht)) refl bytes (keyword-size t)
 
-  pub field-ready : (t n : List ℕ) → Bytes t → Bytes n → number ≡ fieldNumber (length t) (length n) →
-      Ready (Promised loneQuery noPlaces (field t n)) number (encodeQuery (field t n)) (5 + length t + length n)
+  pub field-ready : (t n : List ℕ) → Bytes t → Bytes n → number ≡ fieldNumber (length t) (length n) → QueryReady number (field t n) (5 + length t + length n)
   unfolding encodeQuery
   field-ready t n ht hn e =
       let bytes = bytes-append (byte 2) _ (bytes-littleEndian 1 2) (bytes-append (encodeString t) (encodeName n) (string-bytes t ht) (name-bytes n hn)) in
       message-ready refl (rw e (field-judged t n ht hn)) refl bytes (field-size t n)
 
-  pub limit-ready : (v : ℕ) (b : Bound) (n : List ℕ) → Dword v → Bytes n → number ≡ limitNumber (length n) →
-      Ready (Promised loneQuery noPlaces (limit v b n)) number (encodeQuery (limit v b n)) (8 + length n)
+  pub limit-ready : (v : ℕ) (b : Bound) (n : List ℕ) → Dword v → Bytes n → number ≡ limitNumber (length n) → QueryReady number (limit v b n) (8 + length n)
   unfolding encodeQuery
   limit-ready v b n hv hn e =
       let named = bytes-append (byte (boundCode b)) (encodeName n) (bytes-littleEndian 1 (boundCode b)) (name-bytes n hn) in

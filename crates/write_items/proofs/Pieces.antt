@@ -62,6 +62,10 @@ limit-size v b n =
 pub head-size : (code : ℕ) (n : List ℕ) → length (byte code ++ encodeName n) ≡ 3 + length n
 head-size code n = omega (arith, length-append (byte code) (encodeName n), length-littleEndian 1 code, length-name n)
 
+pub number-tag-size : (code : ℕ) (n : List ℕ) (v : ℕ) → length (byte code ++ (encodeName n ++ dword v)) ≡ 7 + length n
+number-tag-size code n v =
+    omega (arith, length-append (byte code) (encodeName n ++ dword v), length-append (encodeName n) (dword v), length-littleEndian 1 code, length-name n, length-littleEndian 4 v)
+
 -- Lengths of pieces with no fault.
 or-six : (t : Bool) (next : ℕ) → pick t next 6 ≡ 0 → (t ≡ true) × (next ≡ 0)
 or-six true next e = (refl, e)

@@ -1,10 +1,12 @@
 -- What the functions of this crate work out for the writers. No contract of a public function cites these: proofs/Leaves, Joins and Items
 -- show that they are the numbers of the format.
 use Prim.Native.Nat.{ℕ, _+_}
+use mathlib.Core.List.{List}
 use lib.Dec.{eqb, leb}
 use Rattle.format.specs.Tables.{pick}
 use Rattle.format.specs.Layout.{boundCode, operatorCode}
 use Rattle.format.specs.Rules.{depthLimit, nameLimit, packetCeiling}
+use Rattle.format.specs.Writing.{Written, unwritten, writtenInto}
 use Rattle.query.specs.declared.Bound.{Bound}
 use Rattle.query.specs.declared.Operator.{Operator}
 use Rattle.query.specs.declared.QueryAnswer.{QueryAnswer}
@@ -48,3 +50,7 @@ operatorByte o = operatorCode (operatorOf o)
 abbrev pub answerNumber : QueryAnswer → ℕ
 answerNumber (QueryAnswer.Accepted q) = 0
 answerNumber (QueryAnswer.Refused n) = n
+
+-- The write of finished bytes that have this number.
+abbrev pub tried : ℕ → List ℕ → List ℕ → Written
+tried number bytes output = pick (eqb number 0) (writtenInto bytes output) (unwritten number output)
