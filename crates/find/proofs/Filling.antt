@@ -19,12 +19,12 @@ pub record Filling (part table : List ℕ) (start matched sample : ℕ) : Type 0
   pub next : 0 < sample
   pub reach : start + matched ≤ 8 * sample
   pub most : 8 * sample ≤ length part + 8
-  pub entries : length table ≡ 8192
+  pub entries : length part < 8 * length table
   pub agrees : Agrees part part start matched
   pub passed : Passed part part (λ d. 8 * sample - d) 1 start
   pub samples : Samples part table (8 * sample - 1)
 
-pub fill-first : (p table : List ℕ) → length table ≡ 8192 → Filling p table 1 0 1
+pub fill-first : (p table : List ℕ) → length p < 8 * length table → Filling p table 1 0 1
 fill-first p table e =
     record {
       some = omega arith;
@@ -47,14 +47,14 @@ module _ (p table : List ℕ) (start matched sample : ℕ) (now : Filling p tabl
         least = λ d h k. now .passed d (omega arith) k;
       }
 
-  pub fill-entry : start + matched ≡ 8 * sample → sample < 8192 → 8 * sample ≤ length p → Filling p (set table sample start) start matched (sample + 1)
+  pub fill-entry : start + matched ≡ 8 * sample → sample < length table → 8 * sample ≤ length p → Filling p (set table sample start) start matched (sample + 1)
   fill-entry e h l =
       record {
         some = now .some;
         next = omega arith;
         reach = omega arith;
         most = omega arith;
-        entries = length-set table sample start ∙ now .entries;
+        entries = simp length-set (now .entries);
         agrees = now .agrees;
         passed = λ d f g b. now .passed d f g (λ i q. b i (omega arith));
         samples = entered;

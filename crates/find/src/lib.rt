@@ -2,14 +2,15 @@
 //
 // A short part, or a part in a short text, is compared at each offset: at most 18 comparisons for each byte of the text. Any other
 // part is looked for by the method of Knuth, Morris and Pratt, with a table that samples every eighth length, so that the table for
-// a part of 65,535 bytes takes 16 KiB of the stack. The measures of the two loops bound their turns: fewer than 10 for each byte of
+// a part of 65,535 bytes takes 16 KiB of the stack. A part below 1,024 bytes has a table of 256 bytes, since clearing the long one
+// would cost more than the search in a short text. The measures of the two loops bound their turns: fewer than 10 for each byte of
 // the part to fill the table, and fewer than 10 for each byte of the text to search by it. A part of more than 65,535 bytes is
 // compared at each offset, which is not linear: no String has one.
 //
 // specs/Shifts.antt says what the table holds.
 ghost use mathlib.Core.Path.{_≡_};
 ghost use mathlib.Core.Bool.{true, false};
-ghost use Prim.Native.Nat.{_+_, _≤_, _<_};
+ghost use Prim.Native.Nat.{_+_, _*_, _≤_, _<_};
 ghost use lib.ListN.{length};
 ghost use Rattle.format.specs.Truth.{occurs};
 ghost use Rattle.find.specs.Shifts.{Agrees, Decides, Samples, Moves};
@@ -17,10 +18,14 @@ ghost use Rattle.find.specs.Shifts.{Agrees, Decides, Samples, Moves};
 // Entry k of the table is for the length SAMPLE * k.
 const SAMPLE: usize = 8;
 
+// The entries of a table, and the longest part that they serve: one byte fewer than SAMPLE for each.
 const SAMPLES: usize = 8192;
 
-// The longest part that the table serves: SAMPLE * SAMPLES - 1.
 const LONGEST_PART: usize = 65535;
+
+const FEW_SAMPLES: usize = 128;
+
+const MEDIUM_PART: usize = 1023;
 
 // Up to either of these lengths no table is made.
 const SHORT_PART: usize = 16;
@@ -71,8 +76,8 @@ struct Move {
 
 // The move after `matched` bytes that agree and one that does not. The length is rounded down to a sampled one, so that at most 7
 // bytes are compared again.
-fn after_mismatch(part: &[u8], table: &[u16; SAMPLES], matched: usize) -> Move
-    requires { ⌜ (matched < 65536) × Samples (now part) (now table) matched ⌝ }
+fn after_mismatch(part: &[u8], table: &[u16], matched: usize) -> Move
+    requires { ⌜ (matched < 65536) × (matched < 8 * length (now table)) × Samples (now part) (now table) matched ⌝ }
     ensures { λ r. ⌜ Moves (now (part .entry)) matched (r .shift) (r .kept) ⌝ }
 {
     if matched < SAMPLE {
@@ -80,16 +85,14 @@ fn after_mismatch(part: &[u8], table: &[u16; SAMPLES], matched: usize) -> Move
     }
     let sample = matched / SAMPLE;
     let shift = table[sample] as usize;
-    Move {
-        shift,
-        kept: SAMPLE * sample - shift,
-    }
+    let kept = SAMPLE * sample - shift;
+    Move { shift, kept }
 }
 
 // Fills the table: the part is looked for in itself, from offset 1 on. Where the bytes that agree first end at a sampled length, the
 // offset is the least shift of that length.
-fn fill_table(part: &[u8], table: &mut [u16; SAMPLES])
-    requires { ⌜ (length (now part) < 65536) × (length (now table) ≡ 8192) ⌝ }
+fn fill_table(part: &[u8], table: &mut [u16])
+    requires { ⌜ (length (now part) < 65536) × (length (now part) < 8 * length (now table)) ⌝ }
     ensures { λ r. ⌜ Samples (now (part .entry)) (now (table .exit)) (length (now (part .entry))) ⌝ }
 {
     let mut start = 1;
@@ -112,8 +115,8 @@ fn fill_table(part: &[u8], table: &mut [u16; SAMPLES])
 }
 
 // Searches the text by the table of the part.
-fn search_by_table(text: &[u8], part: &[u8], table: &[u16; SAMPLES]) -> bool
-    requires { ⌜ (length (now part) < 65536) × (length (now part) ≤ length (now text)) ⌝ }
+fn search_by_table(text: &[u8], part: &[u8], table: &[u16]) -> bool
+    requires { ⌜ (length (now part) < 65536) × (length (now part) ≤ length (now text)) × (length (now part) < 8 * length (now table)) ⌝ }
     requires { ⌜ Samples (now part) (now table) (length (now part)) ⌝ }
     ensures { λ r. ⌜ r ≡ occurs (now (part .entry)) (now (text .entry)) ⌝ }
 {
@@ -135,9 +138,19 @@ fn search_by_table(text: &[u8], part: &[u8], table: &[u16; SAMPLES]) -> bool
     false
 }
 
-// Makes the table, which has a function of its own so that a short case does not clear it.
+// The tables are made by functions of their own, so that a shorter case does not clear them.
+
+fn search_medium(text: &[u8], part: &[u8]) -> bool
+    requires { ⌜ (length (now part) ≤ 1023) × (length (now part) ≤ length (now text)) ⌝ }
+    ensures { λ r. ⌜ r ≡ occurs (now (part .entry)) (now (text .entry)) ⌝ }
+{
+    let mut table = [0; FEW_SAMPLES];
+    fill_table(part, &mut table);
+    search_by_table(text, part, &table)
+}
+
 fn search_long(text: &[u8], part: &[u8]) -> bool
-    requires { ⌜ (length (now part) < 65536) × (length (now part) ≤ length (now text)) ⌝ }
+    requires { ⌜ (length (now part) ≤ 65535) × (length (now part) ≤ length (now text)) ⌝ }
     ensures { λ r. ⌜ r ≡ occurs (now (part .entry)) (now (text .entry)) ⌝ }
 {
     let mut table = [0; SAMPLES];
@@ -157,6 +170,9 @@ pub fn contains(text: &[u8], part: &[u8]) -> bool
     }
     if part.len() <= SHORT_PART || text.len() <= SHORT_TEXT || LONGEST_PART < part.len() {
         return search_each(text, part);
+    }
+    if part.len() <= MEDIUM_PART {
+        return search_medium(text, part);
     }
     search_long(text, part)
 }

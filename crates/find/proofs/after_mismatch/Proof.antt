@@ -12,29 +12,29 @@ returns c = search needs
 mul-shift : tie.Need-mul-shift
 mul-shift c = search needs
 
-element-copy-out-shift : tie.Need-element-copy-out-shift
-element-copy-out-shift c = search needs
+shared-slice-read-shift : tie.Need-shared-slice-read-shift
+shared-slice-read-shift c = search needs
 
 cast-shift : tie.Need-cast-shift
 cast-shift c =
     let b = c .before .before in
-    omega (arith, b .pre .1 (b .args .matched / 8) (omega arith) (omega arith) .within)
+    omega (arith, b .pre .2 (b .args .matched / 8) (omega arith) (omega arith) .within)
 
-mul-t7 : tie.Need-mul-t7
-mul-t7 c = search needs
+mul-kept : tie.Need-mul-kept
+mul-kept c = search needs
 
-sub-t11 : tie.Need-sub-t11
-sub-t11 c =
+sub-kept : tie.Need-sub-kept
+sub-kept c =
     let b = c .before .before in
-    b .pre .1 (b .args .matched / 8) (omega arith) (omega arith) .within
+    b .pre .2 (b .args .matched / 8) (omega arith) (omega arith) .within
 
 returns-2 : tie.Need-returns-2
 returns-2 c =
     let b = c .before .before in
     let sample = b .args .matched / 8 in
-    rounded _ (b .args .matched) sample _ (omega arith) (omega arith) (b .pre .1 sample (omega arith) (omega arith))
+    rounded _ (b .args .matched) sample _ (omega arith) (omega arith) (b .pre .2 sample (omega arith) (omega arith))
 
 pub after-mismatch-spec : {M : Type 1} → statement M
 after-mismatch-spec =
     tie.close
-    (tie.spec returns mul-shift element-copy-out-shift cast-shift mul-t7 sub-t11 returns-2)
+    (tie.spec returns mul-shift shared-slice-read-shift cast-shift mul-kept sub-kept returns-2)

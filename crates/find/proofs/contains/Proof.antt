@@ -16,12 +16,27 @@ search-each-requires c κs = search needs
 returns-3 : tie.Need-returns-3
 returns-3 c = search needs
 
-search-long-requires : tie.Need-search-long-requires
-search-long-requires c κs = search needs
+search-medium-requires : tie.Need-search-medium-requires
+search-medium-requires c κs = search needs
 
 returns-4 : tie.Need-returns-4
 returns-4 c = search needs
 
+search-long-requires : tie.Need-search-long-requires
+search-long-requires c κs = search needs
+
+returns-5 : tie.Need-returns-5
+returns-5 c = search needs
+
 pub contains-spec : {M : Type 1} → statement M
 contains-spec =
-    tie.close (tie.spec returns returns-2 search-each-requires returns-3 search-long-requires returns-4)
+    tie.close
+    (tie.spec
+    returns
+    returns-2
+    search-each-requires
+    returns-3
+    search-medium-requires
+    returns-4
+    search-long-requires
+    returns-5)

@@ -44,7 +44,7 @@ loop-again c = search-more _ _ _ _ (c .before .before .before .before .before .l
 after-mismatch-requires : tie.Need-after-mismatch-requires Inv-loop μ-loop
 after-mismatch-requires c κs =
     let l = c .before .before .before .before .before in
-    (omega arith, λ k h m. l .before .before .before .pre .1 k h (omega arith))
+    (omega arith, omega arith, λ k h m. l .before .before .before .before .pre .1 k h (omega arith))
 
 add-start : tie.Need-add-start Inv-loop μ-loop
 add-start c = search needs
