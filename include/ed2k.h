@@ -343,7 +343,8 @@ uint8_t ed2k_save(const uint8_t *stored, size_t stored_length, const uint8_t *op
                   size_t saved_length, uint8_t *output, size_t room, size_t *written);
 
 /* Whether a lone query holds on a lone tag list: `truth` takes 0 or 1, and 0 where the call refuses. The query's refusals come before
- * the list's. The cost is that of each leaf on each tag: leaves times tags times the bytes of their texts. */
+ * the list's. Each leaf that is asked scans the list once, in time linear in the bytes of the list, so the cost is at most the leaves
+ * times the bytes of the list; a side of an operator that cannot change the truth is skipped. */
 uint8_t ed2k_truth(const uint8_t *query, size_t query_length, const uint8_t *tags, size_t tags_length, uint8_t *truth);
 
 /* A lone query from its pieces: 6 for a text above 65,535 bytes or too many bytes, 5 and 6 for a name of 0 or above 255 bytes. */

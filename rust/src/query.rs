@@ -164,7 +164,8 @@ pub fn read_query(bytes: &[u8]) -> Result<Query<'_>, Refusal> {
     Values::read(Kind::Query, bytes).map(|mut values| Query::from_values(&mut values))
 }
 
-/// Whether a lone query holds on a lone tag list. The query's refusals come before the list's.
+/// Whether a lone query holds on a lone tag list. The query's refusals come before the list's. It
+/// costs at most the leaves of the query times the bytes of the list.
 ///
 /// ```
 /// use ed2k::write::{self, TagList};
