@@ -12,8 +12,9 @@ use lib.Dec.{eqb}
 use Rattle.format.specs.Tables.{lookup, pick}
 use Rattle.format.specs.Messages.{TagType, dwordType, floatType, hashType, stringType}
 use Rattle.format.specs.Layout.{typeCode}
-use Rattle.format.specs.Decoding.{Outcome, decodeRun, ends, got, refused}
+use Rattle.format.specs.Decoding.{Outcome, andThen, decodeRun, ends, got, pure, refused}
 use Rattle.format.specs.Order.{decodeCode, decodeDword, decodeHash, decodeName, decodeString, decodeTag, decodeType, decodeValueOf, tagTypes}
+use Rattle.format.proofs.Codec.{never}
 use Rattle.format.proofs.There.{byte-there, dword-there, run-there, value-is, word-there}
 use Rattle.wire.proofs.Loops.{ended-got}
 use Rattle.tags.specs.Skips.{EndsThere, ownSize, placeBehind, textSize, valueSize}
@@ -108,13 +109,13 @@ module _ (s : List ℕ) (at n : ℕ) (t : TagType) (is : typeCode t ≡ getD s a
 
 -- A tag of such a type and name ends with its bytes.
 pub tag-ends : (s : List ℕ) (at n code : ℕ) → code ≡ getD s at 0 → 0 < code → code ≤ 4 → n ≡ getD s (at + 1) 0 + 256 * getD s (at + 2) 0 → (n ≡ 0 → ⊥) → n ≤ 255 →
-    {own text : ℕ} → own ≡ ownSize code → text ≡ textSize code (getD s (at + 3 + n) 0 + 256 * getD s (at + 3 + n + 1) 0) → at + own + n + text ≤ length s →
-    EndsThere (ends (decodeTag s at)) (at + own + n + text)
+    {own text : ℕ} → own ≡ ownSize code → text ≡ textSize code (getD s (at + 3 + n) 0 + 256 * getD s (at + 3 + n + 1) 0) → at + n + own + text ≤ length s →
+    EndsThere (ends (decodeTag s at)) (at + n + own + text)
 tag-ends s at n code is low high e some-bytes few {own} {text} o x h =
     let t = typed code low high in
     let word = getD s (at + 3 + n) 0 + 256 * getD s (at + 3 + n + 1) 0 in
     let whole : own + text ≡ 3 + valueSize (t .0) word = rw (o, x) (sized-by (t .0) code word (t .1)) in
-    let end : at + 3 + n + valueSize (t .0) word ≡ at + own + n + text = omega (arith, whole) in
+    let end : at + 3 + n + valueSize (t .0) word ≡ at + n + own + text = omega (arith, whole) in
     inr (ends-with s at n (t .0) (t .1 ∙ is) e some-bytes few (omega (arith, h, end)) (rw (← end) (value-ends (t .0) s (at + 3 + n) word refl (omega (arith, h, end)))))
 
 -- What ends there has that offset after it; and what has an offset after it ends there.
@@ -126,3 +127,15 @@ pub behind-ends : {A : Type 0} (o : Outcome A) {r : ℕ} → r ≡ placeBehind o
 unfolding ends
 behind-ends (refused f) e = inl e
 behind-ends (got a next) e = inr (ap (got tt) (sym e))
+
+-- An offset that is not 0 is where it ends.
+pub told : {o : Outcome (Unit {0})} {r : ℕ} → EndsThere o r → (r ≡ 0 → ⊥) → got tt r ≡ o
+told (inl z) other = absurd (other z)
+told (inr e) other = sym e
+
+-- What ends with an item ends where the item does.
+pub ends-after : {A B : Type 0} (s : List ℕ) (o : Outcome A) (f : A → B) {r : ℕ} → EndsThere (ends o) r → EndsThere (ends (andThen s o (λ a. pure (f a)))) r
+unfolding ends
+ends-after s o f (inl z) = inl z
+ends-after s (refused x) f (inr e) = absurd (never e)
+ends-after s (got a next) f (inr e) = inr e

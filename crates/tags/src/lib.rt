@@ -1,8 +1,8 @@
 // Tags and tag lists.
 //
-// A tag is a type byte, a name and a value; a tag list is a DWORD count and the tags. The readers copy nothing: a name, a
-// text and a hash are places in the lent bytes, and a list is the place of its tags and how many they are. A caller goes
-// through a list by `read_tag` from that place on, which answers with the cursor after each tag.
+// A tag is a type byte, a name and a value; a tag list is a DWORD count and the tags. The readers copy nothing: a name and a
+// text are byte ranges of the lent bytes, a hash is the offset of its bytes, and a list is the range of its tags and their
+// number. A caller scans a list by `read_tag` from its start on, which returns the cursor after each tag.
 //
 // specs/TagAnswers.antt says what each answer stands for.
 ghost use mathlib.Core.Path.{_≡_};
@@ -28,6 +28,7 @@ use wire::Fault;
 use wire::HashStep;
 use wire::Items;
 use wire::ItemsStep;
+use wire::PACKET_CEILING;
 use wire::Place;
 use wire::PlaceStep;
 use wire::Rule;
@@ -42,7 +43,7 @@ pub enum TagType {
     Float,
 }
 
-// The value of a tag. A hash is the place of its 16 bytes; a FLOAT is kept as its bits.
+// The value of a tag. A hash is the offset of its 16 bytes; a FLOAT is kept as its bits.
 pub enum TagValue {
     Hash(usize),
     Text(Place),
@@ -109,9 +110,9 @@ impl TagStep {
 pub fn read_type(s: &[u8], c: Cursor) -> TypeStep
     ensures { λ r. ⌜ typeMeaning r ≡ decodeType (now (s .entry)) (c .at) ⌝ }
 {
-    let b = c.byte(s);
-    let ByteStep::Got(code, next) = b else {
-        return TypeStep::Refused(b.fault());
+    let code_step = c.byte(s);
+    let ByteStep::Got(code, next) = code_step else {
+        return TypeStep::Refused(code_step.fault());
     };
     match code {
         1 => TypeStep::Got(TagType::Hash, next),
@@ -133,30 +134,30 @@ pub fn read_value(s: &[u8], c: Cursor, tag_type: TagType) -> ValueStep
 {
     match tag_type {
         TagType::Hash => {
-            let h = c.hash(s);
-            let HashStep::Got(at, next) = h else {
-                return ValueStep::Refused(h.fault());
+            let hash_step = c.hash(s);
+            let HashStep::Got(at, next) = hash_step else {
+                return ValueStep::Refused(hash_step.fault());
             };
             ValueStep::Got(TagValue::Hash(at), next)
         }
         TagType::Text => {
-            let p = c.string(s);
-            let PlaceStep::Got(text, next) = p else {
-                return ValueStep::Refused(p.fault());
+            let text_step = c.string(s);
+            let PlaceStep::Got(text, next) = text_step else {
+                return ValueStep::Refused(text_step.fault());
             };
             ValueStep::Got(TagValue::Text(text), next)
         }
         TagType::Dword => {
-            let d = c.dword(s);
-            let DwordStep::Got(n, next) = d else {
-                return ValueStep::Refused(d.fault());
+            let dword_step = c.dword(s);
+            let DwordStep::Got(value, next) = dword_step else {
+                return ValueStep::Refused(dword_step.fault());
             };
-            ValueStep::Got(TagValue::Dword(n), next)
+            ValueStep::Got(TagValue::Dword(value), next)
         }
         TagType::Float => {
-            let d = c.dword(s);
-            let DwordStep::Got(bits, next) = d else {
-                return ValueStep::Refused(d.fault());
+            let bits_step = c.dword(s);
+            let DwordStep::Got(bits, next) = bits_step else {
+                return ValueStep::Refused(bits_step.fault());
             };
             ValueStep::Got(TagValue::Float(bits), next)
         }
@@ -167,17 +168,17 @@ pub fn read_tag(s: &[u8], c: Cursor) -> TagStep
     ensures { λ r. ⌜ tagMeaning (now (s .entry)) r ≡ decodeTag (now (s .entry)) (c .at) ⌝ }
     ensures inside { λ r. ⌜ TagStepInside (now (s .entry)) r ⌝ }
 {
-    let t = read_type(s, c);
-    let TypeStep::Got(tag_type, after_type) = t else {
-        return TagStep::Refused(t.fault());
+    let type_step = read_type(s, c);
+    let TypeStep::Got(tag_type, after_type) = type_step else {
+        return TagStep::Refused(type_step.fault());
     };
-    let n = after_type.name(s);
-    let PlaceStep::Got(name, after_name) = n else {
-        return TagStep::Refused(n.fault());
+    let name_step = after_type.name(s);
+    let PlaceStep::Got(name, after_name) = name_step else {
+        return TagStep::Refused(name_step.fault());
     };
-    let v = read_value(s, after_name, tag_type);
-    let ValueStep::Got(value, next) = v else {
-        return TagStep::Refused(v.fault());
+    let value_step = read_value(s, after_name, tag_type);
+    let ValueStep::Got(value, next) = value_step else {
+        return TagStep::Refused(value_step.fault());
     };
     TagStep::Got(
         Tag {
@@ -189,44 +190,63 @@ pub fn read_tag(s: &[u8], c: Cursor) -> TagStep
     )
 }
 
-// To skip tags without their values takes a few tests and no step of the cursor. Each function below answers with the offset after what
-// lies whole at an offset, or with 0 where its tests do not tell: nothing ends at 0.
+// To skip tags without their values takes a few tests and no step of the cursor. Each function below returns the offset after what
+// lies whole at an offset, or 0 where its tests do not tell: nothing ends at 0.
 
-// How many bytes a tag has at least beside its name: the type, the length of the name, and the length of a text.
-const LEAST: usize = 5;
+// The codes of types that are told apart to skip a tag, and the last code of all.
+const HASH_CODE: u8 = 1;
 
-// How many bytes a tag has beside its name and a text: as above, with 16 bytes or 4 in place of the length of a text.
+const TEXT_CODE: u8 = 2;
+
+const LAST_CODE: u8 = 4;
+
+// How many bytes a tag has beside its name and a text: its type, the length of its name, and of its value 16 bytes, 4, or the length of a
+// text. No tag has fewer than one with a text.
+const HASH_TAG: usize = 19;
+
+const NUMBER_TAG: usize = 7;
+
+const TEXT_TAG: usize = 5;
+
 fn own_size(code: u8) -> usize
     ensures { λ r. ⌜ r ≡ ownSize code ⌝ }
 {
-    if code == 2 {
-        return LEAST;
+    if code == TEXT_CODE {
+        return TEXT_TAG;
     }
-    if code == 1 { 19 } else { 7 }
+    if code == HASH_CODE {
+        HASH_TAG
+    } else {
+        NUMBER_TAG
+    }
 }
 
 // How many bytes a text has, if the value is one: these are its first two.
-fn text_size(code: u8, a: u8, b: u8) -> usize
-    ensures { λ r. ⌜ r ≡ textSize code (a + 256 * b) ⌝ }
+fn text_size(code: u8, low: u8, high: u8) -> usize
+    ensures { λ r. ⌜ r ≡ textSize code (low + 256 * high) ⌝ }
 {
-    if code == 2 { pair(a, b) as usize } else { 0 }
+    if code == TEXT_CODE {
+        pair(low, high) as usize
+    } else {
+        0
+    }
 }
 
-// The offset after a tag that is read for the first time. There is no jump by the type or by the length of the name, which in a list of many
-// types and names would be guessed wrong often: the sizes are chosen by conditional moves, and every test fails for a refused tag alone. The
-// bytes of a text are added last, since their number is known last.
+// The offset after a tag that is read for the first time. There is no jump by the type or by the length of the name, which would often be
+// guessed wrong in a list of many types and names: the sizes are chosen by conditional moves, and every test fails for a refused tag alone.
+// The bytes of a text are added last, since their number is known last.
 fn tag_end(s: &[u8], at: usize) -> usize
     ensures { λ r. ⌜ EndsThere (ends (decodeTag (now (s .entry)) at)) r ⌝ }
 {
-    if s.len() < LEAST {
+    if s.len() < TEXT_TAG {
         return 0;
     }
-    if s.len() - LEAST < at {
+    if s.len() - TEXT_TAG < at {
         return 0;
     }
     let code = s[at];
     let name_len = s[at + 1] as usize;
-    if s.len() - LEAST - at < name_len {
+    if s.len() - TEXT_TAG - at < name_len {
         return 0;
     }
     if s[at + 2] != 0 {
@@ -238,11 +258,11 @@ fn tag_end(s: &[u8], at: usize) -> usize
     if code == 0 {
         return 0;
     }
-    if 4 < code {
+    if LAST_CODE < code {
         return 0;
     }
     let value = at + 3 + name_len;
-    let before_text = at + own_size(code) + name_len;
+    let before_text = at + name_len + own_size(code);
     let end = before_text + text_size(code, s[value], s[value + 1]);
     if s.len() < end {
         return 0;
@@ -259,12 +279,12 @@ fn named_tag_end(s: &[u8], at: usize, name_len: usize) -> usize
     let name = at + 3;
     let value = name + name_len;
     let code = s[at];
-    if code == 2 {
+    if code == TEXT_CODE {
         let text_len = pair(s[value], s[value + 1]) as usize;
         let text = value + 2;
         return text + text_len;
     }
-    if code == 1 {
+    if code == HASH_CODE {
         return value + 16;
     }
     value + 4
@@ -284,13 +304,13 @@ pub fn whole_tag_end(s: &[u8], at: usize) -> usize
     named_tag_end(s, at, name_len)
 }
 
-// n tags one after the other.
-fn tags_end(s: &[u8], at: usize, n: u32) -> usize
-    ensures { λ r. ⌜ EndsThere (ends (decodeMany n decodeTag (now (s .entry)) at)) r ⌝ }
+// Tags one after the other, as many as counted.
+fn tags_end(s: &[u8], at: usize, count: u32) -> usize
+    ensures { λ r. ⌜ EndsThere (ends (decodeMany count decodeTag (now (s .entry)) at)) r ⌝ }
 {
     let mut next = at;
     let mut passed: u32 = 0;
-    while passed < n {
+    while passed < count {
         let end = tag_end(s, next);
         if end == 0 {
             return 0;
@@ -301,43 +321,38 @@ fn tags_end(s: &[u8], at: usize, n: u32) -> usize
     next
 }
 
-// n tags one after the other, each read by itself. A count that is too high ends at the first missing tag.
-fn tag_by_tag(s: &[u8], first: Cursor, n: u32) -> ItemsStep
-    ensures meaning { λ r. ⌜ itemsMeaning decodeTag (now (s .entry)) r ≡ decodeMany n decodeTag (now (s .entry)) (first .at) ⌝ }
+// Tags one after the other, each read by itself. A count that is too high ends at the first missing tag.
+fn tag_by_tag(s: &[u8], first: Cursor, count: u32) -> ItemsStep
+    ensures meaning { λ r. ⌜ itemsMeaning decodeTag (now (s .entry)) r ≡ decodeMany count decodeTag (now (s .entry)) (first .at) ⌝ }
     ensures placed { λ r. ⌜ ItemsStepPlaced decodeTag (now (s .entry)) r ⌝ }
 {
     let mut next = first;
     let mut i: u32 = 0;
-    while i < n {
-        let t = read_tag(s, next);
-        let TagStep::Got(_, after) = t else {
-            return ItemsStep::Refused(t.fault());
+    while i < count {
+        let tag_step = read_tag(s, next);
+        let TagStep::Got(_, after) = tag_step else {
+            return ItemsStep::Refused(tag_step.fault());
         };
         next = after;
         i += 1;
     }
-    ItemsStep::Got(
-        Items {
-            at: first.at,
-            end: next.at,
-            count: n,
-        },
-        next,
-    )
+    let at = first.at;
+    let end = next.at;
+    ItemsStep::Got(Items { at, end, count }, next)
 }
 
-// n tags one after the other. Every tag is skipped, so that the list returned is known to lie there whole; where the tests do not tell,
-// the tags are read again one by one for the fault.
-pub fn tags_from(s: &[u8], first: Cursor, n: u32) -> ItemsStep
-    ensures meaning { λ r. ⌜ itemsMeaning decodeTag (now (s .entry)) r ≡ decodeMany n decodeTag (now (s .entry)) (first .at) ⌝ }
+// Tags one after the other, as many as counted. Every tag is skipped, so that the list returned is known to lie there whole. Where the
+// tests do not tell, the tags are read again one by one for the fault.
+pub fn tags_from(s: &[u8], first: Cursor, count: u32) -> ItemsStep
+    ensures meaning { λ r. ⌜ itemsMeaning decodeTag (now (s .entry)) r ≡ decodeMany count decodeTag (now (s .entry)) (first .at) ⌝ }
     ensures placed { λ r. ⌜ ItemsStepPlaced decodeTag (now (s .entry)) r ⌝ }
 {
     let at = first.at;
-    let end = tags_end(s, at, n);
+    let end = tags_end(s, at, count);
     if end == 0 {
-        return tag_by_tag(s, first, n);
+        return tag_by_tag(s, first, count);
     }
-    ItemsStep::Got(Items { at, end, count: n }, Cursor { at: end })
+    ItemsStep::Got(Items { at, end, count }, Cursor { at: end })
 }
 
 // The offset after a tag list; 0 for one that is refused.
@@ -345,16 +360,16 @@ pub fn tag_list_end(s: &[u8], at: usize) -> usize
     ensures { λ r. ⌜ r ≡ placeBehind (decodeTags (now (s .entry)) at) ⌝ }
 {
     let c = Cursor { at };
-    let d = c.dword(s);
-    let DwordStep::Got(n, first) = d else {
+    let count_step = c.dword(s);
+    let DwordStep::Got(count, first) = count_step else {
         return 0;
     };
-    let end = tags_end(s, first.at, n);
+    let end = tags_end(s, first.at, count);
     if end != 0 {
         return end;
     }
-    let t = tag_by_tag(s, first, n);
-    let ItemsStep::Got(_, next) = t else {
+    let tags_step = tag_by_tag(s, first, count);
+    let ItemsStep::Got(_, next) = tags_step else {
         return 0;
     };
     next.at
@@ -365,9 +380,9 @@ pub fn read_tags(s: &[u8], c: Cursor) -> ItemsStep
     ensures { λ r. ⌜ itemsMeaning decodeTag (now (s .entry)) r ≡ decodeTags (now (s .entry)) (c .at) ⌝ }
     ensures placed { λ r. ⌜ ItemsStepInside decodeTag (now (s .entry)) r ⌝ }
 {
-    let d = c.dword(s);
-    let DwordStep::Got(count, first) = d else {
-        return ItemsStep::Refused(d.fault());
+    let count_step = c.dword(s);
+    let DwordStep::Got(count, first) = count_step else {
+        return ItemsStep::Refused(count_step.fault());
     };
     tags_from(s, first, count)
 }
@@ -385,12 +400,12 @@ pub fn read_tag_list(s: &[u8]) -> TagListAnswer
     ensures exact { λ r. ⌜ ((m : List messages.Tag) →
         (tagListReply (now (s .entry)) r ≡ message m) ↔ ((now (s .entry) ≡ encodeTags m) × Valid loneTags m)) ⌝ }
 {
-    if 65536 < s.len() {
+    if PACKET_CEILING < s.len() {
         return TagListAnswer::Refused(number(Rule::BytesCeiling));
     }
-    let t = read_tags(s, Cursor { at: 0 });
-    let ItemsStep::Got(list, next) = t else {
-        return TagListAnswer::Refused(t.fault().number());
+    let tags_step = read_tags(s, Cursor { at: 0 });
+    let ItemsStep::Got(list, next) = tags_step else {
+        return TagListAnswer::Refused(tags_step.fault().number());
     };
     let end = next.at;
     if end == s.len() {

@@ -70,6 +70,9 @@ pub fn number(rule: Rule) -> u8
     }
 }
 
+// The largest packet, lone query or lone tag list, in bytes: `packetCeiling` in the format's rules.
+pub const PACKET_CEILING: usize = 65536;
+
 // The rule that is broken, where the faulty item begins, and how many bytes it has.
 pub struct Fault {
     pub rule: Rule,

@@ -7,8 +7,8 @@ use Rattle.tags.proofs.read_tag.Tie as tie
 read-type-requires : tie.Need-read-type-requires
 read-type-requires c κs = search needs
 
-enum-known-t : tie.Need-enum-known-t
-enum-known-t c = search needs
+enum-known-type-step : tie.Need-enum-known-type-step
+enum-known-type-step c = search needs
 
 enum-told : tie.Need-enum-told
 enum-told c = search needs
@@ -23,8 +23,8 @@ returns c = rw (c .fault .ensures, ← c .before .before .before .read-type .ens
 name-requires : tie.Need-name-requires
 name-requires c κs = search needs
 
-enum-known-n : tie.Need-enum-known-n
-enum-known-n c = search needs
+enum-known-name-step : tie.Need-enum-known-name-step
+enum-known-name-step c = search needs
 
 enum-told-2 : tie.Need-enum-told-2
 enum-told-2 c = search needs
@@ -35,11 +35,11 @@ fault-requires-2 c κs = search needs
 returns-2 : tie.Need-returns-2
 unfolding decodeTag
 returns-2 c =
-    let t = c .before .before .before .before .before in
+    let type = c .before .before .before .before .before in
     rw (
       c .fault2 .ensures,
-      ← t .before .before .read-type .ensures,
-      t .t .given .1,
+      ← type .before .before .read-type .ensures,
+      type .type-step .given .1,
       ← c .before .before .before .name .ensures .0,
       c .before .enum-told2 .given .1,
     )
@@ -48,8 +48,8 @@ returns-2 c =
 read-value-requires : tie.Need-read-value-requires
 read-value-requires c κs = search needs
 
-enum-known-v : tie.Need-enum-known-v
-enum-known-v c = search needs
+enum-known-value-step : tie.Need-enum-known-value-step
+enum-known-value-step c = search needs
 
 enum-told-3 : tie.Need-enum-told-3
 enum-told-3 c = search needs
@@ -60,14 +60,14 @@ fault-requires-3 c κs = search needs
 returns-3 : tie.Need-returns-3
 unfolding decodeTag
 returns-3 c =
-    let n = c .before .before .before .before .before in
-    let t = n .before .before .before .before in
+    let name = c .before .before .before .before .before in
+    let type = name .before .before .before .before in
     rw (
       c .fault3 .ensures,
-      ← t .before .before .read-type .ensures,
-      t .t .given .1,
-      ← n .before .before .name .ensures .0,
-      n .n .given .1,
+      ← type .before .before .read-type .ensures,
+      type .type-step .given .1,
+      ← name .before .before .name .ensures .0,
+      name .name-step .given .1,
       ← c .before .before .before .read-value .ensures .0,
       c .before .enum-told3 .given .1,
     )
@@ -76,34 +76,34 @@ returns-3 c =
 returns-4 : tie.Need-returns-4
 unfolding decodeTag
 returns-4 c =
-    let n = c .before .before .before .before .before in
-    let t = n .before .before .before .before in
+    let name = c .before .before .before .before .before in
+    let type = name .before .before .before .before in
     rw (
-      ← t .before .before .read-type .ensures,
-      t .t .given .1,
-      ← n .before .before .name .ensures .0,
-      n .n .given .1,
+      ← type .before .before .read-type .ensures,
+      type .type-step .given .1,
+      ← name .before .before .name .ensures .0,
+      name .name-step .given .1,
       ← c .before .before .before .read-value .ensures .0,
-      c .before .v .given .1,
+      c .before .value-step .given .1,
     )
-    (refl, (rw (n .n .given .1) at (n .before .before .name .ensures .1), rw (c .before .v .given .1) at (c .before .before .before .read-value .ensures .1)))
+    (refl, (rw (name .name-step .given .1) at (name .before .before .name .ensures .1), rw (c .before .value-step .given .1) at (c .before .before .before .read-value .ensures .1)))
 
 pub read-tag-spec : {M : Type 1} → statement M
 read-tag-spec =
     tie.close
     (tie.spec
     read-type-requires
-    enum-known-t
+    enum-known-type-step
     enum-told
     fault-requires
     returns
     name-requires
-    enum-known-n
+    enum-known-name-step
     enum-told-2
     fault-requires-2
     returns-2
     read-value-requires
-    enum-known-v
+    enum-known-value-step
     enum-told-3
     fault-requires-3
     returns-3

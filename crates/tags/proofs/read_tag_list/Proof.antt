@@ -24,8 +24,8 @@ returns c =
 read-tags-requires : tie.Need-read-tags-requires
 read-tags-requires c κs = search needs
 
-enum-known-t : tie.Need-enum-known-t
-enum-known-t c = search needs
+enum-known-tags-step : tie.Need-enum-known-tags-step
+enum-known-tags-step c = search needs
 
 enum-told : tie.Need-enum-told
 enum-told c = search needs
@@ -60,11 +60,11 @@ returns-3 c =
     (rw (
       le-leb _ packetCeiling (b .before .if1 .left),
       ← b .read-tags .ensures .0,
-      c .before .before .t .given .1,
+      c .before .before .tags-step .given .1,
       eq-eqb _ (length s) (c .if2 .taken),
     )
     refl)
-    (rw (c .before .before .t .given .1) at (b .read-tags .ensures .1))
+    (rw (c .before .before .tags-step .given .1) at (b .read-tags .ensures .1))
 
 number-requires-3 : tie.Need-number-requires-3
 number-requires-3 c κs = search needs
@@ -78,7 +78,7 @@ returns-4 c =
       c .number3 .ensures,
       le-leb _ packetCeiling (b .before .if1 .left),
       ← b .read-tags .ensures .0,
-      c .before .before .before .t .given .1,
+      c .before .before .before .tags-step .given .1,
       ne-eqb _ _ (c .before .if2 .left),
     )
     refl)
@@ -91,7 +91,7 @@ read-tag-list-spec =
     number-requires
     returns
     read-tags-requires
-    enum-known-t
+    enum-known-tags-step
     enum-told
     fault-requires
     number-requires-2

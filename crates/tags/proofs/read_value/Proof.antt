@@ -11,8 +11,8 @@ enum-told c = search needs
 hash-requires : tie.Need-hash-requires
 hash-requires c κs = search needs
 
-enum-known-h : tie.Need-enum-known-h
-enum-known-h c = search needs
+enum-known-hash-step : tie.Need-enum-known-hash-step
+enum-known-hash-step c = search needs
 
 enum-told-2 : tie.Need-enum-told-2
 enum-told-2 c = search needs
@@ -31,8 +31,8 @@ enum-told-3 c = search needs
 string-requires : tie.Need-string-requires
 string-requires c κs = search needs
 
-enum-known-p : tie.Need-enum-known-p
-enum-known-p c = search needs
+enum-known-text-step : tie.Need-enum-known-text-step
+enum-known-text-step c = search needs
 
 enum-told-4 : tie.Need-enum-told-4
 enum-told-4 c = search needs
@@ -51,8 +51,8 @@ enum-told-5 c = search needs
 dword-requires : tie.Need-dword-requires
 dword-requires c κs = search needs
 
-enum-known-d : tie.Need-enum-known-d
-enum-known-d c = search needs
+enum-known-dword-step : tie.Need-enum-known-dword-step
+enum-known-dword-step c = search needs
 
 enum-told-6 : tie.Need-enum-told-6
 enum-told-6 c = search needs
@@ -71,8 +71,8 @@ enum-told-7 c = search needs
 dword-requires-2 : tie.Need-dword-requires-2
 dword-requires-2 c κs = search needs
 
-enum-known-d-2 : tie.Need-enum-known-d-2
-enum-known-d-2 c = search needs
+enum-known-bits-step : tie.Need-enum-known-bits-step
+enum-known-bits-step c = search needs
 
 enum-told-8 : tie.Need-enum-told-8
 enum-told-8 c = search needs
@@ -88,24 +88,24 @@ returns-4 c =
 returns-5 : tie.Need-returns-5
 returns-5 c =
     let b = c .before .before .before in
-    rw (b .before .enum-told .given .1, value-is, ← b .hash .ensures, c .before .h .given .1)
-    (refl, hash-inside _ _ _ (rw (c .before .h .given .1) at (b .hash .ensures)))
+    rw (b .before .enum-told .given .1, value-is, ← b .hash .ensures, c .before .hash-step .given .1)
+    (refl, hash-inside _ _ _ (rw (c .before .hash-step .given .1) at (b .hash .ensures)))
 
 returns-6 : tie.Need-returns-6
 returns-6 c =
     let b = c .before .before .before in
-    rw (b .before .enum-told3 .given .1, value-is, ← b .string .ensures .0, c .before .p .given .1)
-    (refl, rw (c .before .p .given .1) at (b .string .ensures .1))
+    rw (b .before .enum-told3 .given .1, value-is, ← b .string .ensures .0, c .before .text-step .given .1)
+    (refl, rw (c .before .text-step .given .1) at (b .string .ensures .1))
 
 returns-7 : tie.Need-returns-7
 returns-7 c =
     let b = c .before .before .before in
-    rw (b .before .enum-told5 .given .1, value-is, ← b .dword .ensures, c .before .d .given .1) (refl, tt)
+    rw (b .before .enum-told5 .given .1, value-is, ← b .dword .ensures, c .before .dword-step .given .1) (refl, tt)
 
 returns-8 : tie.Need-returns-8
 returns-8 c =
     let b = c .before .before .before in
-    rw (b .before .enum-told7 .given .1, value-is, ← b .dword2 .ensures, c .before .d2 .given .1) (refl, tt)
+    rw (b .before .enum-told7 .given .1, value-is, ← b .dword2 .ensures, c .before .bits-step .given .1) (refl, tt)
 
 pub read-value-spec : {M : Type 1} → statement M
 read-value-spec =
@@ -113,25 +113,25 @@ read-value-spec =
     (tie.spec
     enum-told
     hash-requires
-    enum-known-h
+    enum-known-hash-step
     enum-told-2
     fault-requires
     returns
     enum-told-3
     string-requires
-    enum-known-p
+    enum-known-text-step
     enum-told-4
     fault-requires-2
     returns-2
     enum-told-5
     dword-requires
-    enum-known-d
+    enum-known-dword-step
     enum-told-6
     fault-requires-3
     returns-3
     enum-told-7
     dword-requires-2
-    enum-known-d-2
+    enum-known-bits-step
     enum-told-8
     fault-requires-4
     returns-4

@@ -17,8 +17,8 @@ loop-holds c = begins decodeTag _ _ _
 read-tag-requires : tie.Need-read-tag-requires Inv-loop μ-loop
 read-tag-requires c κs = search needs
 
-enum-known-t : tie.Need-enum-known-t Inv-loop μ-loop
-enum-known-t c = search needs
+enum-known-tag-step : tie.Need-enum-known-tag-step Inv-loop μ-loop
+enum-known-tag-step c = search needs
 
 enum-told : tie.Need-enum-told Inv-loop μ-loop
 enum-told c = search needs
@@ -28,10 +28,10 @@ fault-requires c κs = search needs
 
 returns : tie.Need-returns Inv-loop μ-loop
 returns c =
-    let l = c .before .before .before .before in
-    let told = c .before .enum-told .given .1 in
-    let read = rw told at (c .before .before .before .read-tag .ensures .0) in
-    rw (c .fault .ensures, told) (refuses decodeTag _ _ _ _ _ (l .loop-test .taken) (l .before .loop .inv) read)
+    let turn = c .before .before .before .before in
+    let step = c .before .enum-told .given .1 in
+    let read = rw step at (c .before .before .before .read-tag .ensures .0) in
+    rw (c .fault .ensures, step) (refuses decodeTag _ _ _ _ _ (turn .loop-test .taken) (turn .before .loop .inv) read)
 
 add-i : tie.Need-add-i Inv-loop μ-loop
 add-i c = search needs
@@ -41,9 +41,9 @@ loop-less c = search needs
 
 loop-again : tie.Need-loop-again Inv-loop μ-loop
 loop-again c =
-    let l = c .before .before .before .before in
-    let read = rw (c .before .t .given .1) at (c .before .before .before .read-tag .ensures .0) in
-    goes-on decodeTag _ _ _ _ _ (l .loop-test .taken) (l .before .loop .inv) read
+    let turn = c .before .before .before .before in
+    let read = rw (c .before .tag-step .given .1) at (c .before .before .before .read-tag .ensures .0) in
+    goes-on decodeTag _ _ _ _ _ (turn .loop-test .taken) (turn .before .loop .inv) read
 
 returns-2 : tie.Need-returns-2 Inv-loop μ-loop
 returns-2 c = finishes decodeTag _ _ _ _ _ (c .loop-test .left) (c .before .loop .inv)
@@ -56,7 +56,7 @@ tag-by-tag-spec =
     μ-loop
     loop-holds
     read-tag-requires
-    enum-known-t
+    enum-known-tag-step
     enum-told
     fault-requires
     returns

@@ -63,13 +63,11 @@ add-value c = search needs
 add-value-2 : tie.Need-add-value-2
 add-value-2 c = search needs
 
+add-before-text : tie.Need-add-before-text
+add-before-text c = search needs
+
 own-size-requires : tie.Need-own-size-requires
 own-size-requires c κs = search needs
-
-add-before-text : tie.Need-add-before-text
-add-before-text c =
-    let start = c .before .before .before .before .before .before .before .before .before .before .before .before in
-    omega (arith, start .good .0 .1, c .own-size .ensures, own-fits (getD (now (start .args .s)) (start .args .at) 0))
 
 add-before-text-2 : tie.Need-add-before-text-2
 add-before-text-2 c =
@@ -134,8 +132,8 @@ tag-end-spec =
     returns-7
     add-value
     add-value-2
-    own-size-requires
     add-before-text
+    own-size-requires
     add-before-text-2
     shared-slice-read-text-size
     add-text-size

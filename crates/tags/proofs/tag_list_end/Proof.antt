@@ -10,8 +10,8 @@ use Rattle.tags.proofs.tag_list_end.Tie as tie
 dword-requires : tie.Need-dword-requires
 dword-requires c κs = search needs
 
-enum-known-d : tie.Need-enum-known-d
-enum-known-d c = search needs
+enum-known-count-step : tie.Need-enum-known-count-step
+enum-known-count-step c = search needs
 
 enum-told : tie.Need-enum-told
 enum-told c = search needs
@@ -28,15 +28,15 @@ unfolding decodeTags decodeCounted
 returns-2 c =
     let b = c .before .before .before in
     let s = now (b .before .before .before .before .args .s) in
-    let read = b .d .given .0 in
-    rw (← b .before .before .dword .ensures, b .d .given .1)
+    let read = b .count-step .given .0 in
+    rw (← b .before .before .dword .ensures, b .count-step .given .1)
     (ends-behind (decodeMany (read .0) decodeTag s (read .1 .0 .at)) (c .before .tags-end .ensures) (c .if1 .taken))
 
 tag-by-tag-requires : tie.Need-tag-by-tag-requires
 tag-by-tag-requires c κs = search needs
 
-enum-known-t : tie.Need-enum-known-t
-enum-known-t c = search needs
+enum-known-tags-step : tie.Need-enum-known-tags-step
+enum-known-tags-step c = search needs
 
 enum-told-2 : tie.Need-enum-told-2
 enum-told-2 c = search needs
@@ -45,26 +45,26 @@ returns-3 : tie.Need-returns-3
 unfolding decodeTags decodeCounted
 returns-3 c =
     let b = c .before .before .before .before .before .before in
-    rw (← b .before .before .dword .ensures, b .d .given .1, ← c .before .before .tag-by-tag .ensures .0, c .enum-told2 .given .1) refl
+    rw (← b .before .before .dword .ensures, b .count-step .given .1, ← c .before .before .tag-by-tag .ensures .0, c .enum-told2 .given .1) refl
 
 returns-4 : tie.Need-returns-4
 unfolding decodeTags decodeCounted
 returns-4 c =
     let b = c .before .before .before .before .before .before .before in
-    rw (← b .before .before .dword .ensures, b .d .given .1, ← c .before .before .before .tag-by-tag .ensures .0, c .before .t .given .1) refl
+    rw (← b .before .before .dword .ensures, b .count-step .given .1, ← c .before .before .before .tag-by-tag .ensures .0, c .before .tags-step .given .1) refl
 
 pub tag-list-end-spec : {M : Type 1} → statement M
 tag-list-end-spec =
     tie.close
     (tie.spec
     dword-requires
-    enum-known-d
+    enum-known-count-step
     enum-told
     returns
     tags-end-requires
     returns-2
     tag-by-tag-requires
-    enum-known-t
+    enum-known-tags-step
     enum-told-2
     returns-3
     returns-4)

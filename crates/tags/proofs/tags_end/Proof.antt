@@ -1,8 +1,9 @@
 use Prim.Native.Nat.{_-_}
-use mathlib.Core.Path.{refl, sym}
-use mathlib.Core.Logic.{inl, inr, ⊎-elim}
+use mathlib.Core.Path.{refl}
+use mathlib.Core.Logic.{inl, inr}
 use Rattle.format.specs.Order.{decodeTag}
 use Rattle.wire.proofs.Loops.{ReadUpTo, begins, finishes, goes-over}
+use Rattle.tags.proofs.Skips.{told}
 use borrow.Author.Needs.{needs}
 use Rattle.tags.proofs.tags_end.Statement.{statement}
 use Rattle.tags.proofs.tags_end.Tie as tie
@@ -30,9 +31,8 @@ loop-less c = search needs
 
 loop-again : tie.Need-loop-again Inv-loop μ-loop
 loop-again c =
-    let l = c .before .before in
-    let read = sym (⊎-elim (λ z. absurd (c .if1 .left z)) (λ e. e) (c .before .tag-end .ensures)) in
-    goes-over decodeTag _ _ _ _ _ (l .loop-test .taken) (l .before .loop .inv) read
+    let turn = c .before .before in
+    goes-over decodeTag _ _ _ _ _ (turn .loop-test .taken) (turn .before .loop .inv) (told (c .before .tag-end .ensures) (c .if1 .left))
 
 returns-2 : tie.Need-returns-2 Inv-loop μ-loop
 returns-2 c = inr (finishes decodeTag _ _ _ _ _ (c .loop-test .left) (c .before .loop .inv) .1 .0)

@@ -1,9 +1,9 @@
-use mathlib.Core.Path.{refl}
-use mathlib.Core.Logic.{⊎-elim}
+use mathlib.Core.Path.{refl, sym}
 use denote.Ref.{now}
 use Rattle.format.specs.Decoding.{decodeMany}
 use Rattle.format.specs.Order.{decodeTag}
 use Rattle.format.proofs.Many.{ends-items}
+use Rattle.tags.proofs.Skips.{told}
 use borrow.Author.Needs.{needs}
 use Rattle.tags.proofs.tags_from.Statement.{statement}
 use Rattle.tags.proofs.tags_from.Tie as tie
@@ -20,8 +20,8 @@ returns c = search needs
 returns-2 : tie.Need-returns-2
 returns-2 c =
     let a = c .before .before .before .args in
-    let end = ⊎-elim (λ z. absurd (c .if1 .left z)) (λ e. e) (c .before .tags-end .ensures) in
-    (ends-items (decodeMany (a .n) decodeTag (now (a .s)) (a .first .at)) _ end, (end, refl))
+    let end = sym (told (c .before .tags-end .ensures) (c .if1 .left)) in
+    (ends-items (decodeMany (a .count) decodeTag (now (a .s)) (a .first .at)) _ end, (end, refl))
 
 pub tags-from-spec : {M : Type 1} → statement M
 tags-from-spec = tie.close (tie.spec tags-end-requires tag-by-tag-requires returns returns-2)
