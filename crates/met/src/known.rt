@@ -32,25 +32,28 @@ use wire::Rule;
 use wire::number;
 use wire::pair;
 
+// The date, the HASH and the number of the part hashes, in bytes.
+const BEFORE_HASHES: usize = 22;
+
 pub fn read_file_entry(s: &[u8], c: Cursor) -> FileEntryStep
     ensures meaning { λ r. ⌜ fileEntryMeaning (now (s .entry)) r ≡ decodeFileEntry (now (s .entry)) (c .at) ⌝ }
     ensures placed { λ r. ⌜ FileEntryStepPlaced (now (s .entry)) r ⌝ }
 {
-    let d = c.dword(s);
-    let DwordStep::Got(date, after_date) = d else {
-        return FileEntryStep::Refused(d.fault());
+    let date_step = c.dword(s);
+    let DwordStep::Got(date, after_date) = date_step else {
+        return FileEntryStep::Refused(date_step.fault());
     };
-    let h = after_date.hash(s);
-    let HashStep::Got(hash, after_hash) = h else {
-        return FileEntryStep::Refused(h.fault());
+    let hash_step = after_date.hash(s);
+    let HashStep::Got(hash, after_hash) = hash_step else {
+        return FileEntryStep::Refused(hash_step.fault());
     };
-    let p = read_hashes(s, after_hash);
-    let ItemsStep::Got(parts, after_parts) = p else {
-        return FileEntryStep::Refused(p.fault());
+    let parts_step = read_hashes(s, after_hash);
+    let ItemsStep::Got(parts, after_parts) = parts_step else {
+        return FileEntryStep::Refused(parts_step.fault());
     };
-    let t = read_tags(s, after_parts);
-    let ItemsStep::Got(tags, next) = t else {
-        return FileEntryStep::Refused(t.fault());
+    let tags_step = read_tags(s, after_parts);
+    let ItemsStep::Got(tags, next) = tags_step else {
+        return FileEntryStep::Refused(tags_step.fault());
     };
     FileEntryStep::Got(
         FileEntry {
@@ -63,81 +66,49 @@ pub fn read_file_entry(s: &[u8], c: Cursor) -> FileEntryStep
     )
 }
 
-// To skip entries without their values, as crates/tags skips tags: the offset after what lies whole at a place, or 0 where the tests
-// do not tell.
-
+// To skip an entry without its values, as crates/tags skips a tag: the offset after the entry at `at`, or 0 where the tests do not tell.
 fn file_entry_end(s: &[u8], at: usize) -> usize
     ensures { λ r. ⌜ EndsThere (ends (decodeFileEntry (now (s .entry)) at)) r ⌝ }
 {
-    if s.len() < 22 {
+    if s.len() < BEFORE_HASHES {
         return 0;
     }
-    if s.len() - 22 < at {
+    if s.len() - BEFORE_HASHES < at {
         return 0;
     }
-    let n = pair(s[at + 20], s[at + 21]) as usize;
-    let size = 16 * n;
-    let hashes = at + 22;
+    let count = pair(s[at + 20], s[at + 21]) as usize;
+    let size = 16 * count;
+    let hashes = at + BEFORE_HASHES;
     if s.len() - hashes < size {
         return 0;
     }
     tag_list_end(s, hashes + size)
 }
 
-fn file_entries_end(s: &[u8], at: usize, n: u32) -> usize
-    ensures { λ r. ⌜ EndsThere (ends (decodeMany n decodeFileEntry (now (s .entry)) at)) r ⌝ }
-{
-    let mut next = at;
-    let mut passed: u32 = 0;
-    while passed < n {
-        let end = file_entry_end(s, next);
-        if end == 0 {
-            return 0;
-        }
-        next = end;
-        passed += 1;
-    }
-    next
-}
-
-// n entries one after the other: every entry is read, and none is kept.
-fn entry_by_entry(s: &[u8], first: Cursor, n: u32) -> ItemsStep
+// Entries one after the other: each is skipped, and where the tests do not tell, it is read for the fault.
+pub fn file_entries_from(s: &[u8], first: Cursor, count: u32) -> ItemsStep
     ensures meaning { λ r. ⌜ itemsMeaning decodeFileEntry (now (s .entry)) r
-        ≡ decodeMany n decodeFileEntry (now (s .entry)) (first .at) ⌝ }
-    ensures placed { λ r. ⌜ ItemsStepPlaced decodeFileEntry (now (s .entry)) r ⌝ }
-{
-    let mut next = first;
-    let mut i: u32 = 0;
-    while i < n {
-        let e = read_file_entry(s, next);
-        let FileEntryStep::Got(_, after) = e else {
-            return ItemsStep::Refused(e.fault());
-        };
-        next = after;
-        i += 1;
-    }
-    ItemsStep::Got(
-        Items {
-            at: first.at,
-            end: next.at,
-            count: n,
-        },
-        next,
-    )
-}
-
-// n entries one after the other. Where the tests do not tell, they are read again one by one for the fault.
-pub fn file_entries_from(s: &[u8], first: Cursor, n: u32) -> ItemsStep
-    ensures meaning { λ r. ⌜ itemsMeaning decodeFileEntry (now (s .entry)) r
-        ≡ decodeMany n decodeFileEntry (now (s .entry)) (first .at) ⌝ }
+        ≡ decodeMany count decodeFileEntry (now (s .entry)) (first .at) ⌝ }
     ensures placed { λ r. ⌜ ItemsStepPlaced decodeFileEntry (now (s .entry)) r ⌝ }
 {
     let at = first.at;
-    let end = file_entries_end(s, at, n);
-    if end == 0 {
-        return entry_by_entry(s, first, n);
+    let mut end = at;
+    let mut passed: u32 = 0;
+    while passed < count {
+        let next = file_entry_end(s, end);
+        if next != 0 {
+            end = next;
+            passed += 1;
+            continue;
+        }
+        let entry_step = read_file_entry(s, Cursor { at: end });
+        let FileEntryStep::Got(_, after) = entry_step else {
+            return ItemsStep::Refused(entry_step.fault());
+        };
+        end = after.at;
+        passed += 1;
     }
-    ItemsStep::Got(Items { at, end, count: n }, Cursor { at: end })
+    ItemsStep::Got(Items { at, end, count }, Cursor { at: end })
 }
 
 // DWORD count, then the entries.
@@ -146,24 +117,24 @@ fn read_file_entries(s: &[u8], c: Cursor) -> ItemsStep
         ≡ decodeCounted decodeDword decodeFileEntry (now (s .entry)) (c .at) ⌝ }
     ensures placed { λ r. ⌜ ItemsStepInside decodeFileEntry (now (s .entry)) r ⌝ }
 {
-    let d = c.dword(s);
-    let DwordStep::Got(n, first) = d else {
-        return ItemsStep::Refused(d.fault());
+    let count_step = c.dword(s);
+    let DwordStep::Got(count, first) = count_step else {
+        return ItemsStep::Refused(count_step.fault());
     };
-    file_entries_from(s, first, n)
+    file_entries_from(s, first, count)
 }
 
 fn read_known_met_at(s: &[u8], c: Cursor) -> KnownMetStep
     ensures meaning { λ r. ⌜ knownMetMeaning (now (s .entry)) r ≡ decodeKnownMet (now (s .entry)) (c .at) ⌝ }
     ensures placed { λ r. ⌜ KnownMetStepPlaced (now (s .entry)) r ⌝ }
 {
-    let b = read_opening(s, c);
-    let ByteStep::Got(opening, after_opening) = b else {
-        return KnownMetStep::Refused(b.fault());
+    let opening_step = read_opening(s, c);
+    let ByteStep::Got(opening, after_opening) = opening_step else {
+        return KnownMetStep::Refused(opening_step.fault());
     };
-    let l = read_file_entries(s, after_opening);
-    let ItemsStep::Got(entries, next) = l else {
-        return KnownMetStep::Refused(l.fault());
+    let entries_step = read_file_entries(s, after_opening);
+    let ItemsStep::Got(entries, next) = entries_step else {
+        return KnownMetStep::Refused(entries_step.fault());
     };
     KnownMetStep::Got(KnownMet { opening, entries }, next)
 }
@@ -177,10 +148,10 @@ pub fn read_known_met(s: &[u8]) -> KnownAnswer
     if MET_CEILING < s.len() {
         return KnownAnswer::Refused(number(Rule::BytesCeiling));
     }
-    let m = read_known_met_at(s, Cursor { at: 0 });
-    let KnownMetStep::Got(file, next) = m else {
-        let f = m.fault();
-        let rule = f.rule;
+    let file_step = read_known_met_at(s, Cursor { at: 0 });
+    let KnownMetStep::Got(file, next) = file_step else {
+        let fault = file_step.fault();
+        let rule = fault.rule;
         return KnownAnswer::Refused(number(rule));
     };
     let end = next.at;

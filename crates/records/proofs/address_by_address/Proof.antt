@@ -17,8 +17,8 @@ loop-holds c = begins decodeAddress _ _ _
 read-address-requires : tie.Need-read-address-requires Inv-loop μ-loop
 read-address-requires c κs = search needs
 
-enum-known-a : tie.Need-enum-known-a Inv-loop μ-loop
-enum-known-a c = search needs
+enum-known-address-step : tie.Need-enum-known-address-step Inv-loop μ-loop
+enum-known-address-step c = search needs
 
 enum-told : tie.Need-enum-told Inv-loop μ-loop
 enum-told c = search needs
@@ -28,10 +28,10 @@ fault-requires c κs = search needs
 
 returns : tie.Need-returns Inv-loop μ-loop
 returns c =
-    let l = c .before .before .before .before in
-    let told = c .before .enum-told .given .1 in
-    let read = rw told at (c .before .before .before .read-address .ensures) in
-    rw (c .fault .ensures, told) (refuses decodeAddress _ _ _ _ _ (l .loop-test .taken) (l .before .loop .inv) read)
+    let turn = c .before .before .before .before in
+    let step = c .before .enum-told .given .1 in
+    let read = rw step at (c .before .before .before .read-address .ensures) in
+    rw (c .fault .ensures, step) (refuses decodeAddress _ _ _ _ _ (turn .loop-test .taken) (turn .before .loop .inv) read)
 
 add-i : tie.Need-add-i Inv-loop μ-loop
 add-i c = search needs
@@ -41,9 +41,9 @@ loop-less c = search needs
 
 loop-again : tie.Need-loop-again Inv-loop μ-loop
 loop-again c =
-    let l = c .before .before .before .before in
-    let read = rw (c .before .a .given .1) at (c .before .before .before .read-address .ensures) in
-    goes-on decodeAddress _ _ _ _ _ (l .loop-test .taken) (l .before .loop .inv) read
+    let turn = c .before .before .before .before in
+    let read = rw (c .before .address-step .given .1) at (c .before .before .before .read-address .ensures) in
+    goes-on decodeAddress _ _ _ _ _ (turn .loop-test .taken) (turn .before .loop .inv) read
 
 returns-2 : tie.Need-returns-2 Inv-loop μ-loop
 returns-2 c = finishes decodeAddress _ _ _ _ _ (c .loop-test .left) (c .before .loop .inv)
@@ -56,7 +56,7 @@ address-by-address-spec =
     μ-loop
     loop-holds
     read-address-requires
-    enum-known-a
+    enum-known-address-step
     enum-told
     fault-requires
     returns

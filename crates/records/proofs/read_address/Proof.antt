@@ -7,8 +7,8 @@ use Rattle.records.proofs.read_address.Tie as tie
 dword-requires : tie.Need-dword-requires
 dword-requires c κs = search needs
 
-enum-known-d : tie.Need-enum-known-d
-enum-known-d c = search needs
+enum-known-ip-step : tie.Need-enum-known-ip-step
+enum-known-ip-step c = search needs
 
 enum-told : tie.Need-enum-told
 enum-told c = search needs
@@ -23,8 +23,8 @@ returns c = rw (c .fault .ensures, ← c .before .before .before .dword .ensures
 word-requires : tie.Need-word-requires
 word-requires c κs = search needs
 
-enum-known-w : tie.Need-enum-known-w
-enum-known-w c = search needs
+enum-known-port-step : tie.Need-enum-known-port-step
+enum-known-port-step c = search needs
 
 enum-told-2 : tie.Need-enum-told-2
 enum-told-2 c = search needs
@@ -39,7 +39,7 @@ returns-2 c =
     rw (
       c .fault2 .ensures,
       ← d .before .before .dword .ensures,
-      d .d .given .1,
+      d .ip-step .given .1,
       ← c .before .before .before .word .ensures,
       c .before .enum-told2 .given .1,
     )
@@ -50,19 +50,19 @@ unfolding decodeAddress
 returns-3 c =
     let w = c .before in
     let d = w .before .before .before .before in
-    rw (← d .before .before .dword .ensures, d .d .given .1, ← w .before .before .word .ensures, w .w .given .1) refl
+    rw (← d .before .before .dword .ensures, d .ip-step .given .1, ← w .before .before .word .ensures, w .port-step .given .1) refl
 
 pub read-address-spec : {M : Type 1} → statement M
 read-address-spec =
     tie.close
     (tie.spec
     dword-requires
-    enum-known-d
+    enum-known-ip-step
     enum-told
     fault-requires
     returns
     word-requires
-    enum-known-w
+    enum-known-port-step
     enum-told-2
     fault-requires-2
     returns-2

@@ -11,8 +11,8 @@ use Rattle.records.proofs.read_addresses.Tie as tie
 byte-requires : tie.Need-byte-requires
 byte-requires c κs = search needs
 
-enum-known-b : tie.Need-enum-known-b
-enum-known-b c = search needs
+enum-known-count-step : tie.Need-enum-known-count-step
+enum-known-count-step c = search needs
 
 enum-told : tie.Need-enum-told
 enum-told c = search needs
@@ -35,16 +35,16 @@ unfolding decodeCounted
 returns-2 c =
     let b = c .before .before in
     let x = b .before .before in
-    let count = byte-ends _ _ (sym (rw (b .b .given .1) at (x .byte .ensures))) in
-    rw (← x .byte .ensures, b .b .given .1)
-    (counted-inside codec-address (now (x .before .before .args .s)) (x .before .shared-slice-known .given) (c .addresses-from .result) (b .b .given .0 .0) _ _ _ count (c .addresses-from .ensures))
+    let count = byte-ends _ _ (sym (rw (b .count-step .given .1) at (x .byte .ensures))) in
+    rw (← x .byte .ensures, b .count-step .given .1)
+    (counted-inside codec-address (now (x .before .before .args .s)) (x .before .shared-slice-known .given) (c .addresses-from .result) (b .count-step .given .0 .0) _ _ _ count (c .addresses-from .ensures))
 
 pub read-addresses-spec : {M : Type 1} → statement M
 read-addresses-spec =
     tie.close
     (tie.spec
     byte-requires
-    enum-known-b
+    enum-known-count-step
     enum-told
     fault-requires
     returns

@@ -11,8 +11,8 @@ use Rattle.records.proofs.read_hashes.Tie as tie
 word-requires : tie.Need-word-requires
 word-requires c κs = search needs
 
-enum-known-w : tie.Need-enum-known-w
-enum-known-w c = search needs
+enum-known-count-step : tie.Need-enum-known-count-step
+enum-known-count-step c = search needs
 
 enum-told : tie.Need-enum-told
 enum-told c = search needs
@@ -35,16 +35,16 @@ unfolding decodeCounted
 returns-2 c =
     let w = c .before .before in
     let b = w .before .before in
-    let count = word-ends _ _ (sym (rw (w .w .given .1) at (b .word .ensures))) in
-    rw (← b .word .ensures, w .w .given .1)
-    (counted-inside codec-hash (now (b .before .before .args .s)) (b .before .shared-slice-known .given) (c .hashes-from .result) (w .w .given .0 .0) _ _ _ count (c .hashes-from .ensures))
+    let count = word-ends _ _ (sym (rw (w .count-step .given .1) at (b .word .ensures))) in
+    rw (← b .word .ensures, w .count-step .given .1)
+    (counted-inside codec-hash (now (b .before .before .args .s)) (b .before .shared-slice-known .given) (c .hashes-from .result) (w .count-step .given .0 .0) _ _ _ count (c .hashes-from .ensures))
 
 pub read-hashes-spec : {M : Type 1} → statement M
 read-hashes-spec =
     tie.close
     (tie.spec
     word-requires
-    enum-known-w
+    enum-known-count-step
     enum-told
     fault-requires
     returns

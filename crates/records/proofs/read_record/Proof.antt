@@ -8,8 +8,8 @@ use Rattle.records.proofs.read_record.Tie as tie
 hash-requires : tie.Need-hash-requires
 hash-requires c κs = search needs
 
-enum-known-h : tie.Need-enum-known-h
-enum-known-h c = search needs
+enum-known-hash-step : tie.Need-enum-known-hash-step
+enum-known-hash-step c = search needs
 
 enum-told : tie.Need-enum-told
 enum-told c = search needs
@@ -24,8 +24,8 @@ returns c = rw (c .fault .ensures, ← c .before .before .before .hash .ensures,
 dword-requires : tie.Need-dword-requires
 dword-requires c κs = search needs
 
-enum-known-d : tie.Need-enum-known-d
-enum-known-d c = search needs
+enum-known-client-step : tie.Need-enum-known-client-step
+enum-known-client-step c = search needs
 
 enum-told-2 : tie.Need-enum-told-2
 enum-told-2 c = search needs
@@ -40,7 +40,7 @@ returns-2 c =
     rw (
       c .fault2 .ensures,
       ← h .before .before .hash .ensures,
-      h .h .given .1,
+      h .hash-step .given .1,
       ← c .before .before .before .dword .ensures,
       c .before .enum-told2 .given .1,
     )
@@ -49,8 +49,8 @@ returns-2 c =
 word-requires : tie.Need-word-requires
 word-requires c κs = search needs
 
-enum-known-w : tie.Need-enum-known-w
-enum-known-w c = search needs
+enum-known-port-step : tie.Need-enum-known-port-step
+enum-known-port-step c = search needs
 
 enum-told-3 : tie.Need-enum-told-3
 enum-told-3 c = search needs
@@ -66,9 +66,9 @@ returns-3 c =
     rw (
       c .fault3 .ensures,
       ← h .before .before .hash .ensures,
-      h .h .given .1,
+      h .hash-step .given .1,
       ← d .before .before .dword .ensures,
-      d .d .given .1,
+      d .client-step .given .1,
       ← c .before .before .before .word .ensures,
       c .before .enum-told3 .given .1,
     )
@@ -77,8 +77,8 @@ returns-3 c =
 read-tags-requires : tie.Need-read-tags-requires
 read-tags-requires c κs = search needs
 
-enum-known-t : tie.Need-enum-known-t
-enum-known-t c = search needs
+enum-known-tags-step : tie.Need-enum-known-tags-step
+enum-known-tags-step c = search needs
 
 enum-told-4 : tie.Need-enum-told-4
 enum-told-4 c = search needs
@@ -95,11 +95,11 @@ returns-4 c =
     rw (
       c .fault4 .ensures,
       ← h .before .before .hash .ensures,
-      h .h .given .1,
+      h .hash-step .given .1,
       ← d .before .before .dword .ensures,
-      d .d .given .1,
+      d .client-step .given .1,
       ← w .before .before .word .ensures,
-      w .w .given .1,
+      w .port-step .given .1,
       ← c .before .before .before .read-tags .ensures .0,
       c .before .enum-told4 .given .1,
     )
@@ -114,37 +114,37 @@ returns-5 c =
     let h = d .before .before .before .before in
     rw (
       ← h .before .before .hash .ensures,
-      h .h .given .1,
+      h .hash-step .given .1,
       ← d .before .before .dword .ensures,
-      d .d .given .1,
+      d .client-step .given .1,
       ← w .before .before .word .ensures,
-      w .w .given .1,
+      w .port-step .given .1,
       ← t .before .before .read-tags .ensures .0,
-      t .t .given .1,
+      t .tags-step .given .1,
     )
-    (refl, (hash-inside _ _ _ (rw (h .h .given .1) at (h .before .before .hash .ensures)), rw (t .t .given .1) at (t .before .before .read-tags .ensures .1)))
+    (refl, (hash-inside _ _ _ (rw (h .hash-step .given .1) at (h .before .before .hash .ensures)), rw (t .tags-step .given .1) at (t .before .before .read-tags .ensures .1)))
 
 pub read-record-spec : {M : Type 1} → statement M
 read-record-spec =
     tie.close
     (tie.spec
     hash-requires
-    enum-known-h
+    enum-known-hash-step
     enum-told
     fault-requires
     returns
     dword-requires
-    enum-known-d
+    enum-known-client-step
     enum-told-2
     fault-requires-2
     returns-2
     word-requires
-    enum-known-w
+    enum-known-port-step
     enum-told-3
     fault-requires-3
     returns-3
     read-tags-requires
-    enum-known-t
+    enum-known-tags-step
     enum-told-4
     fault-requires-4
     returns-4

@@ -11,8 +11,8 @@ use Rattle.records.proofs.read_records.Tie as tie
 dword-requires : tie.Need-dword-requires
 dword-requires c κs = search needs
 
-enum-known-d : tie.Need-enum-known-d
-enum-known-d c = search needs
+enum-known-count-step : tie.Need-enum-known-count-step
+enum-known-count-step c = search needs
 
 enum-told : tie.Need-enum-told
 enum-told c = search needs
@@ -32,16 +32,16 @@ unfolding decodeCounted
 returns-2 c =
     let d = c .before .before in
     let b = d .before .before in
-    let count = dword-ends _ _ (sym (rw (d .d .given .1) at (b .dword .ensures))) in
-    rw (← b .dword .ensures, d .d .given .1)
-    (counted-inside codec-record (now (b .before .before .args .s)) (b .before .shared-slice-known .given) (c .records-from .result) (d .d .given .0 .0) _ _ _ count (c .records-from .ensures))
+    let count = dword-ends _ _ (sym (rw (d .count-step .given .1) at (b .dword .ensures))) in
+    rw (← b .dword .ensures, d .count-step .given .1)
+    (counted-inside codec-record (now (b .before .before .args .s)) (b .before .shared-slice-known .given) (c .records-from .result) (d .count-step .given .0 .0) _ _ _ count (c .records-from .ensures))
 
 pub read-records-spec : {M : Type 1} → statement M
 read-records-spec =
     tie.close
     (tie.spec
     dword-requires
-    enum-known-d
+    enum-known-count-step
     enum-told
     fault-requires
     returns

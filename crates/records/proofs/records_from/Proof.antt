@@ -1,24 +1,40 @@
+-- Each turn skips one record: by its end where the tests tell it, else by reading it.
 use Prim.Native.Nat.{_-_}
 use Rattle.format.specs.Order.{decodeRecord}
+use Rattle.wire.proofs.Loops.{ReadUpTo, begins, finishes, goes-on, goes-over, refuses}
+use Rattle.tags.proofs.Skips.{told}
 use borrow.Author.Needs.{needs}
-use Rattle.wire.proofs.Loops.{ReadUpTo, begins, goes-on, refuses, finishes}
 use Rattle.records.proofs.records_from.Statement.{statement}
 use Rattle.records.proofs.records_from.Tie as tie
 
 abbrev Inv-loop : tie.InvT-loop
-Inv-loop s first n next₀ i₀ next i = ReadUpTo decodeRecord s (first .at) n i (next .at)
+Inv-loop s count at end₀ passed₀ end passed = ReadUpTo decodeRecord s at count passed end
 
 abbrev μ-loop : tie.MeasureT-loop
-μ-loop s first n next₀ i₀ next i = n - i
+μ-loop s count at end₀ passed₀ end passed = count - passed
 
 loop-holds : tie.Need-loop-holds Inv-loop μ-loop
 loop-holds c = begins decodeRecord _ _ _
 
+record-end-requires : tie.Need-record-end-requires Inv-loop μ-loop
+record-end-requires c κs = search needs
+
+add-passed : tie.Need-add-passed Inv-loop μ-loop
+add-passed c = search needs
+
+loop-less : tie.Need-loop-less Inv-loop μ-loop
+loop-less c = search needs
+
+loop-again : tie.Need-loop-again Inv-loop μ-loop
+loop-again c =
+    let turn = c .before .before in
+    goes-over decodeRecord _ _ _ _ _ (turn .loop-test .taken) (turn .before .loop .inv) (told (c .before .record-end .ensures) (c .if1 .taken))
+
 read-record-requires : tie.Need-read-record-requires Inv-loop μ-loop
 read-record-requires c κs = search needs
 
-enum-known-r : tie.Need-enum-known-r Inv-loop μ-loop
-enum-known-r c = search needs
+enum-known-record-step : tie.Need-enum-known-record-step Inv-loop μ-loop
+enum-known-record-step c = search needs
 
 enum-told : tie.Need-enum-told Inv-loop μ-loop
 enum-told c = search needs
@@ -28,22 +44,22 @@ fault-requires c κs = search needs
 
 returns : tie.Need-returns Inv-loop μ-loop
 returns c =
-    let l = c .before .before .before .before in
-    let told = c .before .enum-told .given .1 in
-    let read = rw told at (c .before .before .before .read-record .ensures .0) in
-    rw (c .fault .ensures, told) (refuses decodeRecord _ _ _ _ _ (l .loop-test .taken) (l .before .loop .inv) read)
+    let step = c .before .enum-told .given .1 in
+    let read = c .before .before .before in
+    let turn = read .before .before .before in
+    rw (c .fault .ensures, step) (refuses decodeRecord _ _ _ _ _ (turn .loop-test .taken) (turn .before .loop .inv) (rw step at (read .read-record .ensures .0)))
 
-add-i : tie.Need-add-i Inv-loop μ-loop
-add-i c = search needs
+add-passed-2 : tie.Need-add-passed-2 Inv-loop μ-loop
+add-passed-2 c = search needs
 
-loop-less : tie.Need-loop-less Inv-loop μ-loop
-loop-less c = search needs
+loop-less-2 : tie.Need-loop-less-2 Inv-loop μ-loop
+loop-less-2 c = search needs
 
-loop-again : tie.Need-loop-again Inv-loop μ-loop
-loop-again c =
-    let l = c .before .before .before .before in
-    let read = rw (c .before .r .given .1) at (c .before .before .before .read-record .ensures .0) in
-    goes-on decodeRecord _ _ _ _ _ (l .loop-test .taken) (l .before .loop .inv) read
+loop-again-2 : tie.Need-loop-again-2 Inv-loop μ-loop
+loop-again-2 c =
+    let read = c .before .before .before in
+    let turn = read .before .before .before in
+    goes-on decodeRecord _ _ _ _ _ (turn .loop-test .taken) (turn .before .loop .inv) (rw (c .before .record-step .given .1) at (read .read-record .ensures .0))
 
 returns-2 : tie.Need-returns-2 Inv-loop μ-loop
 returns-2 c = finishes decodeRecord _ _ _ _ _ (c .loop-test .left) (c .before .loop .inv)
@@ -55,12 +71,16 @@ records-from-spec =
     Inv-loop
     μ-loop
     loop-holds
+    record-end-requires
+    add-passed
+    loop-less
+    loop-again
     read-record-requires
-    enum-known-r
+    enum-known-record-step
     enum-told
     fault-requires
     returns
-    add-i
-    loop-less
-    loop-again
+    add-passed-2
+    loop-less-2
+    loop-again-2
     returns-2)

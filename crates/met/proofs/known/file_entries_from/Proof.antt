@@ -1,27 +1,86 @@
-use mathlib.Core.Path.{refl}
-use mathlib.Core.Logic.{⊎-elim}
-use denote.Ref.{now}
-use Rattle.format.specs.Decoding.{decodeMany}
+-- Each turn skips one entry: by its end where the tests tell it, else by reading it.
+use Prim.Native.Nat.{_-_}
 use Rattle.format.specs.MetOrder.{decodeFileEntry}
-use Rattle.format.proofs.Many.{ends-items}
+use Rattle.wire.proofs.Loops.{ReadUpTo, begins, finishes, goes-on, goes-over, refuses}
+use Rattle.tags.proofs.Skips.{told}
 use borrow.Author.Needs.{needs}
 use Rattle.met.proofs.known.file_entries_from.Statement.{statement}
 use Rattle.met.proofs.known.file_entries_from.Tie as tie
 
-file-entries-end-requires : tie.Need-file-entries-end-requires
-file-entries-end-requires c κs = search needs
+abbrev Inv-loop : tie.InvT-loop
+Inv-loop s count at end₀ passed₀ end passed = ReadUpTo decodeFileEntry s at count passed end
 
-entry-by-entry-requires : tie.Need-entry-by-entry-requires
-entry-by-entry-requires c κs = search needs
+abbrev μ-loop : tie.MeasureT-loop
+μ-loop s count at end₀ passed₀ end passed = count - passed
 
-returns : tie.Need-returns
-returns c = search needs
+loop-holds : tie.Need-loop-holds Inv-loop μ-loop
+loop-holds c = begins decodeFileEntry _ _ _
 
-returns-2 : tie.Need-returns-2
-returns-2 c =
-    let a = c .before .before .before .args in
-    let end = ⊎-elim (λ z. absurd (c .if1 .left z)) (λ e. e) (c .before .file-entries-end .ensures) in
-    (ends-items (decodeMany (a .n) decodeFileEntry (now (a .s)) (a .first .at)) _ end, (end, refl))
+file-entry-end-requires : tie.Need-file-entry-end-requires Inv-loop μ-loop
+file-entry-end-requires c κs = search needs
+
+add-passed : tie.Need-add-passed Inv-loop μ-loop
+add-passed c = search needs
+
+loop-less : tie.Need-loop-less Inv-loop μ-loop
+loop-less c = search needs
+
+loop-again : tie.Need-loop-again Inv-loop μ-loop
+loop-again c =
+    let turn = c .before .before in
+    goes-over decodeFileEntry _ _ _ _ _ (turn .loop-test .taken) (turn .before .loop .inv) (told (c .before .file-entry-end .ensures) (c .if1 .taken))
+
+read-file-entry-requires : tie.Need-read-file-entry-requires Inv-loop μ-loop
+read-file-entry-requires c κs = search needs
+
+enum-known-entry-step : tie.Need-enum-known-entry-step Inv-loop μ-loop
+enum-known-entry-step c = search needs
+
+enum-told : tie.Need-enum-told Inv-loop μ-loop
+enum-told c = search needs
+
+fault-requires : tie.Need-fault-requires Inv-loop μ-loop
+fault-requires c κs = search needs
+
+returns : tie.Need-returns Inv-loop μ-loop
+returns c =
+    let step = c .before .enum-told .given .1 in
+    let read = c .before .before .before in
+    let turn = read .before .before .before in
+    rw (c .fault .ensures, step) (refuses decodeFileEntry _ _ _ _ _ (turn .loop-test .taken) (turn .before .loop .inv) (rw step at (read .read-file-entry .ensures .0)))
+
+add-passed-2 : tie.Need-add-passed-2 Inv-loop μ-loop
+add-passed-2 c = search needs
+
+loop-less-2 : tie.Need-loop-less-2 Inv-loop μ-loop
+loop-less-2 c = search needs
+
+loop-again-2 : tie.Need-loop-again-2 Inv-loop μ-loop
+loop-again-2 c =
+    let read = c .before .before .before in
+    let turn = read .before .before .before in
+    goes-on decodeFileEntry _ _ _ _ _ (turn .loop-test .taken) (turn .before .loop .inv) (rw (c .before .entry-step .given .1) at (read .read-file-entry .ensures .0))
+
+returns-2 : tie.Need-returns-2 Inv-loop μ-loop
+returns-2 c = finishes decodeFileEntry _ _ _ _ _ (c .loop-test .left) (c .before .loop .inv)
 
 pub file-entries-from-spec : {M : Type 1} → statement M
-file-entries-from-spec = tie.close (tie.spec file-entries-end-requires entry-by-entry-requires returns returns-2)
+file-entries-from-spec =
+    tie.close
+    (tie.spec
+    Inv-loop
+    μ-loop
+    loop-holds
+    file-entry-end-requires
+    add-passed
+    loop-less
+    loop-again
+    read-file-entry-requires
+    enum-known-entry-step
+    enum-told
+    fault-requires
+    returns
+    add-passed-2
+    loop-less-2
+    loop-again-2
+    returns-2)

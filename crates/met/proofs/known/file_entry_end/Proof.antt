@@ -4,7 +4,7 @@ use native.Mathlib.Omega.{arith}
 use denote.Ref.{now}
 use Rattle.format.specs.Order.{decodeTags}
 use Rattle.tags.proofs.Skips.{behind-ends}
-use Rattle.met.proofs.Skips.{entry-ends}
+use Rattle.met.proofs.Skips.{file-entry-ends}
 use borrow.Author.Needs.{needs}
 use Rattle.met.proofs.known.file_entry_end.Statement.{statement}
 use Rattle.met.proofs.known.file_entry_end.Tie as tie
@@ -33,8 +33,8 @@ shared-slice-read-pair-2 c = search needs
 pair-requires : tie.Need-pair-requires
 pair-requires c κs = search needs
 
-cast-n : tie.Need-cast-n
-cast-n c = search needs
+cast-count : tie.Need-cast-count
+cast-count c = search needs
 
 mul-size : tie.Need-mul-size
 mul-size c = search needs
@@ -56,10 +56,10 @@ tag-list-end-requires c κs = search needs
 
 returns-4 : tie.Need-returns-4
 returns-4 c =
-    let b = c .before .before .before .before .before in
-    let a = b .before .before .before .args in
-    entry-ends (now (a .s)) (a .at) _ (c .before .before .pair .ensures)
-    (omega (arith, b .if2 .left, b .before .if1 .left, c .before .if3 .left)) _ (behind-ends (decodeTags _ _) (c .tag-list-end .ensures))
+    let there = c .before .before .before .before .before in
+    let start = there .before .before .before in
+    file-entry-ends (now (start .args .s)) (start .args .at) _ (c .before .before .pair .ensures)
+    (omega (arith, there .if2 .left, there .before .if1 .left, c .before .if3 .left)) (behind-ends (decodeTags _ _) (c .tag-list-end .ensures))
 
 pub file-entry-end-spec : {M : Type 1} → statement M
 file-entry-end-spec =
@@ -73,7 +73,7 @@ file-entry-end-spec =
     add-pair-2
     shared-slice-read-pair-2
     pair-requires
-    cast-n
+    cast-count
     mul-size
     add-hashes
     sub-if3

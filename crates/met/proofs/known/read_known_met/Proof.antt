@@ -23,8 +23,8 @@ returns c =
 read-known-met-at-requires : tie.Need-read-known-met-at-requires
 read-known-met-at-requires c κs = search needs
 
-enum-known-m : tie.Need-enum-known-m
-enum-known-m c = search needs
+enum-known-file-step : tie.Need-enum-known-file-step
+enum-known-file-step c = search needs
 
 enum-told : tie.Need-enum-told
 enum-told c = search needs
@@ -55,8 +55,8 @@ unfolding decode
 returns-3 c =
     let b = c .before .before .before .before in
     exact-placed knownMet (now (b .before .before .before .args .s)) (b .before .before .shared-slice-known .given)
-    (rw (le-leb _ metCeiling (b .before .if1 .left), ← b .read-known-met-at .ensures .0, c .before .before .m .given .1, eq-eqb _ _ (c .if2 .taken)) refl)
-    (rw (c .before .before .m .given .1) at (b .read-known-met-at .ensures .1))
+    (rw (le-leb _ metCeiling (b .before .if1 .left), ← b .read-known-met-at .ensures .0, c .before .before .file-step .given .1, eq-eqb _ _ (c .if2 .taken)) refl)
+    (rw (c .before .before .file-step .given .1) at (b .read-known-met-at .ensures .1))
 
 number-requires-3 : tie.Need-number-requires-3
 number-requires-3 c κs = search needs
@@ -70,7 +70,7 @@ returns-4 c =
       c .number3 .ensures,
       le-leb _ metCeiling (b .before .if1 .left),
       ← b .read-known-met-at .ensures .0,
-      c .before .before .before .m .given .1,
+      c .before .before .before .file-step .given .1,
       ne-eqb _ _ (c .before .if2 .left),
     )
     refl)
@@ -83,7 +83,7 @@ read-known-met-spec =
     number-requires
     returns
     read-known-met-at-requires
-    enum-known-m
+    enum-known-file-step
     enum-told
     fault-requires
     number-requires-2

@@ -7,8 +7,8 @@ use Rattle.met.proofs.known.read_known_met_at.Tie as tie
 read-opening-requires : tie.Need-read-opening-requires
 read-opening-requires c κs = search needs
 
-enum-known-b : tie.Need-enum-known-b
-enum-known-b c = search needs
+enum-known-opening-step : tie.Need-enum-known-opening-step
+enum-known-opening-step c = search needs
 
 enum-told : tie.Need-enum-told
 enum-told c = search needs
@@ -23,8 +23,8 @@ returns c = (rw (c .fault .ensures, ← c .before .before .before .read-opening 
 read-file-entries-requires : tie.Need-read-file-entries-requires
 read-file-entries-requires c κs = search needs
 
-enum-known-l : tie.Need-enum-known-l
-enum-known-l c = search needs
+enum-known-entries-step : tie.Need-enum-known-entries-step
+enum-known-entries-step c = search needs
 
 enum-told-2 : tie.Need-enum-told-2
 enum-told-2 c = search needs
@@ -39,7 +39,7 @@ returns-2 c =
       rw (
         c .fault2 .ensures,
         ← opening .before .before .read-opening .ensures,
-        opening .b .given .1,
+        opening .opening-step .given .1,
         ← c .before .before .before .read-file-entries .ensures .0,
         c .before .enum-told2 .given .1,
       )
@@ -53,12 +53,12 @@ returns-3 c =
     let opening = c .before .before .before .before .before in (
       rw (
         ← opening .before .before .read-opening .ensures,
-        opening .b .given .1,
+        opening .opening-step .given .1,
         ← c .before .before .before .read-file-entries .ensures .0,
-        c .before .l .given .1,
+        c .before .entries-step .given .1,
       )
           refl,
-      rw (c .before .l .given .1) at (c .before .before .before .read-file-entries .ensures .1),
+      rw (c .before .entries-step .given .1) at (c .before .before .before .read-file-entries .ensures .1),
     )
 
 pub read-known-met-at-spec : {M : Type 1} → statement M
@@ -66,12 +66,12 @@ read-known-met-at-spec =
     tie.close
     (tie.spec
     read-opening-requires
-    enum-known-b
+    enum-known-opening-step
     enum-told
     fault-requires
     returns
     read-file-entries-requires
-    enum-known-l
+    enum-known-entries-step
     enum-told-2
     fault-requires-2
     returns-2

@@ -7,8 +7,8 @@ use Rattle.met.proofs.server.read_server_entry.Tie as tie
 dword-requires : tie.Need-dword-requires
 dword-requires c κs = search needs
 
-enum-known-d : tie.Need-enum-known-d
-enum-known-d c = search needs
+enum-known-ip-step : tie.Need-enum-known-ip-step
+enum-known-ip-step c = search needs
 
 enum-told : tie.Need-enum-told
 enum-told c = search needs
@@ -23,8 +23,8 @@ returns c = (rw (c .fault .ensures, ← c .before .before .before .dword .ensure
 word-requires : tie.Need-word-requires
 word-requires c κs = search needs
 
-enum-known-w : tie.Need-enum-known-w
-enum-known-w c = search needs
+enum-known-port-step : tie.Need-enum-known-port-step
+enum-known-port-step c = search needs
 
 enum-told-2 : tie.Need-enum-told-2
 enum-told-2 c = search needs
@@ -39,7 +39,7 @@ returns-2 c =
       rw (
         c .fault2 .ensures,
         ← ip .before .before .dword .ensures,
-        ip .d .given .1,
+        ip .ip-step .given .1,
         ← c .before .before .before .word .ensures,
         c .before .enum-told2 .given .1,
       )
@@ -50,8 +50,8 @@ returns-2 c =
 read-tags-requires : tie.Need-read-tags-requires
 read-tags-requires c κs = search needs
 
-enum-known-t : tie.Need-enum-known-t
-enum-known-t c = search needs
+enum-known-tags-step : tie.Need-enum-known-tags-step
+enum-known-tags-step c = search needs
 
 enum-told-3 : tie.Need-enum-told-3
 enum-told-3 c = search needs
@@ -67,9 +67,9 @@ returns-3 c =
       rw (
         c .fault3 .ensures,
         ← ip .before .before .dword .ensures,
-        ip .d .given .1,
+        ip .ip-step .given .1,
         ← port .before .before .word .ensures,
-        port .w .given .1,
+        port .port-step .given .1,
         ← c .before .before .before .read-tags .ensures .0,
         c .before .enum-told3 .given .1,
       )
@@ -84,14 +84,14 @@ returns-4 c =
     let ip = port .before .before .before .before in (
       rw (
         ← ip .before .before .dword .ensures,
-        ip .d .given .1,
+        ip .ip-step .given .1,
         ← port .before .before .word .ensures,
-        port .w .given .1,
+        port .port-step .given .1,
         ← c .before .before .before .read-tags .ensures .0,
-        c .before .t .given .1,
+        c .before .tags-step .given .1,
       )
           refl,
-      rw (c .before .t .given .1) at (c .before .before .before .read-tags .ensures .1),
+      rw (c .before .tags-step .given .1) at (c .before .before .before .read-tags .ensures .1),
     )
 
 pub read-server-entry-spec : {M : Type 1} → statement M
@@ -99,17 +99,17 @@ read-server-entry-spec =
     tie.close
     (tie.spec
     dword-requires
-    enum-known-d
+    enum-known-ip-step
     enum-told
     fault-requires
     returns
     word-requires
-    enum-known-w
+    enum-known-port-step
     enum-told-2
     fault-requires-2
     returns-2
     read-tags-requires
-    enum-known-t
+    enum-known-tags-step
     enum-told-3
     fault-requires-3
     returns-3

@@ -24,8 +24,8 @@ returns c =
 read-server-met-at-requires : tie.Need-read-server-met-at-requires
 read-server-met-at-requires c κs = search needs
 
-enum-known-m : tie.Need-enum-known-m
-enum-known-m c = search needs
+enum-known-file-step : tie.Need-enum-known-file-step
+enum-known-file-step c = search needs
 
 enum-told : tie.Need-enum-told
 enum-told c = search needs
@@ -57,8 +57,8 @@ returns-3 c =
     let b = c .before .before .before in
     let s = now (b .before .before .before .args .s) in
     exact-placed serverMet s (b .before .before .shared-slice-known .given)
-    (rw (le-leb _ metCeiling (b .before .if1 .left), ← b .read-server-met-at .ensures .0, c .before .m .given .1, eq-eqb (length s) (length s) refl) refl)
-    (rw (c .before .m .given .1) at (b .read-server-met-at .ensures .1))
+    (rw (le-leb _ metCeiling (b .before .if1 .left), ← b .read-server-met-at .ensures .0, c .before .file-step .given .1, eq-eqb (length s) (length s) refl) refl)
+    (rw (c .before .file-step .given .1) at (b .read-server-met-at .ensures .1))
 
 pub read-server-met-spec : {M : Type 1} → statement M
 read-server-met-spec =
@@ -67,7 +67,7 @@ read-server-met-spec =
     number-requires
     returns
     read-server-met-at-requires
-    enum-known-m
+    enum-known-file-step
     enum-told
     fault-requires
     number-requires-2

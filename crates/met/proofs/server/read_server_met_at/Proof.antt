@@ -10,8 +10,8 @@ use Rattle.met.proofs.server.read_server_met_at.Tie as tie
 read-opening-requires : tie.Need-read-opening-requires
 read-opening-requires c κs = search needs
 
-enum-known-b : tie.Need-enum-known-b
-enum-known-b c = search needs
+enum-known-opening-step : tie.Need-enum-known-opening-step
+enum-known-opening-step c = search needs
 
 enum-told : tie.Need-enum-told
 enum-told c = search needs
@@ -26,8 +26,8 @@ returns c = (rw (c .fault .ensures, ← c .before .before .before .read-opening 
 read-server-entries-requires : tie.Need-read-server-entries-requires
 read-server-entries-requires c κs = search needs
 
-enum-known-l : tie.Need-enum-known-l
-enum-known-l c = search needs
+enum-known-entries-step : tie.Need-enum-known-entries-step
+enum-known-entries-step c = search needs
 
 enum-told-2 : tie.Need-enum-told-2
 enum-told-2 c = search needs
@@ -42,7 +42,7 @@ returns-2 c =
       rw (
         c .fault2 .ensures,
         ← opening .before .before .read-opening .ensures,
-        opening .b .given .1,
+        opening .opening-step .given .1,
         ← c .before .before .before .read-server-entries .ensures .0,
         c .before .enum-told2 .given .1,
       )
@@ -55,7 +55,7 @@ tail-from-requires c κs =
     let l = c .before in
     let b = l .before .before .before .before in
     let a = b .before .before .before in
-    entries-inside (now (a .before .args .s)) (a .shared-slice-known .given) _ (rw (l .l .given .1) at (l .before .before .read-server-entries .ensures .0))
+    entries-inside (now (a .before .args .s)) (a .shared-slice-known .given) _ (rw (l .entries-step .given .1) at (l .before .before .read-server-entries .ensures .0))
 
 returns-3 : tie.Need-returns-3
 unfolding decodeServerMet decodeTail
@@ -65,12 +65,12 @@ returns-3 c =
       rw (
         c .tail-from .ensures .0,
         ← opening .before .before .read-opening .ensures,
-        opening .b .given .1,
+        opening .opening-step .given .1,
         ← entries .before .before .read-server-entries .ensures .0,
-        entries .l .given .1,
+        entries .entries-step .given .1,
       )
           refl,
-      (rw (entries .l .given .1) at (entries .before .before .read-server-entries .ensures .1), c .tail-from .ensures .1),
+      (rw (entries .entries-step .given .1) at (entries .before .before .read-server-entries .ensures .1), c .tail-from .ensures .1),
     )
 
 pub read-server-met-at-spec : {M : Type 1} → statement M
@@ -78,12 +78,12 @@ read-server-met-at-spec =
     tie.close
     (tie.spec
     read-opening-requires
-    enum-known-b
+    enum-known-opening-step
     enum-told
     fault-requires
     returns
     read-server-entries-requires
-    enum-known-l
+    enum-known-entries-step
     enum-told-2
     fault-requires-2
     returns-2

@@ -1,24 +1,40 @@
+-- Each turn skips one entry: by its end where the tests tell it, else by reading it.
 use Prim.Native.Nat.{_-_}
 use Rattle.format.specs.MetOrder.{decodeServerEntry}
-use Rattle.wire.proofs.Loops.{ReadUpTo, begins, goes-on, refuses, finishes}
+use Rattle.wire.proofs.Loops.{ReadUpTo, begins, finishes, goes-on, goes-over, refuses}
+use Rattle.tags.proofs.Skips.{told}
 use borrow.Author.Needs.{needs}
 use Rattle.met.proofs.server.server_entries_from.Statement.{statement}
 use Rattle.met.proofs.server.server_entries_from.Tie as tie
 
 abbrev Inv-loop : tie.InvT-loop
-Inv-loop s first n next₀ i₀ next i = ReadUpTo decodeServerEntry s (first .at) n i (next .at)
+Inv-loop s count at end₀ passed₀ end passed = ReadUpTo decodeServerEntry s at count passed end
 
 abbrev μ-loop : tie.MeasureT-loop
-μ-loop s first n next₀ i₀ next i = n - i
+μ-loop s count at end₀ passed₀ end passed = count - passed
 
 loop-holds : tie.Need-loop-holds Inv-loop μ-loop
 loop-holds c = begins decodeServerEntry _ _ _
 
+server-entry-end-requires : tie.Need-server-entry-end-requires Inv-loop μ-loop
+server-entry-end-requires c κs = search needs
+
+add-passed : tie.Need-add-passed Inv-loop μ-loop
+add-passed c = search needs
+
+loop-less : tie.Need-loop-less Inv-loop μ-loop
+loop-less c = search needs
+
+loop-again : tie.Need-loop-again Inv-loop μ-loop
+loop-again c =
+    let turn = c .before .before in
+    goes-over decodeServerEntry _ _ _ _ _ (turn .loop-test .taken) (turn .before .loop .inv) (told (c .before .server-entry-end .ensures) (c .if1 .taken))
+
 read-server-entry-requires : tie.Need-read-server-entry-requires Inv-loop μ-loop
 read-server-entry-requires c κs = search needs
 
-enum-known-e : tie.Need-enum-known-e Inv-loop μ-loop
-enum-known-e c = search needs
+enum-known-entry-step : tie.Need-enum-known-entry-step Inv-loop μ-loop
+enum-known-entry-step c = search needs
 
 enum-told : tie.Need-enum-told Inv-loop μ-loop
 enum-told c = search needs
@@ -28,22 +44,22 @@ fault-requires c κs = search needs
 
 returns : tie.Need-returns Inv-loop μ-loop
 returns c =
-    let told = c .before .enum-told .given .1 in
-    let read = rw told at (c .before .before .before .read-server-entry .ensures .0) in
-    let l = c .before .before .before .before in
-    rw (c .fault .ensures, told) (refuses decodeServerEntry _ _ _ _ _ (l .loop-test .taken) (l .before .loop .inv) read)
+    let step = c .before .enum-told .given .1 in
+    let read = c .before .before .before in
+    let turn = read .before .before .before in
+    rw (c .fault .ensures, step) (refuses decodeServerEntry _ _ _ _ _ (turn .loop-test .taken) (turn .before .loop .inv) (rw step at (read .read-server-entry .ensures .0)))
 
-add-i : tie.Need-add-i Inv-loop μ-loop
-add-i c = search needs
+add-passed-2 : tie.Need-add-passed-2 Inv-loop μ-loop
+add-passed-2 c = search needs
 
-loop-less : tie.Need-loop-less Inv-loop μ-loop
-loop-less c = search needs
+loop-less-2 : tie.Need-loop-less-2 Inv-loop μ-loop
+loop-less-2 c = search needs
 
-loop-again : tie.Need-loop-again Inv-loop μ-loop
-loop-again c =
-    let read = rw (c .before .e .given .1) at (c .before .before .before .read-server-entry .ensures .0) in
-    let l = c .before .before .before .before in
-    goes-on decodeServerEntry _ _ _ _ _ (l .loop-test .taken) (l .before .loop .inv) read
+loop-again-2 : tie.Need-loop-again-2 Inv-loop μ-loop
+loop-again-2 c =
+    let read = c .before .before .before in
+    let turn = read .before .before .before in
+    goes-on decodeServerEntry _ _ _ _ _ (turn .loop-test .taken) (turn .before .loop .inv) (rw (c .before .entry-step .given .1) at (read .read-server-entry .ensures .0))
 
 returns-2 : tie.Need-returns-2 Inv-loop μ-loop
 returns-2 c = finishes decodeServerEntry _ _ _ _ _ (c .loop-test .left) (c .before .loop .inv)
@@ -55,12 +71,16 @@ server-entries-from-spec =
     Inv-loop
     μ-loop
     loop-holds
+    server-entry-end-requires
+    add-passed
+    loop-less
+    loop-again
     read-server-entry-requires
-    enum-known-e
+    enum-known-entry-step
     enum-told
     fault-requires
     returns
-    add-i
-    loop-less
-    loop-again
+    add-passed-2
+    loop-less-2
+    loop-again-2
     returns-2)
