@@ -1,6 +1,6 @@
 -- Laws of going past a query: where its parts end, and what the extents of its sides make of its own.
 use Prim.Native.Nat.{ℕ, max, _+_, _*_, _-_, _≤_}
-use mathlib.Core.Path.{_≡_, refl, sym, _∙_}
+use mathlib.Core.Path.{_≡_, refl, sym, ap, _∙_}
 use mathlib.Core.Logic.{_⊎_, inl, inr}
 use mathlib.Core.Option.{some}
 use mathlib.Core.List.{List}
@@ -9,14 +9,15 @@ use native.Mathlib.Decide.{decLe}
 use lib.ListN.{length, getD}
 use borrow.Author.Tests.{le-leb, ne-eqb}
 use Rattle.format.specs.Tables.{lookup}
-use Rattle.format.specs.Messages.{Operator, and, or, andNot, Bound, atLeast, atMost}
-use Rattle.format.specs.Decoding.{bytesAt, ends, got}
+use Rattle.format.specs.Messages.{Query, Operator, and, or, andNot, Bound, atLeast, atMost}
+use Rattle.format.specs.Decoding.{Outcome, bytesAt, ends, got, refused}
 use Rattle.format.specs.Order.{QueryCase, isJoin, isKeyword, isField, isLimit, queryCases, operators, bounds}
 use Rattle.format.specs.Order.{decodeCase, decodeCode, decodeName, decodeQueryIn, decodeString}
+use Rattle.format.proofs.Codec.{never, same-place}
 use Rattle.format.proofs.There.{byte-there, dword-there, run-there, word-there}
 use Rattle.wire.proofs.Loops.{ended-got}
 use Rattle.query.specs.Nodes.{decodeLeaf, decodeNode, decodeNodeOf, depths}
-use Rattle.query.specs.Skips.{EndsAt, Passes, Spans, depthIn, endIn}
+use Rattle.query.specs.Skips.{EndsAt, EndsThere, Passes, Spans, depthIn, endIn}
 use Rattle.query.proofs.Nodes.{query-case}
 use Rattle.query.proofs.Depths.{depth-join, depth-leaf}
 
@@ -108,3 +109,10 @@ pub sides-span : (d : ℕ) (s : List ℕ) (at a b : ℕ) {r : ℕ} → at + 1 �
 sides-span d s at a b h few first second is =
     let o = code-there operators s at h (operator-of (getD s at 0) few .1) in
     inr (rw (depth-join, ← o, first, second, is .0, is .1) refl)
+
+-- Where a query ends, by its extent.
+pub span-ends : (o : Outcome Query) {e r : ℕ} → Spans (depths o) e → r ≡ endIn e → EndsThere o r
+unfolding ends depths
+span-ends o (inl z) is = inl (is ∙ rw z refl)
+span-ends (refused f) (inr g) is = absurd (never g)
+span-ends (got q p) (inr g) is = inr (ap (got tt) (same-place g ∙ sym is))

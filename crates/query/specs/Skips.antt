@@ -13,6 +13,10 @@ EndsAt d s at r = (ends (d s at) ≡ got tt r) × (r ≤ length s)
 abbrev pub Passes : {A : Type 0} → Decoder A → List ℕ → (at r : ℕ) → Type 0
 Passes d s at r = (r ≡ 0) ⊎ EndsAt d s at r
 
+-- The same without the bytes: 0, or the offset after what was decoded.
+abbrev pub EndsThere : {A : Type 0} → Outcome A → (r : ℕ) → Type 0
+EndsThere o r = (r ≡ 0) ⊎ (ends o ≡ got tt r)
+
 -- An extent is a place and a depth in one number: the place is below so many.
 abbrev pub places : ℕ
 places = 4294967296

@@ -15,7 +15,7 @@ ghost use Rattle.format.specs.Decoding.{message, reply};
 ghost use Rattle.format.specs.Order.{decodeCode, decodeName, operators, bounds, isJoin, isKeyword, isField, isLimit, decodeCase, decodeQueryIn, decodeQuery};
 ghost use Rattle.format.specs.MetOrder.{decode};
 ghost use Rattle.query.specs.Nodes.{decodeNodeOf, decodeNode, decodeLeaf, depths};
-ghost use Rattle.query.specs.Skips.{Passes, Spans, places, endIn, depthIn};
+ghost use Rattle.query.specs.Skips.{Passes, EndsThere, Spans, places, endIn, depthIn};
 ghost use Rattle.query.specs.QueryAnswers.{operatorMeaning, boundMeaning, nodeMeaning, NodeStepInside, depthMeaning, queryMeaning, queryReply};
 ghost use Rattle.query.specs.QueryAnswers.{operatorFault, boundFault, nodeFault, depthFault, queryFault};
 ghost use Rattle.query.specs.QueryAnswers.{QueryStepPlaced, QueryAnswerPlaced};
@@ -479,14 +479,24 @@ fn operator_extent(s: &[u8], at: usize, left: usize) -> usize
     join_extent(a, b)
 }
 
-// Of more bytes than a packet has, nothing is reported: an extent may have no room for a place in them.
-fn whole_extent(s: &[u8], at: usize) -> usize
-    ensures { λ r. ⌜ Spans (depths (decodeQuery (now (s .entry)) at)) r ⌝ }
+// Of more bytes than a packet has, or below more depth than a query has, nothing is reported: an extent may have no room for it.
+fn extent_in(s: &[u8], at: usize, left: usize) -> usize
+    ensures { λ r. ⌜ Spans (depths (decodeQueryIn left (now (s .entry)) at)) r ⌝ }
 {
     if PACKET_CEILING < s.len() {
         return 0;
     }
-    query_extent(s, at, DEPTH_LIMIT)
+    if DEPTH_LIMIT < left {
+        return 0;
+    }
+    query_extent(s, at, left)
+}
+
+// The offset after a query of at most `left` depth, or 0 where the tests do not decide: for a caller that needs nothing else of it.
+pub fn query_end(s: &[u8], at: usize, left: usize) -> usize
+    ensures { λ r. ⌜ EndsThere (decodeQueryIn left (now (s .entry)) at) r ⌝ }
+{
+    end_of(extent_in(s, at, left))
 }
 
 // A query as packets hold it. It is skipped, and read for its fault where its tests do not decide.
@@ -495,7 +505,7 @@ pub fn read_query(s: &[u8], c: Cursor) -> QueryStep
     ensures placed { λ r. ⌜ QueryStepPlaced (now (s .entry)) r ⌝ }
 {
     let at = c.at;
-    let e = whole_extent(s, at);
+    let e = extent_in(s, at, DEPTH_LIMIT);
     if e != 0 {
         let end = end_of(e);
         let depth = depth_of(e);

@@ -6,8 +6,8 @@ use borrow.Author.Needs.{needs}
 use Rattle.query.proofs.read_query.Statement.{statement}
 use Rattle.query.proofs.read_query.Tie as tie
 
-whole-extent-requires : tie.Need-whole-extent-requires
-whole-extent-requires c κs = search needs
+extent-in-requires : tie.Need-extent-in-requires
+extent-in-requires c κs = search needs
 
 end-of-requires : tie.Need-end-of-requires
 end-of-requires c κs = search needs
@@ -16,9 +16,10 @@ depth-of-requires : tie.Need-depth-of-requires
 depth-of-requires c κs = search needs
 
 returns : tie.Need-returns
+unfolding decodeQuery
 returns c =
     let b = c .before .before in
-    let e = rw (← c .before .end-of .ensures, ← c .depth-of .ensures) at (told (b .before .whole-extent .ensures) (b .if1 .taken)) in
+    let e = rw (← c .before .end-of .ensures, ← c .depth-of .ensures) at (told (b .before .extent-in .ensures) (b .if1 .taken)) in
     (depths-query _ e, e)
 
 read-query-in-requires : tie.Need-read-query-in-requires
@@ -48,7 +49,7 @@ pub read-query-spec : {M : Type 1} → statement M
 read-query-spec =
     tie.close
     (tie.spec
-    whole-extent-requires
+    extent-in-requires
     end-of-requires
     depth-of-requires
     returns
