@@ -21,7 +21,7 @@ ghost use Rattle.format.specs.Order.{decodeByte, decodeWord, decodeDword, decod
 ghost use Rattle.wire.specs.WireAnswers.{ruleMeaning, byteMeaning, wordMeaning, dwordMeaning, hashMeaning, placeMeaning, PlaceStepInside, doneMeaning};
 ghost use Rattle.wire.specs.WireAnswers.{noFault, byteFault, wordFault, dwordFault, hashFault, placeFault, itemsFault, doneFault};
 
-// The most bytes that a packet can have, and a query or a tag list alone.
+// The most bytes that a packet can have, and a query or a tag list alone: `packetCeiling` in the format's rules.
 pub const PACKET_CEILING: usize = 65536;
 
 // The most bytes that a name can have.
@@ -69,9 +69,6 @@ pub fn number(rule: Rule) -> u8
         Rule::SizeTag => 9,
     }
 }
-
-// The largest packet, lone query or lone tag list, in bytes: `packetCeiling` in the format's rules.
-pub const PACKET_CEILING: usize = 65536;
 
 // The rule that is broken, where the faulty item begins, and how many bytes it has.
 pub struct Fault {
