@@ -82,7 +82,7 @@ value-was k s at {v} {next} e =
     let r = value-spans k s at (w .was) in
     (ap (λ v. v .0) (sym (same-value (w .then))), (r .0, sym (same-place (w .then)) ∙ r .1))
 
--- The type and the name of a tag, and where it ends.
+-- The type, the name and the value of a tag, and where it ends.
 pub record TagWas (s : List ℕ) (at n : ℕ) (t : Tag) (next : ℕ) : Type 0 where
   pub type : TagType
   pub is : t .value .0 ≡ type
@@ -91,6 +91,7 @@ pub record TagWas (s : List ℕ) (at n : ℕ) (t : Tag) (next : ℕ) : Type 0 wh
   pub name-is : t .name ≡ bytesAt s (at + 3) n
   pub value-there : at + 3 + n + width type s (at + 3 + n) ≤ length s
   pub end : next ≡ at + 3 + n + width type s (at + 3 + n)
+  pub value-is : decodeValue type s (at + 3 + n) ≡ got (t .value) next
 
 -- It ends at this offset, which is within the bytes.
 abbrev EndsAt : List ℕ → (at r : ℕ) → Type 0
@@ -118,6 +119,7 @@ module _ (s : List ℕ) (at n : ℕ) (word : n ≡ getD s (at + 1) 0 + 256 * get
         name-is = ap (λ t. t .name) (sym is) ∙ m .1 .1 ∙ ap (λ a. bytesAt s a n) a;
         value-there = v .1 .0;
         end = sym (same-place (y .then)) ∙ v .1 .1;
+        value-is = sym (ap (decodeValue (w .first) s) p) ∙ y .was ∙ rw (same-place (y .then)) (ap (λ t. got (t .value) next) is);
       }
 
   module _ (lies : Lies (decodeTag s at)) where

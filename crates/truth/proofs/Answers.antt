@@ -1,72 +1,38 @@
 -- What the readers' answers for a lone query and a lone tag list make of the truth.
-use Prim.Native.Nat.{ℕ}
+use Prim.Native.Nat.{ℕ, _≤_}
 use mathlib.Core.Path.{_≡_, refl, sym, ap, _∙_}
-use mathlib.Core.Bool.{Bool, true, false}
+use mathlib.Core.Bool.{Bool, false}
 use mathlib.Core.List.{List}
 use lib.ListN.{length}
-use lib.Dec.{leb, eqb}
-use Rattle.format.specs.Tables.{pick}
+use borrow.Author.Tests.{eq-eqb, le-leb, ne-eqb}
 use Rattle.format.specs.Messages.{Query, Tag, loneQuery, loneTags}
-use Rattle.format.specs.Decoding.{rest, bytesCeiling, Fault, fault, Outcome, refused, got}
+use Rattle.format.specs.Decoding.{Fault, Outcome, refused, got, number}
 use Rattle.format.specs.Decoding.{Answer, refusal, accepted, finish, Reply, refusedWith, message, reply}
 use Rattle.format.specs.Order.{decodeQueryIn, decodeQuery}
 use Rattle.format.specs.MetOrder.{decode}
-use Rattle.format.specs.Truth.{holds, onTags, onQuery, truth}
+use Rattle.format.specs.Truth.{onQuery, truth}
 use Rattle.format.proofs.Differ.{differ}
-use Rattle.format.proofs.Codec.{never, same-value}
+use Rattle.format.proofs.Codec.{never, same-place, same-value}
 use Rattle.truth.specs.TruthAnswers.{truths}
 
 -- A reply is not both a number and a message.
 no-reply : {A P : Type 0} {n : ℕ} {m : A} → _≡_ {A = Reply A} (refusedWith n) (message m) → P
 no-reply e = differ cc
 
+reply-accepted : {A : Type 0} (b : Answer A) {m : A} → message m ≡ reply b → accepted m ≡ b
+reply-accepted (refusal f) e = no-reply (sym e)
+reply-accepted (accepted m) e = cc
+
 on-refused-query : (a : Answer Query) (b : Answer (List Tag)) {n : ℕ} →
     refusedWith n ≡ reply a → record { number = n; holds = false } ≡ onQuery a b
 on-refused-query (refusal f) b e = cc
 on-refused-query (accepted q) b e = no-reply e
 
-on-accepted-query : (a : Answer Query) (b : Answer (List Tag)) {q : Query} → message q ≡ reply a → onTags q b ≡ onQuery a b
-on-accepted-query (refusal f) b e = no-reply (sym e)
-on-accepted-query (accepted q) b e = ap (λ q. onTags q b) cc
-
-on-refused-tags : (q : Query) (b : Answer (List Tag)) {n : ℕ} → refusedWith n ≡ reply b → record { number = n; holds = false } ≡ onTags q b
-on-refused-tags q (refusal f) e = cc
-on-refused-tags q (accepted l) e = no-reply e
-
-on-accepted-tags : (q : Query) (b : Answer (List Tag)) {l : List Tag} →
-    message l ≡ reply b → record { number = 0; holds = holds q l } ≡ onTags q b
-on-accepted-tags q (refusal f) e = no-reply (sym e)
-on-accepted-tags q (accepted l) e = ap (λ l. record { number = 0; holds = holds q l }) cc
-
--- A lone query that is accepted is decoded, so its evaluation is never refused and gives its truth.
-module _ (s : List ℕ) {q : Query} where
-  finished : (o : Outcome Query) → message q ≡ reply (finish s o) → (next : ℕ) × (o ≡ got q next)
-  finished (refused f) e = no-reply (sym e)
-  finished (got r next) e = go (eqb next (length s)) e
-    where
-      go : (t : Bool) → message q ≡ reply (pick t (accepted r) (refusal (fault rest next 1))) → (p : ℕ) × (got r next ≡ got q p)
-      go true e = (next, cc)
-      go false e = no-reply (sym e)
-
-  decoded : message q ≡ reply (decode loneQuery s) → (next : ℕ) × (decodeQueryIn 24 s 0 ≡ got q next)
-  unfolding decode decodeQuery
-  decoded e = go (leb (length s) 65536) e
-    where
-      go : (t : Bool) → message q ≡ reply (pick t (finish s (decodeQueryIn 24 s 0)) (refusal (fault bytesCeiling 0 (length s)))) →
-          (next : ℕ) × (decodeQueryIn 24 s 0 ≡ got q next)
-      go true e = finished (decodeQueryIn 24 s 0) e
-      go false e = no-reply (sym e)
-
-  module _ (tags : List Tag) (h : message q ≡ reply (decode loneQuery s)) where
-    truth-decoded : truths tags (decodeQueryIn 24 s 0) ≡ got (holds q tags) (decoded h .0)
-    unfolding truths
-    truth-decoded = rw (decoded h .1) refl
-
-    pub never-refused : {f : Fault} → refused f ≡ truths tags (decodeQueryIn 24 s 0) → ⊥
-    never-refused e = never (e ∙ truth-decoded)
-
-    evaluated : {b : Bool} {next : ℕ} → got b next ≡ truths tags (decodeQueryIn 24 s 0) → b ≡ holds q tags
-    evaluated e = same-value (e ∙ truth-decoded)
+on-refused-tags : (a : Answer Query) (b : Answer (List Tag)) {q : Query} {n : ℕ} →
+    message q ≡ reply a → refusedWith n ≡ reply b → record { number = n; holds = false } ≡ onQuery a b
+on-refused-tags (refusal f) b e k = no-reply (sym e)
+on-refused-tags (accepted q) (refusal f) e k = cc
+on-refused-tags (accepted q) (accepted l) e k = no-reply k
 
 -- The truth by the two replies.
 module _ (s t : List ℕ) where
@@ -74,14 +40,45 @@ module _ (s t : List ℕ) where
   unfolding truth
   query-refused e = on-refused-query (decode loneQuery s) (decode loneTags t) e
 
-  module _ {q : Query} (h : message q ≡ reply (decode loneQuery s)) where
-    query-accepted : onTags q (decode loneTags t) ≡ truth s t
-    unfolding truth
-    query-accepted = on-accepted-query (decode loneQuery s) (decode loneTags t) h
+  pub tags-refused : {q : Query} {n : ℕ} → message q ≡ reply (decode loneQuery s) → refusedWith n ≡ reply (decode loneTags t) →
+      record { number = n; holds = false } ≡ truth s t
+  unfolding truth
+  tags-refused e k = on-refused-tags (decode loneQuery s) (decode loneTags t) e k
 
-    pub tags-refused : {n : ℕ} → refusedWith n ≡ reply (decode loneTags t) → record { number = n; holds = false } ≡ truth s t
-    tags-refused e = on-refused-tags q (decode loneTags t) e ∙ query-accepted
+  pub tags-accepted : {l : List Tag} → message l ≡ reply (decode loneTags t) → onQuery (decode loneQuery s) (accepted l) ≡ truth s t
+  unfolding truth
+  tags-accepted k = ap (onQuery (decode loneQuery s)) (reply-accepted (decode loneTags t) k)
 
-    pub both-accepted : {l : List Tag} {b : Bool} {next : ℕ} → message l ≡ reply (decode loneTags t) → got b next ≡ truths l (decodeQueryIn 24 s 0) →
-        record { number = 0; holds = b } ≡ truth s t
-    both-accepted {l} k e = ap (λ b. record { number = 0; holds = b }) (evaluated s l h e) ∙ on-accepted-tags q (decode loneTags t) k ∙ query-accepted
+-- The truth by the evaluation of the query, which refuses what the reader of the query refuses.
+module _ (s : List ℕ) (l : List Tag) where
+  refused-by : (o : Outcome Query) {f : Fault} → refused f ≡ truths l o → record { number = number (f .rule); holds = false } ≡ onQuery (finish s o) (accepted l)
+  unfolding truths
+  refused-by (refused g) e = cc
+  refused-by (got q p) e = absurd (never e)
+
+  holds-by : (o : Outcome Query) {b : Bool} {next : ℕ} → got b next ≡ truths l o → next ≡ length s → record { number = 0; holds = b } ≡ onQuery (finish s o) (accepted l)
+  unfolding truths
+  holds-by (refused g) e h = absurd (never (sym e))
+  holds-by (got q p) e h = rw (eq-eqb p (length s) (sym (same-place e) ∙ h)) (ap (λ b. record { number = 0; holds = b }) (same-value e))
+
+  rest-by : (o : Outcome Query) {b : Bool} {next : ℕ} → got b next ≡ truths l o → (next ≡ length s → ⊥) → record { number = 7; holds = false } ≡ onQuery (finish s o) (accepted l)
+  unfolding truths
+  rest-by (refused g) e h = absurd (never (sym e))
+  rest-by (got q p) e h = rw (ne-eqb p (length s) (λ z. h (same-place e ∙ z))) refl
+
+  module _ (few : length s ≤ 65536) where
+    whole : onQuery (finish s (decodeQueryIn 24 s 0)) (accepted l) ≡ onQuery (decode loneQuery s) (accepted l)
+    unfolding decode decodeQuery
+    whole = rw (le-leb _ 65536 few) refl
+
+    pub evaluation-refused : {f : Fault} → refused f ≡ truths l (decodeQueryIn 24 s 0) →
+        record { number = number (f .rule); holds = false } ≡ onQuery (decode loneQuery s) (accepted l)
+    evaluation-refused e = refused-by (decodeQueryIn 24 s 0) e ∙ whole
+
+    pub evaluated : {b : Bool} {next : ℕ} → got b next ≡ truths l (decodeQueryIn 24 s 0) → next ≡ length s →
+        record { number = 0; holds = b } ≡ onQuery (decode loneQuery s) (accepted l)
+    evaluated e h = holds-by (decodeQueryIn 24 s 0) e h ∙ whole
+
+    pub bytes-left : {b : Bool} {next : ℕ} → got b next ≡ truths l (decodeQueryIn 24 s 0) → (next ≡ length s → ⊥) →
+        record { number = 7; holds = false } ≡ onQuery (decode loneQuery s) (accepted l)
+    bytes-left e h = rest-by (decodeQueryIn 24 s 0) e h ∙ whole

@@ -1,8 +1,8 @@
 -- What the bytes of a tag that lies there tell of its type and its name, and which tags the leaves look for.
 use Prim.Native.Nat.{ℕ, _+_, _-_, _*_, _<_}
-use mathlib.Core.Path.{_≡_, refl, sym, _∙_}
+use mathlib.Core.Path.{_≡_, refl, sym, ap, _∙_}
 use mathlib.Core.Bool.{Bool, true, false}
-use mathlib.Core.List.{List}
+use mathlib.Core.List.{List, [], _∷_}
 use native.Mathlib.Omega.{arith}
 use lib.ListN.{length, getD, length-take, length-drop}
 use lib.Dec.{eqb}
@@ -12,33 +12,55 @@ use Rattle.format.specs.Messages.{Tag, TagType, TagValue, hashType, stringType,
 use Rattle.format.specs.Layout.{typeCode}
 use Rattle.format.specs.Decoding.{Outcome, refused, got, ends, bytesAt}
 use Rattle.format.specs.Order.{decodeTag}
-use Rattle.format.specs.Truth.{onString, onDword, stringTag, dwordTag}
+use Rattle.format.specs.Truth.{onString, onDword, prefix, stringTag, dwordTag}
 use Rattle.format.proofs.Differ.{differ}
+use Rattle.format.proofs.There.{part-cons}
 use Rattle.format.proofs.PartTags.{same-lengths}
 use Rattle.tags.specs.Skips.{Lies}
 use Rattle.tags.proofs.WholeTags.{name-lies, on-tag}
-use Rattle.truth.specs.TruthAnswers.{LooksFor, Passes, isOf, onItem, tagsFrom}
+use Rattle.query.specs.Nodes.{Node, join, keyword, field, limit}
+use Rattle.truth.specs.TruthAnswers.{LooksFor, Passes, Seeks, isOf, isSought, onItem, tagMeets, tagsFrom}
 use Rattle.truth.specs.declared.Spot.{Spot}
 use Rattle.truth.proofs.Found.{rest-lies, some-step}
+use Rattle.truth.proofs.Texts.{same-prefix}
+
+-- Two names of one byte.
+one-byte : (s : List ℕ) (at : ℕ) (name : List ℕ) → at < length s → length name ≡ 1 → eqb (getD s at 0) (getD name 0 0) ≡ same (bytesAt s at 1) name
+unfolding same
+one-byte s at [] h e = absurd (omega arith)
+one-byte s at (b ∷ []) h e = rw (part-cons s at 0 h) (go (eqb (getD s at 0) b))
+  where
+    go : (t : Bool) → t ≡ pick t true false
+    go true = refl
+    go false = refl
+one-byte s at (b ∷ c ∷ l) h e = absurd (omega arith)
 
 -- The type and the name of a tag, as the tests find them.
 module _ (s : List ℕ) (at n : ℕ) (word : n ≡ getD s (at + 1) 0 + 256 * getD s (at + 2) 0) (lies : Lies (decodeTag s at)) (code : ℕ) (name : List ℕ) where
+  part-length : length (bytesAt s (at + 3) n) ≡ n
+  part-length = let h = name-lies s at n word lies in simp (length-take, length-drop) (omega arith)
+
   pub other-type : (getD s at 0 ≡ code → ⊥) → false ≡ onItem (isOf code name) (decodeTag s at)
   unfolding isOf
   other-type other = on-tag s at n word lies (λ o. false ≡ onItem (isOf code name) o) (λ t next w. rw (w .is, w .code, ne-eqb _ _ other) refl)
 
-  pub by-name : getD s at 0 ≡ code → same (bytesAt s (at + 3) n) name ≡ onItem (isOf code name) (decodeTag s at)
+  by-name : getD s at 0 ≡ code → same (bytesAt s (at + 3) n) name ≡ onItem (isOf code name) (decodeTag s at)
   unfolding isOf
   by-name this = on-tag s at n word lies (λ o. same (bytesAt s (at + 3) n) name ≡ onItem (isOf code name) o) (λ t next w. rw (w .is, w .code, eq-eqb _ _ this, w .name-is) refl)
 
+  pub by-byte : getD s at 0 ≡ code → n ≡ 1 → length name ≡ 1 → eqb (getD s (at + 3) 0) (getD name 0 0) ≡ onItem (isOf code name) (decodeTag s at)
+  by-byte this one is =
+      let h = name-lies s at n word lies in
+      one-byte s (at + 3) name (omega arith) is ∙ ap (λ n. same (bytesAt s (at + 3) n) name) (sym one) ∙ by-name this
+
   pub other-length : getD s at 0 ≡ code → (n ≡ length name → ⊥) → false ≡ onItem (isOf code name) (decodeTag s at)
   other-length this other = sym (same-lengths _ _ (λ z. other (sym part-length ∙ z))) ∙ by-name this
-    where
-      part-length : length (bytesAt s (at + 3) n) ≡ n
-      part-length = let h = name-lies s at n word lies in simp (length-take, length-drop) (omega arith)
+
+  pub by-prefix : getD s at 0 ≡ code → n ≡ length name → prefix (bytesAt s (at + 3) n) name ≡ onItem (isOf code name) (decodeTag s at)
+  by-prefix this is = same-prefix _ _ (part-length ∙ is) ∙ by-name this
 
 -- The types that the leaves look for.
-pub looks-for-text : (name : List ℕ) (p : List ℕ → Bool) (t : Tag) → isOf 2 name t ≡ false → stringTag name p t ≡ false
+looks-for-text : (name : List ℕ) (p : List ℕ → Bool) (t : Tag) → isOf 2 name t ≡ false → stringTag name p t ≡ false
 unfolding isOf stringTag
 looks-for-text name p t e = go (same (t .name) name) (t .value .0) (t .value .1) e
   where
@@ -49,7 +71,7 @@ looks-for-text name p t e = go (same (t .name) name) (t .value .0) (t .value .1)
     go true dwordType v e = refl
     go true floatType v e = refl
 
-pub looks-for-number : (name : List ℕ) (p : ℕ → Bool) (t : Tag) → isOf 3 name t ≡ false → dwordTag name p t ≡ false
+looks-for-number : (name : List ℕ) (p : ℕ → Bool) (t : Tag) → isOf 3 name t ≡ false → dwordTag name p t ≡ false
 unfolding isOf dwordTag
 looks-for-number name p t e = go (same (t .name) name) (t .value .0) (t .value .1) e
   where
@@ -59,6 +81,18 @@ looks-for-number name p t e = go (same (t .name) name) (t .value .0) (t .value .
     go true stringType v e = refl
     go true dwordType v e = differ cc
     go true floatType v e = refl
+
+-- A test of a leaf looks for tags of this type and name alone, if the leaf does.
+pub seeks-looks : (code : ℕ) (name : List ℕ) (n : Node) → Seeks code name n → LooksFor code name (tagMeets n)
+unfolding tagMeets
+seeks-looks code name (join o) seeks t e = refl
+seeks-looks code name (keyword text) seeks t e = looks-for-text _ _ t (sym (seeks t) ∙ e)
+seeks-looks code name (field text field-name) seeks t e = looks-for-text _ _ t (sym (seeks t) ∙ e)
+seeks-looks code name (limit number bound limit-name) seeks t e = looks-for-number _ _ t (sym (seeks t) ∙ e)
+
+pub seeks-item : (code : ℕ) (name : List ℕ) (n : Node) → Seeks code name n → (o : Outcome Tag) → true ≡ onItem (isOf code name) o → true ≡ onItem (isSought n) o
+seeks-item code name n seeks (refused f) e = e
+seeks-item code name n seeks (got t next) e = e ∙ seeks t
 
 -- A tag of another type or name is passed.
 none-meets : (code : ℕ) (name : List ℕ) (p : Tag → Bool) → LooksFor code name p → (o : Outcome Tag) →

@@ -1,45 +1,57 @@
 // The truth of a query on a tag list.
 //
-// The query and the tag list are skipped once, and refused as their readers refuse them, the query first. Then the query is
-// evaluated node by node: an operator asks the same question of its two sides, and a leaf looks for a tag of the list. Nothing is
-// copied: names and texts are compared where they lie in the lent bytes. The work is linear in the number of leaves times the bytes
-// of the tag list.
+// The tag list is skipped once and the query is read as it is evaluated; both are refused as their readers refuse them, the query
+// first. The query is evaluated node by node: an operator asks the same question of its two sides, the left one first, and skips the
+// right one where it cannot change the truth; a leaf looks for a tag of the list. Nothing is copied: names and texts are compared
+// where they lie in the lent bytes. The work is at most the number of leaves times the bytes of the tag list: a text is searched in time
+// that is linear in its bytes.
 //
 // specs/TruthAnswers.antt says what each answer stands for.
 ghost use mathlib.Core.Path.{_≡_};
-ghost use mathlib.Core.List.{[], _∷_};
+ghost use mathlib.Core.Bool.{true};
+ghost use lib.ListN.{getD};
+ghost use Rattle.format.specs.Messages.{loneQuery};
+ghost use Rattle.format.specs.Decoding.{accepted};
 ghost use Rattle.format.specs.Order.{decodeTag, decodeQueryIn};
-ghost use Rattle.format.specs.Tables.{same};
+ghost use Rattle.format.specs.MetOrder.{decode};
 ghost use Rattle.format.specs.Truth as format;
-ghost use Rattle.format.specs.Truth.{some, prefix, occurs, stringTag, dwordTag, within};
+ghost use Rattle.format.specs.Truth.{onQuery, some, prefix, within};
 ghost use Rattle.wire.specs.WireAnswers.{ItemsPlaced};
 ghost use Rattle.tags.specs.Skips.{Lies};
-ghost use Rattle.tags.specs.TagAnswers.{tagOf, tagsIn};
+ghost use Rattle.tags.specs.TagAnswers.{tagsIn};
 ghost use Rattle.query.specs.QueryAnswers.{operatorOf, boundOf, nodeIn};
-ghost use Rattle.truth.specs.TruthAnswers.{LooksFor, Passes, isOf, onItem, tagMeets, tagsFrom, truths, truthStepMeaning, truthMeaning, truthFault};
+ghost use Rattle.truth.specs.TruthAnswers.{Finds, Seeks, isOf, isSought, numberOf, onItem, settledBy, tagMeets, tagsFrom, textOf, valueOffset};
+ghost use Rattle.truth.specs.TruthAnswers.{truths, truthStepMeaning, truthMeaning, truthFault};
 use find::contains;
+use output::same;
 use query::Bound;
 use query::Node;
 use query::NodeStep;
 use query::Operator;
 use query::QueryAnswer;
+use query::query_end;
 use query::read_lone_query;
 use query::read_node;
-use tags::Tag;
 use tags::TagListAnswer;
-use tags::TagStep;
-use tags::TagValue;
-use tags::read_tag;
 use tags::read_tag_list;
 use tags::whole_tag_end;
 use wire::Cursor;
+use wire::DwordStep;
 use wire::Fault;
 use wire::Items;
+use wire::PACKET_CEILING;
 use wire::Rule;
 use wire::bytes_at;
 use wire::no_fault;
 use wire::number;
 use wire::pair;
+
+// Leaves look for tags of two types. These are their codes.
+const TEXT: u8 = 2;
+
+const DWORD: u8 = 3;
+
+const DEPTH_LIMIT: usize = 24;
 
 // The truth of a query, and the cursor after the query.
 enum TruthStep {
@@ -77,102 +89,18 @@ fn starts_with(s: &[u8], t: &[u8]) -> bool
     true
 }
 
-fn equal(a: &[u8], b: &[u8]) -> bool
-    ensures { λ r. ⌜ r ≡ same (now (a .entry)) (now (b .entry)) ⌝ }
-{
-    if a.len() == b.len() {
-        return starts_with(b, a);
-    }
-    false
-}
-
-fn is_named(tags: &[u8], tag: Tag, name: &[u8]) -> bool
-    ensures { λ r. ⌜ r ≡ same (tagOf (now (tags .entry)) tag .name) (now (name .entry)) ⌝ }
-{
-    equal(bytes_at(tags, tag.name_at, tag.name_len), name)
-}
-
-// Each leaf looks for a tag of its own kind.
-
-// A keyword: a String tag named 01, in whose text it occurs.
-fn keyword_meets(text: &[u8], tags: &[u8], tag: Tag) -> bool
-    ensures { λ r. ⌜ r ≡ stringTag (0x01 ∷ []) (occurs (now (text .entry))) (tagOf (now (tags .entry)) tag) ⌝ }
-{
-    if is_named(tags, tag, b"\x01") {
-        let value = tag.value;
-        let TagValue::Text(place) = value else {
-            return false;
-        };
-        return contains(bytes_at(tags, place.at, place.len), text);
-    }
-    false
-}
-
-// A field: a String tag of the name, whose text is the field's.
-fn field_meets(text: &[u8], name: &[u8], tags: &[u8], tag: Tag) -> bool
-    ensures { λ r. ⌜ r ≡ stringTag (now (name .entry)) (λ v. same v (now (text .entry))) (tagOf (now (tags .entry)) tag) ⌝ }
-{
-    if is_named(tags, tag, name) {
-        let value = tag.value;
-        let TagValue::Text(place) = value else {
-            return false;
-        };
-        return equal(bytes_at(tags, place.at, place.len), text);
-    }
-    false
-}
-
-fn is_within(bound: Bound, limit: u32, n: u32) -> bool
-    ensures { λ r. ⌜ r ≡ within (boundOf bound) limit n ⌝ }
+fn is_within(bound: Bound, limit: u32, number: u32) -> bool
+    ensures { λ r. ⌜ r ≡ within (boundOf bound) limit number ⌝ }
 {
     match bound {
-        Bound::AtLeast => limit <= n,
-        Bound::AtMost => n <= limit,
+        Bound::AtLeast => limit <= number,
+        Bound::AtMost => number <= limit,
     }
 }
 
-// A limit: a DWORD tag of the name, whose number is at least or at most the limit.
-fn limit_meets(limit: u32, bound: Bound, name: &[u8], tags: &[u8], tag: Tag) -> bool
-    ensures { λ r. ⌜ r ≡ dwordTag (now (name .entry)) (within (boundOf bound) limit) (tagOf (now (tags .entry)) tag) ⌝ }
-{
-    if is_named(tags, tag, name) {
-        let value = tag.value;
-        let TagValue::Dword(n) = value else {
-            return false;
-        };
-        return is_within(bound, limit, n);
-    }
-    false
-}
+// A list is read before the leaves look into it, so that a tag lies whole at each of its offsets.
 
-// Whether the tag is one that the leaf looks for. A join is no leaf: it looks for none.
-fn tag_meets(query: &[u8], leaf: Node, tags: &[u8], tag: Tag) -> bool
-    ensures { λ r. ⌜ r ≡ tagMeets (nodeIn (now (query .entry)) leaf) (tagOf (now (tags .entry)) tag) ⌝ }
-{
-    match leaf {
-        Node::Join(_) => false,
-        Node::Keyword(text) => keyword_meets(bytes_at(query, text.at, text.len), tags, tag),
-        Node::Field(text, name) => {
-            field_meets(
-                bytes_at(query, text.at, text.len),
-                bytes_at(query, name.at, name.len),
-                tags,
-                tag,
-            )
-        }
-        Node::Limit(limit, bound, name) => limit_meets(
-            limit,
-            bound,
-            bytes_at(query, name.at, name.len),
-            tags,
-            tag,
-        ),
-    }
-}
-
-// A list is read before the leaves look into it, so that a tag lies whole at each of its places.
-
-// Whether the tag at a place has the type and the name. Its value is not read.
+// Whether the tag at an offset has the type and the name. Its value is not read. Most names have one byte, compared without a call.
 fn is_candidate(tags: &[u8], at: usize, code: u8, name: &[u8]) -> bool
     requires { ⌜ Lies (decodeTag (now tags) at) ⌝ }
     ensures { λ r. ⌜ r ≡ onItem (isOf code (now (name .entry))) (decodeTag (now (tags .entry)) at) ⌝ }
@@ -180,14 +108,17 @@ fn is_candidate(tags: &[u8], at: usize, code: u8, name: &[u8]) -> bool
     if tags[at] != code {
         return false;
     }
-    let n = pair(tags[at + 1], tags[at + 2]) as usize;
-    if n != name.len() {
+    let name_length = pair(tags[at + 1], tags[at + 2]) as usize;
+    if name_length != name.len() {
         return false;
     }
-    equal(bytes_at(tags, at + 3, n), name)
+    if name_length == 1 {
+        return tags[at + 3] == name[0];
+    }
+    starts_with(name, bytes_at(tags, at + 3, name_length))
 }
 
-// Where in a list: how many tags are left, and where the first of them lies.
+// Where in a list: how many tags are left, and the offset of the first of them.
 struct Spot {
     left: u32,
     at: usize,
@@ -196,7 +127,7 @@ struct Spot {
 // The first tag that has the type and the name, or the end of the list.
 fn next_candidate(tags: &[u8], from: Spot, code: u8, name: &[u8]) -> Spot
     requires { ⌜ Lies (tagsFrom (now tags) from) ⌝ }
-    ensures { λ r. ⌜ Passes code (now (name .entry)) (now (tags .entry)) from r ⌝ }
+    ensures { λ r. ⌜ Finds code (now (name .entry)) (now (tags .entry)) from r ⌝ }
 {
     let mut left = from.left;
     let mut at = from.at;
@@ -210,36 +141,76 @@ fn next_candidate(tags: &[u8], from: Spot, code: u8, name: &[u8]) -> Spot
     Spot { left, at }
 }
 
-// Whether the tag at a place is one that the leaf looks for.
-fn meets_at(query: &[u8], leaf: Node, tags: &[u8], at: usize) -> bool
-    ensures { λ r. ⌜ r ≡ onItem (tagMeets (nodeIn (now (query .entry)) leaf)) (decodeTag (now (tags .entry)) at) ⌝ }
+// The value of a tag is read where it lies. That the whole tag is there is known.
+
+fn value_at(tags: &[u8], at: usize) -> usize
+    requires { ⌜ Lies (decodeTag (now tags) at) ⌝ }
+    ensures { λ r. ⌜ r ≡ valueOffset (now (tags .entry)) at ⌝ }
 {
-    let t = read_tag(tags, Cursor { at });
-    let TagStep::Got(tag, _) = t else {
-        return false;
-    };
-    tag_meets(query, leaf, tags, tag)
+    let name_length = pair(tags[at + 1], tags[at + 2]) as usize;
+    let name = at + 3;
+    name + name_length
 }
 
-// Whether some tag of the list is one that the leaf looks for. Most tags are of another type or name, and are not read.
+// The text of a String tag.
+fn text_at(tags: &[u8], at: usize) -> &[u8]
+    requires { ⌜ Lies (decodeTag (now tags) at) ⌝ }
+    requires { ⌜ getD (now tags) at 0 ≡ 2 ⌝ }
+    ensures { λ r. ⌜ now r ≡ textOf (decodeTag (now (tags .entry)) at) ⌝ }
+{
+    let value = value_at(tags, at);
+    let length = pair(tags[value], tags[value + 1]) as usize;
+    bytes_at(tags, value + 2, length)
+}
+
+// The number of a DWORD tag.
+fn number_at(tags: &[u8], at: usize) -> u32
+    requires { ⌜ Lies (decodeTag (now tags) at) ⌝ }
+    requires { ⌜ getD (now tags) at 0 ≡ 3 ⌝ }
+    ensures { λ r. ⌜ r ≡ numberOf (decodeTag (now (tags .entry)) at) ⌝ }
+{
+    let value = Cursor {
+        at: value_at(tags, at),
+    };
+    let step = value.dword(tags);
+    let DwordStep::Got(number, _) = step else {
+        return 0;
+    };
+    number
+}
+
+// Whether a tag of the type and name that the leaf looks for has such a value. A join is no leaf: it looks for none.
+fn meets_at(query: &[u8], leaf: Node, tags: &[u8], at: usize) -> bool
+    requires { ⌜ true ≡ onItem (isSought (nodeIn (now query) leaf)) (decodeTag (now tags) at) ⌝ }
+    ensures { λ r. ⌜ r ≡ onItem (tagMeets (nodeIn (now (query .entry)) leaf)) (decodeTag (now (tags .entry)) at) ⌝ }
+{
+    match leaf {
+        Node::Join(_) => false,
+        Node::Keyword(text) => contains(text_at(tags, at), bytes_at(query, text.at, text.len)),
+        Node::Field(text, _) => same(text_at(tags, at), bytes_at(query, text.at, text.len)),
+        Node::Limit(limit, bound, _) => is_within(bound, limit, number_at(tags, at)),
+    }
+}
+
+// Whether some tag of the list is one that the leaf looks for. Most tags are of another type or name: their values are not read.
 fn some_tag(query: &[u8], leaf: Node, code: u8, name: &[u8], tags: &[u8], list: Items) -> bool
-    requires { ⌜ LooksFor code (now name) (tagMeets (nodeIn (now query) leaf)) × ItemsPlaced decodeTag (now tags) list ⌝ }
+    requires { ⌜ Seeks code (now name) (nodeIn (now query) leaf) × ItemsPlaced decodeTag (now tags) list ⌝ }
     ensures { λ r. ⌜ r ≡ some (tagMeets (nodeIn (now (query .entry)) leaf)) (tagsIn (now (tags .entry)) list) ⌝ }
 {
     let mut left = list.count;
     let mut at = list.at;
     while 0 < left {
         let found = next_candidate(tags, Spot { left, at }, code, name);
-        let n = found.left;
+        let remaining = found.left;
         let here = found.at;
-        if n == 0 {
+        if remaining == 0 {
             return false;
         }
         if meets_at(query, leaf, tags, here) {
             return true;
         }
         at = whole_tag_end(tags, here);
-        left = n - 1;
+        left = remaining - 1;
     }
     false
 }
@@ -251,11 +222,11 @@ fn leaf_holds(query: &[u8], leaf: Node, tags: &[u8], list: Items) -> bool
 {
     match leaf {
         Node::Join(_) => false,
-        Node::Keyword(_) => some_tag(query, leaf, 2, b"\x01", tags, list),
+        Node::Keyword(_) => some_tag(query, leaf, TEXT, b"\x01", tags, list),
         Node::Field(_, name) => some_tag(
             query,
             leaf,
-            2,
+            TEXT,
             bytes_at(query, name.at, name.len),
             tags,
             list,
@@ -263,7 +234,7 @@ fn leaf_holds(query: &[u8], leaf: Node, tags: &[u8], list: Items) -> bool
         Node::Limit(_, _, name) => some_tag(
             query,
             leaf,
-            3,
+            DWORD,
             bytes_at(query, name.at, name.len),
             tags,
             list,
@@ -271,18 +242,29 @@ fn leaf_holds(query: &[u8], leaf: Node, tags: &[u8], list: Items) -> bool
     }
 }
 
-fn combine(operator: Operator, p: bool, q: bool) -> bool
-    ensures { λ r. ⌜ r ≡ format.combine (operatorOf operator) p q ⌝ }
+// Whether the left side alone decides: the right side cannot change the truth then, which is that of the left side.
+fn is_settled(operator: Operator, first: bool) -> bool
+    ensures { λ r. ⌜ r ≡ settledBy (operatorOf operator) first ⌝ }
 {
     match operator {
-        Operator::And => p && q,
-        Operator::Or => p || q,
-        Operator::AndNot => p && !q,
+        Operator::And => !first,
+        Operator::Or => first,
+        Operator::AndNot => !first,
     }
 }
 
-// The truth of the query at the cursor, of at most `left` depth, on a tag list that lies in `tags`. Both sides of an operator are
-// evaluated, whatever the first one is: the second one's end is the query's.
+fn combine(operator: Operator, first: bool, second: bool) -> bool
+    ensures { λ r. ⌜ r ≡ format.combine (operatorOf operator) first second ⌝ }
+{
+    match operator {
+        Operator::And => first && second,
+        Operator::Or => first || second,
+        Operator::AndNot => first && !second,
+    }
+}
+
+// The truth of the query at the cursor, of at most `left` depth, on a tag list that lies in `tags`. A right side that cannot change the
+// truth is skipped, and evaluated only where the skip does not find its end, which is the query's.
 fn evaluate(query: &[u8], c: Cursor, left: usize, tags: &[u8], list: Items) -> TruthStep
     requires { ⌜ ItemsPlaced decodeTag (now tags) list ⌝ }
     ensures { λ r. ⌜ truthStepMeaning r ≡ truths (tagsIn (now (tags .entry)) list) (decodeQueryIn left (now (query .entry)) (c .at)) ⌝ }
@@ -294,21 +276,28 @@ fn evaluate(query: &[u8], c: Cursor, left: usize, tags: &[u8], list: Items) -> T
             size: 0,
         });
     }
-    let n = read_node(query, c);
-    let NodeStep::Got(node, next) = n else {
-        return TruthStep::Refused(n.fault());
+    let node_step = read_node(query, c);
+    let NodeStep::Got(node, next) = node_step else {
+        return TruthStep::Refused(node_step.fault());
     };
     match node {
         Node::Join(operator) => {
-            let a = evaluate(query, next, left - 1, tags, list);
-            let TruthStep::Got(p, middle) = a else {
-                return TruthStep::Refused(a.fault());
+            let side = left - 1;
+            let first_step = evaluate(query, next, side, tags, list);
+            let TruthStep::Got(first, middle) = first_step else {
+                return TruthStep::Refused(first_step.fault());
             };
-            let b = evaluate(query, middle, left - 1, tags, list);
-            let TruthStep::Got(q, end) = b else {
-                return TruthStep::Refused(b.fault());
+            if is_settled(operator, first) {
+                let end = query_end(query, middle.at, side);
+                if end != 0 {
+                    return TruthStep::Got(first, Cursor { at: end });
+                }
+            }
+            let second_step = evaluate(query, middle, side, tags, list);
+            let TruthStep::Got(second, end) = second_step else {
+                return TruthStep::Refused(second_step.fault());
             };
-            TruthStep::Got(combine(operator, p, q), end)
+            TruthStep::Got(combine(operator, first, second), end)
         }
         Node::Keyword(_) => TruthStep::Got(leaf_holds(query, node, tags, list), next),
         Node::Field(_, _) => TruthStep::Got(leaf_holds(query, node, tags, list), next),
@@ -322,34 +311,53 @@ pub struct Truth {
     pub holds: bool,
 }
 
-// The truth of a lone query on a lone tag list: each is at most 65,536 bytes, and nothing else.
-pub fn truth_of(query: &[u8], tags: &[u8]) -> Truth
-    ensures { λ r. ⌜ truthMeaning r ≡ format.truth (now (query .entry)) (now (tags .entry)) ⌝ }
+// The truth of a lone query on a list that was read. The query is read as it is evaluated.
+fn truth_on(query: &[u8], tags: &[u8], list: Items) -> Truth
+    requires { ⌜ ItemsPlaced decodeTag (now tags) list ⌝ }
+    ensures { λ r. ⌜ truthMeaning r ≡ onQuery (decode loneQuery (now (query .entry))) (accepted (tagsIn (now (tags .entry)) list)) ⌝ }
 {
-    let q = read_lone_query(query);
-    if let QueryAnswer::Refused(n) = q {
+    if PACKET_CEILING < query.len() {
         return Truth {
-            number: n,
+            number: number(Rule::BytesCeiling),
             holds: false,
         };
     }
-    let t = read_tag_list(tags);
-    match t {
-        TagListAnswer::Refused(n) => Truth {
-            number: n,
+    let step = evaluate(query, Cursor { at: 0 }, DEPTH_LIMIT, tags, list);
+    let TruthStep::Got(holds, end) = step else {
+        return Truth {
+            number: step.fault().number(),
             holds: false,
-        },
-        TagListAnswer::Accepted(list) => {
-            let e = evaluate(query, Cursor { at: 0 }, 24, tags, list);
-            let TruthStep::Got(holds, _) = e else {
-                let f = e.fault();
-                let rule = f.rule;
+        };
+    };
+    if end.at == query.len() {
+        return Truth { number: 0, holds };
+    }
+    Truth {
+        number: number(Rule::Rest),
+        holds: false,
+    }
+}
+
+// The truth of a lone query on a lone tag list: each is at most 65,536 bytes, and nothing else. The list is read first, since the
+// query's leaves look into it, but a refusal of the query comes before one of the list.
+pub fn truth_of(query: &[u8], tags: &[u8]) -> Truth
+    ensures { λ r. ⌜ truthMeaning r ≡ format.truth (now (query .entry)) (now (tags .entry)) ⌝ }
+{
+    let list_answer = read_tag_list(tags);
+    match list_answer {
+        TagListAnswer::Accepted(list) => truth_on(query, tags, list),
+        TagListAnswer::Refused(list_number) => {
+            let query_answer = read_lone_query(query);
+            if let QueryAnswer::Refused(number) = query_answer {
                 return Truth {
-                    number: number(rule),
+                    number,
                     holds: false,
                 };
-            };
-            Truth { number: 0, holds }
+            }
+            Truth {
+                number: list_number,
+                holds: false,
+            }
         }
     }
 }

@@ -1,22 +1,26 @@
 -- A query calls for its two sides with one depth less: the measure is the depth that is left.
 use Prim.Native.Nat.{ℕ, _<_}
-use mathlib.Core.Path.{refl}
+use mathlib.Core.Path.{refl, sym, _∙_}
 use native.Mathlib.Omega.{arith}
 use borrow.Author.Needs.{needs}
 use borrow.Fn.Kinds.{In}
 use borrow.Fn.PlainCycle.{Measures, is, falls, and}
 use Rattle.format.specs.Order.{decodeQueryIn}
 use Rattle.format.specs.Truth.{holds}
+use Rattle.query.specs.QueryAnswers.{operatorOf}
 use Rattle.query.proofs.Nodes.{query-left}
+use Rattle.query.proofs.Skips.{told}
 use Rattle.truth.specs.TruthAnswers.{tagMeets, truths}
-use Rattle.truth.proofs.Joins.{truth-join}
+use Rattle.truth.proofs.Joins.{truth-join, truth-settled}
 use Rattle.truth.proofs.evaluate.Reads as evaluate
 use Rattle.truth.proofs.evaluate.Kinds as kinds
 use Rattle.truth.proofs.+evaluate.Lts-evaluate as lts
 use Rattle.query.proofs.NodeStep.fault.Reads as node-fault
+use Rattle.query.proofs.query_end.Reads as query-end
 use Rattle.query.proofs.read_node.Reads as node
 use Rattle.truth.proofs.TruthStep.fault.Reads as truth-fault
 use Rattle.truth.proofs.combine.Reads as combine
+use Rattle.truth.proofs.is_settled.Reads as settled
 use Rattle.truth.proofs.leaf_holds.Reads as leaf
 use Rattle.truth.proofs.+evaluate.{statement}
 use Rattle.truth.proofs.+evaluate.Tie.{close}
@@ -42,6 +46,10 @@ module _ (t : ℕ) where
     evaluate.Post,
     truth-fault.Asked,
     truth-fault.Learnt,
+    settled.Asked,
+    settled.Learnt,
+    query-end.Asked,
+    query-end.Learnt,
     combine.Asked,
     combine.Learnt,
     leaf.Asked,
@@ -55,8 +63,8 @@ module _ (t : ℕ) where
   read-node-requires : lts.Need-read-node-requires calls at-t evaluate.Post
   read-node-requires c κs = search needs
 
-  enum-known-n : lts.Need-enum-known-n calls at-t evaluate.Post
-  enum-known-n c = search needs
+  enum-known-node-step : lts.Need-enum-known-node-step calls at-t evaluate.Post
+  enum-known-node-step c = search needs
 
   enum-told : lts.Need-enum-told calls at-t evaluate.Post
   enum-told c = search needs
@@ -73,14 +81,14 @@ module _ (t : ℕ) where
   enum-known-node : lts.Need-enum-known-node calls at-t evaluate.Post
   enum-known-node c = search needs
 
-  sub-evaluate : lts.Need-sub-evaluate calls at-t evaluate.Post
-  sub-evaluate c = omega arith
+  sub-side : lts.Need-sub-side calls at-t evaluate.Post
+  sub-side c = omega arith
 
   evaluate-requires : lts.Need-evaluate-requires calls at-t evaluate.Post
   evaluate-requires c κs = (omega arith, search needs)
 
-  enum-known-a : lts.Need-enum-known-a calls at-t evaluate.Post
-  enum-known-a c = search needs
+  enum-known-first-step : lts.Need-enum-known-first-step calls at-t evaluate.Post
+  enum-known-first-step c = search needs
 
   enum-told-2 : lts.Need-enum-told-2 calls at-t evaluate.Post
   enum-told-2 c = search needs
@@ -92,17 +100,31 @@ module _ (t : ℕ) where
   returns-3 c =
       let j = c .before .before .before .before .before in
       let b = j .before .before .before in
-      rw (c .fault2 .ensures, query-left _ (b .before .before .before .if1 .left), ← b .before .before .read-node .ensures .0, b .n .given .1, j .node .given .1)
+      rw (c .fault2 .ensures, query-left _ (b .before .before .before .if1 .left), ← b .before .before .read-node .ensures .0, b .node-step .given .1, j .node .given .1)
       (rw (truth-join, ← c .before .before .before .evaluate .ensures, c .before .enum-told2 .given .1) refl)
 
-  sub-evaluate-2 : lts.Need-sub-evaluate-2 calls at-t evaluate.Post
-  sub-evaluate-2 c = omega arith
+  is-settled-requires : lts.Need-is-settled-requires calls at-t evaluate.Post
+  is-settled-requires c κs = search needs
+
+  query-end-requires : lts.Need-query-end-requires calls at-t evaluate.Post
+  query-end-requires c κs = search needs
+
+  returns-4 : lts.Need-returns-4 calls at-t evaluate.Post
+  returns-4 c =
+      let settled = c .before .before .before in
+      let f = settled .before .before in
+      let j = f .before .before .before .before in
+      let b = j .before .before .before in
+      let decides = sym (c .before .before .if2 .taken) ∙ settled .is-settled .ensures in
+      rw (query-left _ (b .before .before .before .if1 .left), ← b .before .before .read-node .ensures .0, b .node-step .given .1, j .node .given .1)
+      (rw (truth-join, ← f .before .before .evaluate .ensures, f .first-step .given .1)
+      (truth-settled _ (operatorOf (j .node .given .0 .0)) _ _ _ decides (told (c .before .query-end .ensures) (c .if3 .taken))))
 
   evaluate-requires-2 : lts.Need-evaluate-requires-2 calls at-t evaluate.Post
   evaluate-requires-2 c κs = (omega arith, search needs)
 
-  enum-known-b : lts.Need-enum-known-b calls at-t evaluate.Post
-  enum-known-b c = search needs
+  enum-known-second-step : lts.Need-enum-known-second-step calls at-t evaluate.Post
+  enum-known-second-step c = search needs
 
   enum-told-3 : lts.Need-enum-told-3 calls at-t evaluate.Post
   enum-told-3 c = search needs
@@ -110,13 +132,13 @@ module _ (t : ℕ) where
   fault-requires-3 : lts.Need-fault-requires-3 calls at-t evaluate.Post
   fault-requires-3 c κs = search needs
 
-  returns-4 : lts.Need-returns-4 calls at-t evaluate.Post
-  returns-4 c =
-      let m = c .before .before .before .before .before in
-      let j = m .before .before .before .before in
+  returns-5 : lts.Need-returns-5 calls at-t evaluate.Post
+  returns-5 c =
+      let f = c .before .before .before .before .before .before .before in
+      let j = f .before .before .before .before in
       let b = j .before .before .before in
-      rw (c .fault3 .ensures, query-left _ (b .before .before .before .if1 .left), ← b .before .before .read-node .ensures .0, b .n .given .1, j .node .given .1)
-      (rw (truth-join, ← m .before .before .evaluate .ensures, m .a .given .1, ← c .before .before .before .evaluate2 .ensures, c .before .enum-told3 .given .1) refl)
+      rw (c .fault3 .ensures, query-left _ (b .before .before .before .if1 .left), ← b .before .before .read-node .ensures .0, b .node-step .given .1, j .node .given .1)
+      (rw (truth-join, ← f .before .before .evaluate .ensures, f .first-step .given .1, ← c .before .before .before .evaluate2 .ensures, c .before .enum-told3 .given .1) refl)
 
   combine-requires : lts.Need-combine-requires calls at-t evaluate.Post
   combine-requires c κs = search needs
@@ -139,57 +161,59 @@ module _ (t : ℕ) where
   leaf-holds-requires-3 : lts.Need-leaf-holds-requires-3 calls at-t evaluate.Post
   leaf-holds-requires-3 c κs = search needs
 
-  returns-5 : lts.Need-returns-5 calls at-t evaluate.Post
-  returns-5 c =
-      let e = c .before .before in
-      let m = e .before .before .before .before in
-      let j = m .before .before .before .before in
-      let b = j .before .before .before in
-      rw (c .combine .ensures, query-left _ (b .before .before .before .if1 .left), ← b .before .before .read-node .ensures .0, b .n .given .1, j .node .given .1)
-      (rw (truth-join, ← m .before .before .evaluate .ensures, m .a .given .1, ← e .before .before .evaluate2 .ensures, e .b .given .1) refl)
-
   returns-6 : lts.Need-returns-6 calls at-t evaluate.Post
-  unfolding truths holds tagMeets
   returns-6 c =
-      let b = c .before .before .before .before in
-      rw (c .leaf-holds .ensures, query-left _ (b .before .before .before .if1 .left), ← b .before .before .read-node .ensures .0)
-      (rw (b .n .given .1, c .before .enum-told4 .given .1) refl)
+      let e = c .before .before in
+      let f = e .before .before .before .before .before .before in
+      let j = f .before .before .before .before in
+      let b = j .before .before .before in
+      rw (c .combine .ensures, query-left _ (b .before .before .before .if1 .left), ← b .before .before .read-node .ensures .0, b .node-step .given .1, j .node .given .1)
+      (rw (truth-join, ← f .before .before .evaluate .ensures, f .first-step .given .1, ← e .before .before .evaluate2 .ensures, e .second-step .given .1) refl)
 
   returns-7 : lts.Need-returns-7 calls at-t evaluate.Post
   unfolding truths holds tagMeets
   returns-7 c =
       let b = c .before .before .before .before in
-      rw (c .leaf-holds2 .ensures, query-left _ (b .before .before .before .if1 .left), ← b .before .before .read-node .ensures .0)
-      (rw (b .n .given .1, c .before .enum-told5 .given .1) refl)
+      rw (c .leaf-holds .ensures, query-left _ (b .before .before .before .if1 .left), ← b .before .before .read-node .ensures .0)
+      (rw (b .node-step .given .1, c .before .enum-told4 .given .1) refl)
 
   returns-8 : lts.Need-returns-8 calls at-t evaluate.Post
   unfolding truths holds tagMeets
   returns-8 c =
       let b = c .before .before .before .before in
+      rw (c .leaf-holds2 .ensures, query-left _ (b .before .before .before .if1 .left), ← b .before .before .read-node .ensures .0)
+      (rw (b .node-step .given .1, c .before .enum-told5 .given .1) refl)
+
+  returns-9 : lts.Need-returns-9 calls at-t evaluate.Post
+  unfolding truths holds tagMeets
+  returns-9 c =
+      let b = c .before .before .before .before in
       rw (c .leaf-holds3 .ensures, query-left _ (b .before .before .before .if1 .left), ← b .before .before .read-node .ensures .0)
-      (rw (b .n .given .1, c .before .enum-told6 .given .1) refl)
+      (rw (b .node-step .given .1, c .before .enum-told6 .given .1) refl)
 
 pub +evaluate-spec : {M : Type 1} → statement M
 +evaluate-spec = close μ λ t. lts.spec (calls t) (at-t t) evaluate.Post
     (returns t)
     (read-node-requires t)
-    (enum-known-n t)
+    (enum-known-node-step t)
     (enum-told t)
     (fault-requires t)
     (returns-2 t)
     (enum-known-node t)
-    (sub-evaluate t)
+    (sub-side t)
     (evaluate-requires t)
-    (enum-known-a t)
+    (enum-known-first-step t)
     (enum-told-2 t)
     (fault-requires-2 t)
     (returns-3 t)
-    (sub-evaluate-2 t)
+    (is-settled-requires t)
+    (query-end-requires t)
+    (returns-4 t)
     (evaluate-requires-2 t)
-    (enum-known-b t)
+    (enum-known-second-step t)
     (enum-told-3 t)
     (fault-requires-3 t)
-    (returns-4 t)
+    (returns-5 t)
     (combine-requires t)
     (enum-told-4 t)
     (leaf-holds-requires t)
@@ -197,7 +221,7 @@ pub +evaluate-spec : {M : Type 1} → statement M
     (leaf-holds-requires-2 t)
     (enum-told-6 t)
     (leaf-holds-requires-3 t)
-    (returns-5 t)
     (returns-6 t)
     (returns-7 t)
     (returns-8 t)
+    (returns-9 t)

@@ -1,13 +1,7 @@
-use mathlib.Core.Path.{_≡_, refl}
-use mathlib.Core.Bool.{Bool, true, false, not}
-use Rattle.format.specs.Tables.{pick}
+use Rattle.truth.proofs.Joins.{negated}
 use borrow.Author.Needs.{needs}
 use Rattle.truth.proofs.combine.Statement.{statement}
 use Rattle.truth.proofs.combine.Tie as tie
-
-negated : (q : Bool) → not q ≡ pick q false true
-negated true = refl
-negated false = refl
 
 enum-told : tie.Need-enum-told
 enum-told c = search needs
@@ -31,7 +25,7 @@ returns-4 : tie.Need-returns-4
 returns-4 c = search needs
 
 returns-5 : tie.Need-returns-5
-returns-5 c = rw (c .before .enum-told3 .given .1, c .if3 .taken) (negated (c .before .before .before .args .q))
+returns-5 c = rw (c .before .enum-told3 .given .1, c .if3 .taken) (negated (c .before .before .before .args .second))
 
 returns-6 : tie.Need-returns-6
 returns-6 c = search needs

@@ -2,7 +2,6 @@ use mathlib.Core.Path.{refl, sym}
 use denote.Ref.{now}
 use Rattle.tags.specs.TagAnswers.{tagsIn}
 use Rattle.truth.specs.TruthAnswers.{tagMeets}
-use Rattle.truth.proofs.Candidates.{looks-for-number, looks-for-text}
 use Rattle.truth.proofs.Found.{some-never}
 use borrow.Author.Needs.{needs}
 use Rattle.truth.proofs.leaf_holds.Statement.{statement}
@@ -18,10 +17,9 @@ slice-aggregate-some-tag : tie.Need-slice-aggregate-some-tag
 slice-aggregate-some-tag c = search needs
 
 some-tag-requires : tie.Need-some-tag-requires
-unfolding tagMeets
 some-tag-requires c κs =
     let a = c .before .before .before .before .before in
-    (rw (c .before .enum-told2 .given .1) (looks-for-text _ _), a .pre)
+    (rw (c .before .enum-told2 .given .1) (λ t. refl), a .pre)
 
 enum-known-leaf : tie.Need-enum-known-leaf
 enum-known-leaf c = search needs
@@ -30,10 +28,9 @@ bytes-at-requires : tie.Need-bytes-at-requires
 bytes-at-requires c κs = search needs
 
 some-tag-requires-2 : tie.Need-some-tag-requires-2
-unfolding tagMeets
 some-tag-requires-2 c κs =
     let a = c .before .before .before .before .before .before in
-    (rw (c .bytes-at .ensures) (looks-for-text _ _), a .pre)
+    (rw (c .bytes-at .ensures) (λ t. refl), a .pre)
 
 enum-known-leaf-2 : tie.Need-enum-known-leaf-2
 enum-known-leaf-2 c = search needs
@@ -42,10 +39,9 @@ bytes-at-requires-2 : tie.Need-bytes-at-requires-2
 bytes-at-requires-2 c κs = search needs
 
 some-tag-requires-3 : tie.Need-some-tag-requires-3
-unfolding tagMeets
 some-tag-requires-3 c κs =
     let a = c .before .before .before .before .before .before in
-    (rw (c .bytes-at2 .ensures) (looks-for-number _ _), a .pre)
+    (rw (c .bytes-at2 .ensures) (λ t. refl), a .pre)
 
 returns : tie.Need-returns
 unfolding tagMeets

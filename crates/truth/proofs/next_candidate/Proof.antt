@@ -1,4 +1,5 @@
 use mathlib.Core.Path.{sym, _∙_}
+use native.Mathlib.Omega.{arith}
 use borrow.Author.Needs.{needs}
 use Rattle.format.specs.Order.{decodeTag}
 use Rattle.truth.specs.TruthAnswers.{Passes}
@@ -20,7 +21,7 @@ is-candidate-requires : tie.Need-is-candidate-requires Inv-loop μ-loop
 is-candidate-requires c κs = let l = c .before .loop in first-lies decodeTag _ (l .left) (l .at) (c .loop-test .taken) (l .inv .lie)
 
 returns : tie.Need-returns Inv-loop μ-loop
-returns c = c .before .before .before .loop .inv
+returns c = (c .before .before .before .loop .inv, λ h. sym (c .if1 .taken) ∙ c .before .is-candidate .ensures)
 
 whole-tag-end-requires : tie.Need-whole-tag-end-requires Inv-loop μ-loop
 whole-tag-end-requires c κs = let t = c .before .before in let l = t .before .loop in first-lies decodeTag _ (l .left) (l .at) (t .loop-test .taken) (l .inv .lie)
@@ -39,7 +40,7 @@ loop-again c =
     passes-one _ _ _ _ (l .left) (l .at) (t .loop-test .taken) (l .inv) (c .whole-tag-end .ensures) other
 
 returns-2 : tie.Need-returns-2 Inv-loop μ-loop
-returns-2 c = c .before .loop .inv
+returns-2 c = (c .before .loop .inv, λ h. absurd (omega (arith, h, c .loop-test .left)))
 
 pub next-candidate-spec : {M : Type 1} → statement M
 next-candidate-spec =

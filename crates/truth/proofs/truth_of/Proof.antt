@@ -1,85 +1,56 @@
-use Rattle.truth.proofs.Answers.{never-refused, query-refused, tags-refused, both-accepted}
+use mathlib.Core.Path.{_∙_}
+use Rattle.truth.proofs.Answers.{query-refused, tags-accepted, tags-refused}
 use borrow.Author.Needs.{needs}
 use Rattle.truth.proofs.truth_of.Statement.{statement}
 use Rattle.truth.proofs.truth_of.Tie as tie
 
+read-tag-list-requires : tie.Need-read-tag-list-requires
+read-tag-list-requires c κs = search needs
+
+enum-known-list-answer : tie.Need-enum-known-list-answer
+enum-known-list-answer c = search needs
+
+truth-on-requires : tie.Need-truth-on-requires
+truth-on-requires c κs = rw (c .before .list-answer .given .1) at (c .before .before .before .read-tag-list .ensures .1 .0) .0
+
+enum-known-list-answer-2 : tie.Need-enum-known-list-answer-2
+enum-known-list-answer-2 c = search needs
+
 read-lone-query-requires : tie.Need-read-lone-query-requires
 read-lone-query-requires c κs = search needs
 
-enum-known-q : tie.Need-enum-known-q
-enum-known-q c = search needs
+enum-known-query-answer : tie.Need-enum-known-query-answer
+enum-known-query-answer c = search needs
 
 returns : tie.Need-returns
-returns c =
-    query-refused _ _ (rw (c .before .q .given .1) at (c .before .before .before .read-lone-query .ensures .0))
+returns c = query-refused _ _ (rw (c .before .query-answer .given .1) at (c .before .before .before .read-lone-query .ensures .0))
 
 enum-told : tie.Need-enum-told
 enum-told c = search needs
 
-read-tag-list-requires : tie.Need-read-tag-list-requires
-read-tag-list-requires c κs = search needs
-
-enum-known-t : tie.Need-enum-known-t
-enum-known-t c = search needs
-
-enum-known-t-2 : tie.Need-enum-known-t-2
-enum-known-t-2 c = search needs
-
-evaluate-requires : tie.Need-evaluate-requires
-evaluate-requires c κs = rw (c .before .t2 .given .1) at (c .before .before .before .read-tag-list .ensures .1 .0) .0
-
-enum-known-e : tie.Need-enum-known-e
-enum-known-e c = search needs
-
-enum-told-2 : tie.Need-enum-told-2
-enum-told-2 c = search needs
-
-fault-requires : tie.Need-fault-requires
-fault-requires c κs = search needs
-
-number-requires : tie.Need-number-requires
-number-requires c κs = search needs
-
 returns-2 : tie.Need-returns-2
 returns-2 c =
-    let e = c .before .before in
-    let t = e .before .before .before .before .before .before in
-    let q = t .before .before .before in
-    let asked = rw (t .before .enum-told .given .1) at (q .read-lone-query .ensures .0) in
-    absurd (never-refused _ _ asked (rw (e .enum-told2 .given .1) at (e .before .before .evaluate .ensures)))
+    let l = c .before .before in
+    c .truth-on .ensures ∙ tags-accepted _ _ (rw (l .list-answer .given .1) at (l .before .before .read-tag-list .ensures .0))
 
 returns-3 : tie.Need-returns-3
 returns-3 c =
-    let t = c .before .before .before in
-    let q = t .before .before .before in
-    let asked = rw (t .before .enum-told .given .1) at (q .read-lone-query .ensures .0) in
-    tags-refused _ _ asked (rw (c .before .t .given .1) at (t .read-tag-list .ensures .0))
-
-returns-4 : tie.Need-returns-4
-returns-4 c =
-    let e = c .before in
-    let t = e .before .before .before .before .before .before in
-    let q = t .before .before .before in
-    let asked = rw (t .before .enum-told .given .1) at (q .read-lone-query .ensures .0) in
-    let list = rw (e .before .before .before .before .t2 .given .1) at (t .read-tag-list .ensures .0) in
-    both-accepted _ _ asked list (rw (e .e .given .1) at (e .before .before .evaluate .ensures))
+    let q = c .before .before in
+    let l = q .before .before in
+    let asked = rw (c .enum-told .given .1) at (q .read-lone-query .ensures .0) in
+    tags-refused _ _ asked (rw (l .list-answer2 .given .1) at (l .before .before .read-tag-list .ensures .0))
 
 pub truth-of-spec : {M : Type 1} → statement M
 truth-of-spec =
     tie.close
     (tie.spec
+    read-tag-list-requires
+    enum-known-list-answer
+    truth-on-requires
+    enum-known-list-answer-2
     read-lone-query-requires
-    enum-known-q
+    enum-known-query-answer
     returns
     enum-told
-    read-tag-list-requires
-    enum-known-t
-    enum-known-t-2
-    evaluate-requires
-    enum-known-e
-    enum-told-2
-    fault-requires
-    number-requires
     returns-2
-    returns-3
-    returns-4)
+    returns-3)
