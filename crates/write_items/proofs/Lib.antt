@@ -1,6 +1,8 @@
 pub mod There
+pub mod Listed
 pub mod Answers
 pub mod Pieces
+pub mod Puts
 pub mod Leaves
 pub mod Joins
 pub mod Copies

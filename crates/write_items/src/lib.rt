@@ -23,6 +23,7 @@ pub use items::write_hash_tag;
 pub use items::write_name;
 pub use items::write_string;
 pub use items::write_text_tag;
+pub use lists::put_list;
 pub use lists::tags_end;
 pub use lists::write_tag_list;
 pub use queries::write_field;

@@ -36,8 +36,9 @@ pub fn tags_end(s: &[u8], first: Cursor, count: u32) -> DoneStep
     DoneStep::Got(next)
 }
 
-// A count, and after it the bytes of that many items. The answer is how many bytes were written.
-fn put_list(out: &mut [u8], count: u32, items: &[u8]) -> usize
+// A DWORD count, and after it the bytes of that many items. The answer is how many bytes were written. It is public for the
+// crates above alone: it requires room.
+pub fn put_list(out: &mut [u8], count: u32, items: &[u8]) -> usize
     requires { ⌜ 4 + length (now items) ≤ length (now out) ⌝ }
     ensures written { λ r. ⌜ r ≡ 4 + length (now (items .entry)) ⌝ }
     ensures output { λ r. ⌜ now (out .exit) ≡ overwritten (dword count ++ now (items .entry)) (now (out .entry)) ⌝ }

@@ -1,10 +1,11 @@
-use mathlib.Core.Path.{sym, _∙_}
+-- The parts are put one after the other: `then` of Puts.
+use mathlib.Core.Path.{refl}
 use mathlib.Core.List.{_++_, append-assoc}
 use native.Mathlib.Omega.{arith}
 use denote.Ref.{now}
 use Rattle.format.specs.Layout.{byte, encodeName}
-use Rattle.output.proofs.Laws.{after}
 use Rattle.write_items.proofs.Pieces.{head-size}
+use Rattle.write_items.proofs.Puts.{as-puts, puts, regrouped, then}
 use borrow.Author.Needs.{needs}
 use Rattle.write_items.proofs.items.put_hash_tag.Statement.{statement}
 use Rattle.write_items.proofs.items.put_hash_tag.Tie as tie
@@ -32,22 +33,12 @@ same-length c = search needs
 
 returns : tie.Need-returns
 returns c =
-    let a = c .before .before .before .before .before .before .before .before .before .before .before .args in
-    let n = encodeName (now (a .name)) in
-    let head = c .before .before .before .before .before .before .put-tag-head .ensures in
-    let at = head-size 1 (now (a .name)) ∙ sym (head .0) in
-    let all = after (byte 1 ++ n) (now (a .hash)) _ _ _ _ at (head .1) (c .before .before .copy .ensures) in
-    (omega (arith, head .0), rw (← append-assoc (byte 1) n (now (a .hash))) all)
+    let headed = c .before .before .before .before .before .before in
+    let start = headed .before .before .before .before .before in
+    let a = start .args in
+    let head = headed .put-tag-head .ensures in
+    let all = then (as-puts (byte 1 ++ encodeName (now (a .name))) (head .0) (head-size 1 (now (a .name))) (head .1)) (puts (now (a .hash)) 16 (start .pre .1) (c .before .before .copy .ensures)) in
+    (omega (arith, all .written), regrouped (append-assoc (byte 1) (encodeName (now (a .name))) (now (a .hash))) refl all .output)
 
 pub put-hash-tag-spec : {M : Type 1} → statement M
-put-hash-tag-spec =
-    tie.close
-    (tie.spec
-    put-tag-head-requires
-    sub-copy
-    part-copy-start
-    part-copy-end
-    copy-requires
-    add-result
-    same-length
-    returns)
+put-hash-tag-spec = tie.close (tie.spec put-tag-head-requires sub-copy part-copy-start part-copy-end copy-requires add-result same-length returns)

@@ -1,10 +1,12 @@
-use mathlib.Core.Path.{sym, _∙_}
+-- The parts are put one after the other: `then` of Puts.
+use mathlib.Core.Path.{refl}
 use mathlib.Core.List.{_++_, append-assoc}
 use native.Mathlib.Omega.{arith}
 use denote.Ref.{now}
 use Rattle.format.specs.Layout.{byte, dword, encodeName}
-use Rattle.output.proofs.Laws.{after}
+use Rattle.format.proofs.Codec.{length-littleEndian}
 use Rattle.write_items.proofs.Pieces.{head-size}
+use Rattle.write_items.proofs.Puts.{as-puts, puts, regrouped, then}
 use borrow.Author.Needs.{needs}
 use Rattle.write_items.proofs.items.put_number_tag.Statement.{statement}
 use Rattle.write_items.proofs.items.put_number_tag.Tie as tie
@@ -32,12 +34,11 @@ same-length c = search needs
 
 returns : tie.Need-returns
 returns c =
-    let a = c .before .before .before .before .before .before .before .before .before .before .args in
-    let n = encodeName (now (a .name)) in
-    let head = c .before .before .before .before .before .before .put-tag-head .ensures in
-    let at = head-size (a .code) (now (a .name)) ∙ sym (head .0) in
-    let all = after (byte (a .code) ++ n) (dword (a .value)) _ _ _ _ at (head .1) (c .before .before .put-dword .ensures) in
-    (omega (arith, head .0), rw (← append-assoc (byte (a .code)) n (dword (a .value))) all)
+    let headed = c .before .before .before .before .before .before in
+    let a = headed .before .before .before .before .args in
+    let head = headed .put-tag-head .ensures in
+    let all = then (as-puts (byte (a .code) ++ encodeName (now (a .name))) (head .0) (head-size (a .code) (now (a .name))) (head .1)) (puts (dword (a .value)) 4 (length-littleEndian 4 (a .value)) (c .before .before .put-dword .ensures)) in
+    (omega (arith, all .written), regrouped (append-assoc (byte (a .code)) (encodeName (now (a .name))) (dword (a .value))) refl all .output)
 
 pub put-number-tag-spec : {M : Type 1} → statement M
 put-number-tag-spec =

@@ -1,9 +1,10 @@
+-- The parts are put one after the other: `then` of Puts.
+use mathlib.Core.Path.{refl}
 use native.Mathlib.Omega.{arith}
-use denote.Ref.{now}
-use Rattle.format.specs.Layout.{byte, encodeString}
+use Rattle.format.specs.Layout.{byte}
 use Rattle.format.proofs.Codec.{length-littleEndian}
-use Rattle.output.proofs.Laws.{after}
 use Rattle.write_items.proofs.Pieces.{name-string}
+use Rattle.write_items.proofs.Puts.{puts, string-puts, then}
 use borrow.Author.Needs.{needs}
 use Rattle.write_items.proofs.items.put_tag_head.Statement.{statement}
 use Rattle.write_items.proofs.items.put_tag_head.Tie as tie
@@ -31,12 +32,11 @@ same-length c = search needs
 
 returns : tie.Need-returns
 returns c =
-    let b4 = c .before .before .before .before in
-    let b8 = b4 .before .before .before .before in
-    let a = b8 .before .before .args in
+    let opened = c .before .before .before .before .before .before in
+    let code = opened .before .before .before .before .args .code in
     let name = c .before .before .put-string .ensures in
-    let head = b4 .before .before .put-byte .ensures in
-    (omega (arith, name .0), rw (name-string) (after (byte (a .code)) (encodeString (now (a .name))) _ _ _ 1 (length-littleEndian 1 (a .code)) head (name .1)))
+    let all = then (puts (byte code) 1 (length-littleEndian 1 code) (opened .put-byte .ensures)) (string-puts refl refl (name .0) (name .1)) in
+    (omega (arith, all .written), rw (name-string) (all .output))
 
 pub put-tag-head-spec : {M : Type 1} → statement M
 put-tag-head-spec =

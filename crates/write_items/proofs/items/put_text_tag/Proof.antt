@@ -1,10 +1,11 @@
-use mathlib.Core.Path.{sym, _∙_}
+-- The parts are put one after the other: `then` of Puts.
+use mathlib.Core.Path.{refl}
 use mathlib.Core.List.{_++_, append-assoc}
 use native.Mathlib.Omega.{arith}
 use denote.Ref.{now}
 use Rattle.format.specs.Layout.{byte, encodeName, encodeString}
-use Rattle.output.proofs.Laws.{after}
 use Rattle.write_items.proofs.Pieces.{head-size}
+use Rattle.write_items.proofs.Puts.{as-puts, regrouped, string-puts, then}
 use borrow.Author.Needs.{needs}
 use Rattle.write_items.proofs.items.put_text_tag.Statement.{statement}
 use Rattle.write_items.proofs.items.put_text_tag.Tie as tie
@@ -32,14 +33,12 @@ same-length c = search needs
 
 returns : tie.Need-returns
 returns c =
-    let a = c .before .before .before .before .before .before .before .before .before .before .before .args in
-    let n = encodeName (now (a .name)) in
-    let t = encodeString (now (a .text)) in
-    let head = c .before .before .before .before .before .before .put-tag-head .ensures in
+    let headed = c .before .before .before .before .before .before in
+    let a = headed .before .before .before .before .before .args in
+    let head = headed .put-tag-head .ensures in
     let text = c .before .before .put-string .ensures in
-    let at = head-size 2 (now (a .name)) ∙ sym (head .0) in
-    let all = after (byte 2 ++ n) t _ _ _ _ at (head .1) (text .1) in
-    (omega (arith, head .0, text .0), rw (← append-assoc (byte 2) n t) all)
+    let all = then (as-puts (byte 2 ++ encodeName (now (a .name))) (head .0) (head-size 2 (now (a .name))) (head .1)) (string-puts refl refl (text .0) (text .1)) in
+    (omega (arith, all .written), regrouped (append-assoc (byte 2) (encodeName (now (a .name))) (encodeString (now (a .text)))) refl all .output)
 
 pub put-text-tag-spec : {M : Type 1} → statement M
 put-text-tag-spec =

@@ -1,13 +1,12 @@
-use mathlib.Core.Path.{_≡_}
-use mathlib.Core.List.{_++_, append-assoc}
-use Prim.Native.Nat.{_+_}
+-- The parts are put one after the other: `then` of Puts.
+use mathlib.Core.Path.{refl}
+use mathlib.Core.List.{append-assoc}
 use native.Mathlib.Omega.{arith}
 use denote.Ref.{now}
-use lib.ListN.{length, length-append}
 use Rattle.format.specs.Layout.{byte, encodeQuery, encodeString}
 use Rattle.format.proofs.Codec.{length-littleEndian}
-use Rattle.output.proofs.Laws.{after}
-use Rattle.write_items.proofs.Pieces.{length-string, name-string}
+use Rattle.write_items.proofs.Pieces.{name-string}
+use Rattle.write_items.proofs.Puts.{puts, regrouped, string-puts, then}
 use borrow.Author.Needs.{needs}
 use Rattle.write_items.proofs.queries.put_field.Statement.{statement}
 use Rattle.write_items.proofs.queries.put_field.Tie as tie
@@ -51,18 +50,14 @@ same-length c = search needs
 returns : tie.Need-returns
 unfolding encodeQuery
 returns c =
-    let b4 = c .before .before .before .before in
-    let b8 = b4 .before .before .before .before in
-    let b12 = b8 .before .before .before .before in
-    let a = b12 .before .before .before .args in
-    let t = encodeString (now (a .text)) in
-    let n = encodeString (now (a .name)) in
-    let text = b4 .before .before .put-string .ensures in
+    let texted = c .before .before .before .before .before .before in
+    let opened = texted .before .before .before .before in
+    let a = opened .before .before .before .before .before .args in
+    let text = texted .put-string .ensures in
     let name = c .before .before .put-string2 .ensures in
-    let first = after (byte 2) t _ _ _ 1 (length-littleEndian 1 2) (b8 .before .before .put-byte .ensures) (text .1) in
-    let at : length (byte 2 ++ t) ≡ 1 + b4 .before .before .put-string .result =
-    omega (arith, length-append (byte 2) t, length-littleEndian 1 2, length-string (now (a .text)), text .0) in
-    (omega (arith, text .0, name .0), rw (name-string, ← append-assoc (byte 2) t n) (after (byte 2 ++ t) n _ _ _ _ at first (name .1)))
+    let first = then (puts (byte 2) 1 (length-littleEndian 1 2) (opened .put-byte .ensures)) (string-puts refl refl (text .0) (text .1)) in
+    let all = then first (string-puts refl refl (name .0) (name .1)) in
+    (omega (arith, all .written), rw (name-string) (regrouped (append-assoc (byte 2) (encodeString (now (a .text))) (encodeString (now (a .name)))) refl all .output))
 
 pub put-field-spec : {M : Type 1} → statement M
 put-field-spec =

@@ -1,13 +1,12 @@
-use Prim.Native.Nat.{_+_}
-use mathlib.Core.Path.{_≡_, refl}
+-- The parts are put one after the other: `then` of Puts.
+use mathlib.Core.Path.{refl, _∙_}
 use mathlib.Core.List.{_++_, append-assoc}
-use native.Mathlib.Omega.{arith}
 use denote.Ref.{now}
-use lib.ListN.{length, length-append}
+use lib.ListN.{length}
 use Rattle.format.specs.Layout.{byte}
 use Rattle.format.proofs.Codec.{length-littleEndian}
-use Rattle.output.proofs.Laws.{after}
 use Rattle.write_items.specs.Numbers.{operatorByte}
+use Rattle.write_items.proofs.Puts.{puts, regrouped, then}
 use borrow.Author.Needs.{needs}
 use Rattle.write_items.proofs.queries.put_join.Statement.{statement}
 use Rattle.write_items.proofs.queries.put_join.Tie as tie
@@ -65,23 +64,20 @@ same-length c = search needs
 
 returns : tie.Need-returns
 returns c =
-    let b4 = c .before .before .before .before in
-    let b8 = b4 .before .before .before .before in
-    let b12 = b8 .before .before .before .before in
-    let b16 = b12 .before .before .before .before in
-    let b20 = b16 .before .before .before .before in
-    let a = b20 .args in
-    let o = byte (operatorByte (a .operator)) in
-    let l = now (a .left) in
-    let r = now (a .right) in
-    let code = rw (b16 .operator-byte .ensures) at (b8 .before .before .put-byte2 .ensures) in
-    let first = after (byte 0) o _ _ _ 1 (length-littleEndian 1 0) (b12 .before .before .put-byte .ensures) code in
-    let two : length (byte 0 ++ o) ≡ 2 = omega (arith, length-append (byte 0) o, length-littleEndian 1 0, length-littleEndian 1 (operatorByte (a .operator))) in
-    let second = after (byte 0 ++ o) l _ _ _ 2 two first (b4 .before .before .copy .ensures) in
-    let at : length ((byte 0 ++ o) ++ l) ≡ 2 + length l = omega (arith, length-append (byte 0 ++ o) l, two) in
-    let third = after ((byte 0 ++ o) ++ l) r _ _ _ (2 + length l) at second (c .before .before .copy2 .ensures) in
-    let grouped : ((byte 0 ++ o) ++ l) ++ r ≡ byte 0 ++ (o ++ (l ++ r)) = simp append-assoc in
-    (refl, rw (← grouped) third)
+    let copied = c .before .before .before .before .before .before in
+    let coded-at = copied .before .before .before .before in
+    let opened = coded-at .before .before .before .before in
+    let operator = opened .before .before in
+    let a = operator .before .before .before .before .args in
+    let left = now (a .left) in
+    let right = now (a .right) in
+    let code = byte (operatorByte (a .operator)) in
+    let coded = rw (operator .operator-byte .ensures) at (coded-at .put-byte2 .ensures) in
+    let head = then (puts (byte 0) 1 (length-littleEndian 1 0) (opened .put-byte .ensures)) (puts code 1 (length-littleEndian 1 (operatorByte (a .operator))) coded) in
+    let first = then head (puts left (length left) refl (copied .copy .ensures)) in
+    let all = then first (puts right (length right) refl (c .before .before .copy2 .ensures)) in
+    let grouped = append-assoc (byte 0 ++ code) left right ∙ append-assoc (byte 0) code (left ++ right) in
+    (refl, regrouped grouped refl all .output)
 
 pub put-join-spec : {M : Type 1} → statement M
 put-join-spec =

@@ -1,8 +1,9 @@
+-- The parts are put one after the other: `then` of Puts.
+use mathlib.Core.Path.{refl}
 use native.Mathlib.Omega.{arith}
-use denote.Ref.{now}
-use Rattle.format.specs.Layout.{byte, encodeQuery, encodeString}
+use Rattle.format.specs.Layout.{byte, encodeQuery}
 use Rattle.format.proofs.Codec.{length-littleEndian}
-use Rattle.output.proofs.Laws.{after}
+use Rattle.write_items.proofs.Puts.{puts, string-puts, then}
 use borrow.Author.Needs.{needs}
 use Rattle.write_items.proofs.queries.put_keyword.Statement.{statement}
 use Rattle.write_items.proofs.queries.put_keyword.Tie as tie
@@ -31,11 +32,10 @@ same-length c = search needs
 returns : tie.Need-returns
 unfolding encodeQuery
 returns c =
-    let b4 = c .before .before .before .before in
-    let b8 = b4 .before .before .before .before in
-    let t = now (b8 .before .before .args .text) in
+    let opened = c .before .before .before .before .before .before in
     let text = c .before .before .put-string .ensures in
-    (omega (arith, text .0), after (byte 1) (encodeString t) _ _ _ 1 (length-littleEndian 1 1) (b4 .before .before .put-byte .ensures) (text .1))
+    let all = then (puts (byte 1) 1 (length-littleEndian 1 1) (opened .put-byte .ensures)) (string-puts refl refl (text .0) (text .1)) in
+    (omega (arith, all .written), all .output)
 
 pub put-keyword-spec : {M : Type 1} → statement M
 put-keyword-spec =

@@ -1,13 +1,13 @@
-use mathlib.Core.Path.{_≡_}
+-- The parts are put one after the other: `then` of Puts.
+use mathlib.Core.Path.{refl, _∙_}
 use mathlib.Core.List.{_++_, append-assoc}
 use native.Mathlib.Omega.{arith}
 use denote.Ref.{now}
-use lib.ListN.{length, length-append}
 use Rattle.format.specs.Layout.{byte, dword, encodeQuery, encodeString}
 use Rattle.format.proofs.Codec.{length-littleEndian}
-use Rattle.output.proofs.Laws.{after}
 use Rattle.write_items.specs.Numbers.{boundByte}
 use Rattle.write_items.proofs.Pieces.{name-string}
+use Rattle.write_items.proofs.Puts.{puts, regrouped, string-puts, then}
 use borrow.Author.Needs.{needs}
 use Rattle.write_items.proofs.queries.put_limit.Statement.{statement}
 use Rattle.write_items.proofs.queries.put_limit.Tie as tie
@@ -63,23 +63,20 @@ same-length c = search needs
 returns : tie.Need-returns
 unfolding encodeQuery
 returns c =
-    let b4 = c .before .before .before .before in
-    let b8 = b4 .before .before .before .before in
-    let b12 = b8 .before .before .before .before in
-    let b16 = b12 .before .before .before .before in
-    let a = b16 .before .before .before .args in
-    let v = dword (a .value) in
-    let b = byte (boundByte (a .bound)) in
-    let n = encodeString (now (a .name)) in
+    let coded-at = c .before .before .before .before .before .before in
+    let valued = coded-at .before .before .before .before in
+    let opened = valued .before .before .before .before in
+    let bound = opened .before .before in
+    let a = bound .before .before .before .args in
     let name = c .before .before .put-string .ensures in
-    let first = after (byte 3) v _ _ _ 1 (length-littleEndian 1 3) (b12 .before .before .put-byte .ensures) (b8 .before .before .put-dword .ensures) in
-    let five : length (byte 3 ++ v) ≡ 5 = omega (arith, length-append (byte 3) v, length-littleEndian 1 3, length-littleEndian 4 (a .value)) in
-    let code = rw (b16 .bound-byte .ensures) at (b4 .before .before .put-byte2 .ensures) in
-    let second = after (byte 3 ++ v) b _ _ _ 5 five first code in
-    let six : length ((byte 3 ++ v) ++ b) ≡ 6 = omega (arith, length-append (byte 3 ++ v) b, five, length-littleEndian 1 (boundByte (a .bound))) in
-    let third = after ((byte 3 ++ v) ++ b) n _ _ _ 6 six second (name .1) in
-    let grouped : ((byte 3 ++ v) ++ b) ++ n ≡ byte 3 ++ (v ++ (b ++ n)) = simp append-assoc in
-    (omega (arith, name .0), rw (name-string, ← grouped) third)
+    let code = byte (boundByte (a .bound)) in
+    let coded = rw (bound .bound-byte .ensures) at (coded-at .put-byte2 .ensures) in
+    let value = puts (dword (a .value)) 4 (length-littleEndian 4 (a .value)) (valued .put-dword .ensures) in
+    let first = then (puts (byte 3) 1 (length-littleEndian 1 3) (opened .put-byte .ensures)) value in
+    let second = then first (puts code 1 (length-littleEndian 1 (boundByte (a .bound))) coded) in
+    let all = then second (string-puts refl refl (name .0) (name .1)) in
+    let grouped = append-assoc (byte 3 ++ dword (a .value)) code (encodeString (now (a .name))) ∙ append-assoc (byte 3) (dword (a .value)) (code ++ encodeString (now (a .name))) in
+    (omega (arith, all .written), rw (name-string) (regrouped grouped refl all .output))
 
 pub put-limit-spec : {M : Type 1} → statement M
 put-limit-spec =
