@@ -14,6 +14,7 @@ use Rattle.format.specs.Writing.{QueryFits, RecordFits, StringFits, ValuesFit}
 use Rattle.format.proofs.Bits.{bits-length, packed-length}
 use Rattle.format.proofs.Writing.{query-fits, tags-fit}
 use Rattle.write_items.proofs.Pieces.{length-string}
+use Rattle.write_items.proofs.Listed.{Listed, run-few}
 use Rattle.wire.specs.declared.Items.{Items}
 use Rattle.wire.specs.declared.Place.{Place}
 use Rattle.wire.specs.WireAnswers.{hashAt, itemsIn, placeBytes}
@@ -27,7 +28,7 @@ use Rattle.format.specs.RoundTrip.{IsThere}
 use Rattle.check_bodies.specs.declared.Extent.{Extent}
 use Rattle.check_bodies.specs.Extents.{Adds, BothAdd, Extends, NoEnd, absent, behindBytes, bothExtents, listBound, sized, tooLong}
 use Rattle.check_bodies.specs.Bodies.{BodyChecked, BodyEnds, BodyRule, EndsAt, bodyThere, bytesOf, queryThere}
-use Rattle.check_bodies.proofs.Places.{Listed, QueryListed, run-few}
+use Rattle.check_bodies.proofs.Places.{QueryListed}
 
 module _ {there : Outcome (Unit {0})} {Fits : Type 0} {size : ℕ} {Ends : ℕ → Type 0} {bound : ℕ} where
   pub adds : {e : Extent} (k : ℕ) → Extends there Fits size Ends bound e → k + bound < 18446744073709551616 → Adds k e

@@ -1,5 +1,5 @@
-// What has to be known of a body before a byte of it is written. Bodies are given as the readers hand them out: numbers, and places
-// in lent bytes. What lies at a place is read again, whoever made the body.
+// What has to be known of a body before a byte of it is written. Bodies are given as the readers return them: numbers, and offsets
+// in lent bytes. What is encoded at an offset is read again, whoever made the body.
 ghost use mathlib.Core.Path.{_≡_};
 ghost use Prim.Native.Nat.{_+_};
 ghost use lib.ListN.{length};
@@ -22,6 +22,9 @@ use bodies::BitsStep;
 use bodies::Body;
 use bodies::Form;
 use bodies::Triple;
+use output::CHOICE;
+use output::LIMIT;
+use output::RANGE;
 use query::Query;
 use query::QueryStep;
 use wire::Cursor;
@@ -32,6 +35,18 @@ use wire::ItemsStep;
 use wire::Place;
 use wire::PlaceStep;
 
+// The most bytes of a text or parts of a file, addresses and hashes that their count fields hold.
+const WORD_MOST: usize = 65535;
+
+const ADDRESSES_MOST: u32 = 255;
+
+const HASHES_MOST: u32 = 65535;
+
+const HASH_BYTES: usize = 16;
+
+// The upper WORD of the number in an extended status request.
+const EXTENDED_MARK: u32 = 0x5AAA;
+
 // What check_body finds: the number of a refusal that comes before the byte ceiling, or 0; the size of the body's bytes; the
 // offset after its list or query; and the number of the rule that its values break, which comes after the byte ceiling.
 pub struct BodyCheck {
@@ -41,23 +56,23 @@ pub struct BodyCheck {
     pub rule: u8,
 }
 
-// How far a part of a body extends: the number of a place that does not hold what it should; that the part is too long for its
-// count field; or its size and the offset after its list or query.
+// How far a part of a body extends: the number of an offset at which it is not encoded; that the part is too long for its count
+// field; or its size and the offset after its list or query.
 enum Extent {
     Absent(u8),
     TooLong,
     Sized(usize, usize),
 }
 
-// n bytes more.
-fn behind_bytes(n: usize, part: Extent) -> Extent
-    requires { ⌜ Adds n part ⌝ }
-    ensures { λ r. ⌜ r ≡ behindBytes n part ⌝ }
+// So many bytes more.
+fn behind_bytes(more: usize, part: Extent) -> Extent
+    requires { ⌜ Adds more part ⌝ }
+    ensures { λ r. ⌜ r ≡ behindBytes more part ⌝ }
 {
     match part {
         Extent::Absent(number) => Extent::Absent(number),
         Extent::TooLong => Extent::TooLong,
-        Extent::Sized(size, end) => Extent::Sized(n + size, end),
+        Extent::Sized(size, end) => Extent::Sized(more + size, end),
     }
 }
 
@@ -86,36 +101,36 @@ fn both(first: Extent, second: Extent) -> Extent
 fn hash_extent(src: &[u8], at: usize) -> Extent
     ensures { λ r. ⌜ Extends (hashThere (now (src .entry)) at) (Unit {0}) (length (hashAt (now (src .entry)) at)) NoEnd 16 r ⌝ }
 {
-    let c = Cursor { at };
-    let h = c.hash(src);
-    let HashStep::Got(_, _) = h else {
-        return Extent::Absent(h.fault().number());
+    let cursor = Cursor { at };
+    let step = cursor.hash(src);
+    let HashStep::Got(_, _) = step else {
+        return Extent::Absent(step.fault().number());
     };
-    Extent::Sized(16, 0)
+    Extent::Sized(HASH_BYTES, 0)
 }
 
-fn place_extent(src: &[u8], p: Place) -> Extent
-    ensures { λ r. ⌜ Extends (placeThere (now (src .entry)) p) (Unit {0}) (length (placeBytes (now (src .entry)) p)) NoEnd listBound r ⌝ }
+fn place_extent(src: &[u8], place: Place) -> Extent
+    ensures { λ r. ⌜ Extends (placeThere (now (src .entry)) place) (Unit {0}) (length (placeBytes (now (src .entry)) place)) NoEnd listBound r ⌝ }
 {
-    let c = Cursor { at: p.at };
-    let len = p.len;
-    let x = c.run(src, len);
-    let PlaceStep::Got(_, _) = x else {
-        return Extent::Absent(x.fault().number());
+    let cursor = Cursor { at: place.at };
+    let len = place.len;
+    let step = cursor.run(src, len);
+    let PlaceStep::Got(_, _) = step else {
+        return Extent::Absent(step.fault().number());
     };
     Extent::Sized(len, 0)
 }
 
-fn text_extent(src: &[u8], t: Place) -> Extent
-    ensures { λ r. ⌜ Extends (placeThere (now (src .entry)) t) (StringFits (placeBytes (now (src .entry)) t)) (length (encodeString (placeBytes (now (src .entry)) t))) NoEnd 65537 r ⌝ }
+fn text_extent(src: &[u8], text: Place) -> Extent
+    ensures { λ r. ⌜ Extends (placeThere (now (src .entry)) text) (StringFits (placeBytes (now (src .entry)) text)) (length (encodeString (placeBytes (now (src .entry)) text))) NoEnd 65537 r ⌝ }
 {
-    let c = Cursor { at: t.at };
-    let len = t.len;
-    let x = c.run(src, len);
-    let PlaceStep::Got(_, _) = x else {
-        return Extent::Absent(x.fault().number());
+    let cursor = Cursor { at: text.at };
+    let len = text.len;
+    let step = cursor.run(src, len);
+    let PlaceStep::Got(_, _) = step else {
+        return Extent::Absent(step.fault().number());
     };
-    if 65535 < len {
+    if WORD_MOST < len {
         return Extent::TooLong;
     }
     Extent::Sized(2 + len, 0)
@@ -125,11 +140,11 @@ fn text_extent(src: &[u8], t: Place) -> Extent
 fn bits_extent(src: &[u8], at: usize, parts: usize) -> Extent
     ensures { λ r. ⌜ Extends (ends (decodeBits parts (now (src .entry)) at)) (Word parts) (packedBytes parts) NoEnd 65537 r ⌝ }
 {
-    let b = bodies::read_bits(src, Cursor { at }, parts);
-    let BitsStep::Got(_, _) = b else {
-        return Extent::Absent(b.fault().number());
+    let step = bodies::read_bits(src, Cursor { at }, parts);
+    let BitsStep::Got(_, _) = step else {
+        return Extent::Absent(step.fault().number());
     };
-    if 65535 < parts {
+    if WORD_MOST < parts {
         return Extent::TooLong;
     }
     let size = (parts + 7) / 8;
@@ -143,113 +158,113 @@ fn query_extent(src: &[u8], q: Query) -> Extent
         (length (encodeQuery (queryIn (now (src .entry)) q))) (EndsAt (queryThere (now (src .entry)) q)) listBound r ⌝ }
 {
     let at = q.at;
-    let e = query::read_query(src, Cursor { at });
-    let QueryStep::Got(_, next) = e else {
-        return Extent::Absent(e.fault().number());
+    let step = query::read_query(src, Cursor { at });
+    let QueryStep::Got(_, next) = step else {
+        return Extent::Absent(step.fault().number());
     };
     let end = next.at;
-    let n = end - at;
-    Extent::Sized(n, end)
+    let size = end - at;
+    Extent::Sized(size, end)
 }
 
 // BYTE count, then the addresses.
-fn addresses_extent(src: &[u8], l: Items) -> Extent
-    ensures { λ r. ⌜ Extends (itemsThere decodeAddress (now (src .entry)) l) (Byte (length (itemsIn decodeAddress (now (src .entry)) l)))
-        (1 + length (encodeAll encodeAddress (itemsIn decodeAddress (now (src .entry)) l))) (EndsAt (itemsThere decodeAddress (now (src .entry)) l)) listBound r ⌝ }
+fn addresses_extent(src: &[u8], list: Items) -> Extent
+    ensures { λ r. ⌜ Extends (itemsThere decodeAddress (now (src .entry)) list) (Byte (length (itemsIn decodeAddress (now (src .entry)) list)))
+        (1 + length (encodeAll encodeAddress (itemsIn decodeAddress (now (src .entry)) list))) (EndsAt (itemsThere decodeAddress (now (src .entry)) list)) listBound r ⌝ }
 {
-    let at = l.at;
-    let count = l.count;
-    let e = records::addresses_from(src, Cursor { at }, count);
-    let ItemsStep::Got(_, next) = e else {
-        return Extent::Absent(e.fault().number());
+    let at = list.at;
+    let count = list.count;
+    let step = records::addresses_from(src, Cursor { at }, count);
+    let ItemsStep::Got(_, next) = step else {
+        return Extent::Absent(step.fault().number());
     };
-    if 255 < count {
+    if ADDRESSES_MOST < count {
         return Extent::TooLong;
     }
     let end = next.at;
-    let n = end - at;
-    Extent::Sized(1 + n, end)
+    let size = end - at;
+    Extent::Sized(1 + size, end)
 }
 
 // WORD count, then the hashes.
-fn hashes_extent(src: &[u8], l: Items) -> Extent
-    ensures { λ r. ⌜ Extends (itemsThere decodeHash (now (src .entry)) l) (Word (length (itemsIn decodeHash (now (src .entry)) l)))
-        (2 + length (encodeAll encodeHash (itemsIn decodeHash (now (src .entry)) l))) (EndsAt (itemsThere decodeHash (now (src .entry)) l)) listBound r ⌝ }
+fn hashes_extent(src: &[u8], list: Items) -> Extent
+    ensures { λ r. ⌜ Extends (itemsThere decodeHash (now (src .entry)) list) (Word (length (itemsIn decodeHash (now (src .entry)) list)))
+        (2 + length (encodeAll encodeHash (itemsIn decodeHash (now (src .entry)) list))) (EndsAt (itemsThere decodeHash (now (src .entry)) list)) listBound r ⌝ }
 {
-    let at = l.at;
-    let count = l.count;
-    let e = records::hashes_from(src, Cursor { at }, count);
-    let ItemsStep::Got(_, next) = e else {
-        return Extent::Absent(e.fault().number());
+    let at = list.at;
+    let count = list.count;
+    let step = records::hashes_from(src, Cursor { at }, count);
+    let ItemsStep::Got(_, next) = step else {
+        return Extent::Absent(step.fault().number());
     };
-    if 65535 < count {
+    if HASHES_MOST < count {
         return Extent::TooLong;
     }
     let end = next.at;
-    let n = end - at;
-    Extent::Sized(2 + n, end)
+    let size = end - at;
+    Extent::Sized(2 + size, end)
 }
 
 // DWORD count, then the tags. Every count fits.
-fn tags_extent(src: &[u8], l: Items) -> Extent
-    ensures { λ r. ⌜ Extends (itemsThere decodeTag (now (src .entry)) l) (TagsFit (itemsIn decodeTag (now (src .entry)) l))
-        (4 + length (encodeAll encodeTag (itemsIn decodeTag (now (src .entry)) l))) (EndsAt (itemsThere decodeTag (now (src .entry)) l)) listBound r ⌝ }
+fn tags_extent(src: &[u8], list: Items) -> Extent
+    ensures { λ r. ⌜ Extends (itemsThere decodeTag (now (src .entry)) list) (TagsFit (itemsIn decodeTag (now (src .entry)) list))
+        (4 + length (encodeAll encodeTag (itemsIn decodeTag (now (src .entry)) list))) (EndsAt (itemsThere decodeTag (now (src .entry)) list)) listBound r ⌝ }
 {
-    let at = l.at;
-    let count = l.count;
-    let e = write_items::tags_end(src, Cursor { at }, count);
-    let DoneStep::Got(next) = e else {
-        return Extent::Absent(e.fault().number());
+    let at = list.at;
+    let count = list.count;
+    let step = write_items::tags_end(src, Cursor { at }, count);
+    let DoneStep::Got(next) = step else {
+        return Extent::Absent(step.fault().number());
     };
     let end = next.at;
-    let n = end - at;
-    Extent::Sized(4 + n, end)
+    let size = end - at;
+    Extent::Sized(4 + size, end)
 }
 
 // DWORD count, then the records.
-fn records_extent(src: &[u8], l: Items) -> Extent
-    ensures { λ r. ⌜ Extends (itemsThere decodeRecord (now (src .entry)) l) (RecordsFit (itemsIn decodeRecord (now (src .entry)) l))
-        (4 + length (encodeAll encodeRecord (itemsIn decodeRecord (now (src .entry)) l))) (EndsAt (itemsThere decodeRecord (now (src .entry)) l)) listBound r ⌝ }
+fn records_extent(src: &[u8], list: Items) -> Extent
+    ensures { λ r. ⌜ Extends (itemsThere decodeRecord (now (src .entry)) list) (RecordsFit (itemsIn decodeRecord (now (src .entry)) list))
+        (4 + length (encodeAll encodeRecord (itemsIn decodeRecord (now (src .entry)) list))) (EndsAt (itemsThere decodeRecord (now (src .entry)) list)) listBound r ⌝ }
 {
-    let at = l.at;
-    let count = l.count;
-    let e = records::records_from(src, Cursor { at }, count);
-    let ItemsStep::Got(_, next) = e else {
-        return Extent::Absent(e.fault().number());
+    let at = list.at;
+    let count = list.count;
+    let step = records::records_from(src, Cursor { at }, count);
+    let ItemsStep::Got(_, next) = step else {
+        return Extent::Absent(step.fault().number());
     };
     let end = next.at;
-    let n = end - at;
-    Extent::Sized(4 + n, end)
+    let size = end - at;
+    Extent::Sized(4 + size, end)
 }
 
-// The rules that the values of a body can break. What lies at its places was decoded there and keeps the rules.
+// The rules that the values of a body can break. What is encoded at its offsets was decoded there and keeps the rules.
 
 fn flag_rule(flag: u8) -> u8
     ensures { λ r. ⌜ r ≡ flagRule flag ⌝ }
 {
-    if flag <= 1 { 0 } else { 5 }
+    if flag <= 1 { 0 } else { CHOICE }
 }
 
 fn range_rule(start: u32, end: u32, size: usize) -> u8
     ensures { λ r. ⌜ r ≡ rangeRule start end size ⌝ }
 {
     if end < start {
-        return 8;
+        return RANGE;
     }
     let wanted = (end - start) as usize;
-    if size == wanted { 0 } else { 8 }
+    if size == wanted { 0 } else { RANGE }
 }
 
 fn ranges_rule(starts: Triple, ends: Triple) -> u8
     ensures { λ r. ⌜ r ≡ rangesRule starts ends ⌝ }
 {
     if ends.first < starts.first {
-        return 8;
+        return RANGE;
     }
     if ends.second < starts.second {
-        return 8;
+        return RANGE;
     }
-    if ends.third < starts.third { 8 } else { 0 }
+    if ends.third < starts.third { RANGE } else { 0 }
 }
 
 fn form_rule(form: Form, number: u32) -> u8
@@ -257,16 +272,16 @@ fn form_rule(form: Form, number: u32) -> u8
 {
     match form {
         Form::Plain => {
-            if number / 65536 == 0x5AAA {
-                return 5;
+            if number / 65536 == EXTENDED_MARK {
+                return CHOICE;
             }
             0
         }
         Form::Extended => {
-            if number / 65536 == 0x5AAA {
+            if number / 65536 == EXTENDED_MARK {
                 return 0;
             }
-            5
+            CHOICE
         }
     }
 }
@@ -316,15 +331,16 @@ fn entry_extent(src: &[u8], hash: usize, tags: Items) -> Extent
         (6 + (length (hashAt (now (src .entry)) hash) + (4 + length (encodeAll encodeTag (itemsIn decodeTag (now (src .entry)) tags)))))
         (EndsAt (itemsThere decodeTag (now (src .entry)) tags)) (6 + (16 + listBound)) r ⌝ }
 {
-    let h = hash_extent(src, hash);
-    let t = tags_extent(src, tags);
-    behind_bytes(6, both(h, t))
+    let hash_part = hash_extent(src, hash);
+    let tags_part = tags_extent(src, tags);
+    behind_bytes(6, both(hash_part, tags_part))
 }
 
-fn fixed(n: usize) -> Extent
-    ensures { λ r. ⌜ r ≡ Extent.Sized n 0 ⌝ }
+// A part of numbers alone.
+fn fixed(size: usize) -> Extent
+    ensures { λ r. ⌜ r ≡ Extent.Sized size 0 ⌝ }
 {
-    Extent::Sized(n, 0)
+    Extent::Sized(size, 0)
 }
 
 fn body_extent(src: &[u8], b: Body) -> Extent
@@ -334,31 +350,37 @@ fn body_extent(src: &[u8], b: Body) -> Extent
     match b {
         Body::Nothing => fixed(0),
         Body::Query(q) => query_extent(src, q),
-        Body::Hash(h) => hash_extent(src, h),
+        Body::Hash(hash) => hash_extent(src, hash),
         Body::Dword(_) => fixed(4),
         Body::TwoDwords(_, _) => fixed(8),
-        Body::Text(t) => text_extent(src, t),
-        Body::TwoTexts(t, u) => both(text_extent(src, t), text_extent(src, u)),
+        Body::Text(text) => text_extent(src, text),
+        Body::TwoTexts(first, second) => both(text_extent(src, first), text_extent(src, second)),
         Body::Address(_) => fixed(6),
-        Body::Addresses(l) => addresses_extent(src, l),
-        Body::HashAddresses(h, l) => both(hash_extent(src, h), addresses_extent(src, l)),
-        Body::AddressDword(_, _) => fixed(10),
-        Body::HashAddressTags(h, _, l) => entry_extent(src, h, l),
-        Body::Record(r) => entry_extent(src, r.hash, r.tags),
-        Body::Records(l) => records_extent(src, l),
-        Body::RecordsFlag(l, _) => behind_bytes(1, records_extent(src, l)),
-        Body::RecordAddress(r, _) => behind_bytes(6, entry_extent(src, r.hash, r.tags)),
-        Body::Hello(r, _) => behind_bytes(7, entry_extent(src, r.hash, r.tags)),
-        Body::HashText(h, t) => both(hash_extent(src, h), text_extent(src, t)),
-        Body::Hashset(h, l) => both(hash_extent(src, h), hashes_extent(src, l)),
-        Body::SendingPart(p) => behind_bytes(
-            8,
-            both(hash_extent(src, p.hash), place_extent(src, p.data)),
+        Body::Addresses(list) => addresses_extent(src, list),
+        Body::HashAddresses(hash, list) => both(
+            hash_extent(src, hash),
+            addresses_extent(src, list),
         ),
-        Body::RequestParts(p) => behind_bytes(24, hash_extent(src, p.hash)),
-        Body::FileStatus(p) => behind_bytes(
+        Body::AddressDword(_, _) => fixed(10),
+        Body::HashAddressTags(hash, _, tags) => entry_extent(src, hash, tags),
+        Body::Record(file) => entry_extent(src, file.hash, file.tags),
+        Body::Records(list) => records_extent(src, list),
+        Body::RecordsFlag(list, _) => behind_bytes(1, records_extent(src, list)),
+        Body::RecordAddress(file, _) => behind_bytes(6, entry_extent(src, file.hash, file.tags)),
+        Body::Hello(client, _) => behind_bytes(7, entry_extent(src, client.hash, client.tags)),
+        Body::HashText(hash, text) => both(hash_extent(src, hash), text_extent(src, text)),
+        Body::Hashset(hash, list) => both(hash_extent(src, hash), hashes_extent(src, list)),
+        Body::SendingPart(part) => behind_bytes(
+            8,
+            both(hash_extent(src, part.hash), place_extent(src, part.data)),
+        ),
+        Body::RequestParts(parts) => behind_bytes(24, hash_extent(src, parts.hash)),
+        Body::FileStatus(status) => behind_bytes(
             2,
-            both(hash_extent(src, p.hash), bits_extent(src, p.bits, p.parts)),
+            both(
+                hash_extent(src, status.hash),
+                bits_extent(src, status.bits, status.parts),
+            ),
         ),
         Body::StatusRequest(_) => fixed(4),
         Body::Status(_) => fixed(12),
@@ -366,7 +388,7 @@ fn body_extent(src: &[u8], b: Body) -> Extent
     }
 }
 
-// What is found out about a body before it is written: whether its places hold what they should, whether its counts fit, how many
+// What is checked of a body before it is written: whether its items are encoded at its offsets, whether its counts fit, how many
 // bytes it takes, and whether its values keep the rules.
 pub fn check_body(src: &[u8], b: Body) -> BodyCheck
     ensures { λ r. ⌜ BodyChecked (now (src .entry)) b r ⌝ }
@@ -380,7 +402,7 @@ pub fn check_body(src: &[u8], b: Body) -> BodyCheck
             rule: 0,
         },
         Extent::TooLong => BodyCheck {
-            number: 6,
+            number: LIMIT,
             size: 0,
             end: 0,
             rule: 0,

@@ -1,3 +1,4 @@
+-- The bits are read, then their count is checked; the laws of Extents give the rest.
 use mathlib.Core.Path.{refl}
 use native.Mathlib.Omega.{arith}
 use Rattle.write_items.proofs.There.{is-there}

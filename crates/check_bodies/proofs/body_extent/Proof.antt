@@ -1,3 +1,4 @@
+-- Each arm is the extents of its parts, put together by the laws of Extents; `recast` says its size and counts as the body has them.
 use denote.Ref.{now}
 use mathlib.Core.Path.{refl}
 use native.Mathlib.Omega.{arith}
@@ -223,7 +224,7 @@ returns-3 : tie.Need-returns-3
 returns-3 c = rw (c .before .before .b2 .given .1) (recast _ _ (λ _. tt) (λ _. tt) refl (λ _ _. tt) (omega arith) (c .hash-extent .ensures))
 
 returns-4 : tie.Need-returns-4
-returns-4 c = rw (c .before .enum-told2 .given .1, c .fixed2 .ensures) (plain-extends 4 tt tt (simp (length-append, length-littleEndian)) (omega arith))
+returns-4 c = rw (c .before .enum-told2 .given .1, c .fixed2 .ensures) (plain-extends 4 tt tt (simp length-littleEndian) (omega arith))
 
 returns-5 : tie.Need-returns-5
 returns-5 c = rw (c .before .enum-told3 .given .1, c .fixed3 .ensures) (plain-extends 8 tt tt (simp (length-append, length-littleEndian)) (omega arith))
@@ -234,7 +235,7 @@ returns-6 c = rw (c .before .before .b3 .given .1) (recast _ _ (λ f. f) (λ f. 
 returns-7 : tie.Need-returns-7
 returns-7 c =
     rw (c .before .before .before .before .b4 .given .1, c .both .ensures)
-    (recast _ _ (λ f. f) (λ f. f) (simp (length-append, length-littleEndian)) (λ _ _. tt) (omega arith) (both-extends (c .before .before .text-extent2 .ensures) (c .before .text-extent3 .ensures)))
+    (recast _ _ (λ f. f) (λ f. f) (simp length-append) (λ _ _. tt) (omega arith) (both-extends (c .before .before .text-extent2 .ensures) (c .before .text-extent3 .ensures)))
 
 returns-8 : tie.Need-returns-8
 unfolding encodeAddress
@@ -283,7 +284,7 @@ returns-17 c =
 returns-18 : tie.Need-returns-18
 returns-18 c =
     rw (c .before .before .before .before .b13 .given .1, c .both3 .ensures)
-    (recast _ _ (λ f. f .1) (λ f. (tt, f)) (simp (length-append, length-littleEndian)) (λ _ _. tt) (omega arith) (both-extends (c .before .before .hash-extent3 .ensures) (c .before .text-extent4 .ensures)))
+    (recast _ _ (λ f. f .1) (λ f. (tt, f)) (simp length-append) (λ _ _. tt) (omega arith) (both-extends (c .before .before .hash-extent3 .ensures) (c .before .text-extent4 .ensures)))
 
 returns-19 : tie.Need-returns-19
 returns-19 c =
@@ -305,15 +306,17 @@ returns-21 c =
 returns-22 : tie.Need-returns-22
 unfolding encodeFileStatus
 returns-22 c =
-    let s = now (c .before .before .before .before .before .before .before .before .args .src) in
-    let p = c .before .before .before .before .before .b17 .given .0 .0 in
-    rw (c .before .before .before .before .before .b17 .given .1, c .behind-bytes6 .ensures, c .before .both6 .ensures)
+    let b17-at = c .before .before .before .before .before in
+    let start = b17-at .before .before .before in
+    let s = now (start .args .src) in
+    let p = b17-at .b17 .given .0 .0 in
+    rw (b17-at .b17 .given .1, c .behind-bytes6 .ensures, c .before .both6 .ensures)
     (recast _ _ (λ f. held-fits (p .parts) s (p .bits) (f .1)) (λ f. (tt, held-word (p .parts) s (p .bits) f))
     (simp (length-append, length-littleEndian, held-size) (omega arith)) (λ _ _. tt) (omega arith)
     (behind-extends 2 (both-extends (c .before .before .before .hash-extent7 .ensures) (c .before .before .bits-extent .ensures))))
 
 returns-23 : tie.Need-returns-23
-returns-23 c = rw (c .before .enum-told6 .given .1, c .fixed6 .ensures) (plain-extends 4 tt tt (simp (length-append, length-littleEndian)) (omega arith))
+returns-23 c = rw (c .before .enum-told6 .given .1, c .fixed6 .ensures) (plain-extends 4 tt tt (simp length-littleEndian) (omega arith))
 
 returns-24 : tie.Need-returns-24
 returns-24 c = rw (c .before .enum-told7 .given .1, c .fixed7 .ensures) (plain-extends 12 tt tt (simp (length-append, length-littleEndian)) (omega arith))

@@ -1,3 +1,4 @@
+-- Each arm is the rule of its shape; most shapes break none.
 use mathlib.Core.Path.{refl}
 use borrow.Author.Needs.{needs}
 use Rattle.check_bodies.proofs.broken_rule.Statement.{statement}

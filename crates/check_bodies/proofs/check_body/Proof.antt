@@ -1,3 +1,4 @@
+-- The three extents of a body are the three findings: laws of Extents and Rules.
 use denote.Ref.{now}
 use Rattle.wire.proofs.Replies.{slice-bytes}
 use Rattle.check_bodies.proofs.Extents.{absent-checked, long-checked, sized-checked}
@@ -29,9 +30,11 @@ returns-2 c = long-checked (rw (c .enum-told .given .1) at (c .before .before .b
 
 returns-3 : tie.Need-returns-3
 returns-3 c =
-    let s = now (c .before .before .before .before .before .before .args .src) in
+    let known-at = c .before .before .before .before .before in
+    let start = known-at .before in
+    let s = now (start .args .src) in
     rw (c .broken-rule .ensures .0)
-    (sized-checked (rules s (slice-bytes s (c .before .before .before .before .before .shared-slice-known .given)) (c .before .before .before .before .before .before .args .b) (c .broken-rule .ensures .1)) (rw (c .before .before .extent2 .given .1) at (c .before .before .before .before .body-extent .ensures)))
+    (sized-checked (rules s (slice-bytes s (known-at .shared-slice-known .given)) (start .args .b) (c .broken-rule .ensures .1)) (rw (c .before .before .extent2 .given .1) at (c .before .before .before .before .body-extent .ensures)))
 
 pub check-body-spec : {M : Type 1} → statement M
 check-body-spec =

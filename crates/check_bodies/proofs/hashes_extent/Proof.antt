@@ -1,17 +1,32 @@
+-- What was read is `listed`; its size and end follow by the laws of Extents.
 use denote.Ref.{now}
 use native.Mathlib.Omega.{arith}
+use Rattle.format.specs.Layout.{encodeHash}
+use Rattle.format.specs.Rules.{ValidHash}
+use Rattle.format.specs.Order.{decodeHash}
 use Rattle.wire.proofs.Replies.{slice-bytes}
+use Rattle.write_items.proofs.Listed.{Listed}
 use Rattle.check_bodies.proofs.Extents.{absent-extends, list-extends, list-long}
-use Rattle.check_bodies.proofs.Places.{hashes-listed, got-ends}
+use Rattle.check_bodies.proofs.Places.{got-ends, hashes-listed}
 use borrow.Author.Needs.{needs}
 use Rattle.check_bodies.proofs.hashes_extent.Statement.{statement}
 use Rattle.check_bodies.proofs.hashes_extent.Tie as tie
 
+module _ (c : tie.After-known-told) where
+  abbrev start : tie.Start
+  start = c .before .before .before .before .before
+
+  list : Listed decodeHash encodeHash ValidHash (now (start .args .src)) (start .args .list) (c .before .step .given .0 .1 .0 .at)
+  list =
+      let src = now (start .args .src) in
+      hashes-listed src (slice-bytes src (c .before .before .before .before .shared-slice-known .given)) (start .args .list)
+      (got-ends (rw (c .before .step .given .1) at (c .before .before .before .hashes-from .ensures .0)))
+
 hashes-from-requires : tie.Need-hashes-from-requires
 hashes-from-requires c κs = search needs
 
-enum-known-e : tie.Need-enum-known-e
-enum-known-e c = search needs
+enum-known-step : tie.Need-enum-known-step
+enum-known-step c = search needs
 
 enum-told : tie.Need-enum-told
 enum-told c = search needs
@@ -28,44 +43,28 @@ returns c =
     rw (c .number .ensures, c .before .fault .ensures, told) (absent-extends _ (rw told at (c .before .before .before .before .hashes-from .ensures .0)))
 
 returns-2 : tie.Need-returns-2
-returns-2 c =
-    let start = c .before .before .before .before .before .before in
-    let s = now (start .args .src) in
-    let l = hashes-listed s (slice-bytes s (c .before .before .before .before .before .shared-slice-known .given)) (start .args .l) (got-ends (rw (c .before .before .e .given .1) at (c .before .before .before .before .hashes-from .ensures .0))) in
-    list-long l (λ f. omega (arith, l .count, c .if1 .taken))
+returns-2 c = list-long (list (c .before)) (λ fit. omega (arith, list (c .before) .count, c .if1 .taken))
 
-sub-n : tie.Need-sub-n
-sub-n c =
-    let start = c .before .before .before .before .before .before in
-    let s = now (start .args .src) in
-    let l = hashes-listed s (slice-bytes s (c .before .before .before .before .before .shared-slice-known .given)) (start .args .l) (got-ends (rw (c .before .before .e .given .1) at (c .before .before .before .before .hashes-from .ensures .0))) in
-    l .order
+sub-size : tie.Need-sub-size
+sub-size c = list (c .before) .order
 
 add-t13 : tie.Need-add-t13
-add-t13 c =
-    let start = c .before .before .before .before .before .before in
-    let s = now (start .args .src) in
-    let l = hashes-listed s (slice-bytes s (c .before .before .before .before .before .shared-slice-known .given)) (start .args .l) (got-ends (rw (c .before .before .e .given .1) at (c .before .before .before .before .hashes-from .ensures .0))) in
-    omega (arith, l .few, start .good .0 .1)
+add-t13 c = omega (arith, list (c .before) .few, start (c .before) .good .0 .1)
 
 returns-3 : tie.Need-returns-3
-returns-3 c =
-    let start = c .before .before .before .before .before .before in
-    let s = now (start .args .src) in
-    let l = hashes-listed s (slice-bytes s (c .before .before .before .before .before .shared-slice-known .given)) (start .args .l) (got-ends (rw (c .before .before .e .given .1) at (c .before .before .before .before .hashes-from .ensures .0))) in
-    list-extends l 2 (omega arith) (omega (arith, l .count, c .if1 .left)) (omega (arith, start .good .0 .1))
+returns-3 c = list-extends (list (c .before)) 2 (omega arith) (omega (arith, list (c .before) .count, c .if1 .left)) (omega (arith, start (c .before) .good .0 .1))
 
 pub hashes-extent-spec : {M : Type 1} → statement M
 hashes-extent-spec =
     tie.close
     (tie.spec
     hashes-from-requires
-    enum-known-e
+    enum-known-step
     enum-told
     fault-requires
     number-requires
     returns
     returns-2
-    sub-n
+    sub-size
     add-t13
     returns-3)

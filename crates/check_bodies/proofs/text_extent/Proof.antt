@@ -1,3 +1,4 @@
+-- The text is a run of bytes; its size and whether its count field holds it follow by the laws of Extents.
 use Rattle.write_items.proofs.There.{is-there}
 use Rattle.check_bodies.proofs.Extents.{absent-extends, text-extends, text-long}
 use Rattle.check_bodies.proofs.Places.{got-ends}
