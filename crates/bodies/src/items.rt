@@ -32,15 +32,16 @@ use wire::ItemsStep;
 use wire::PlaceStep;
 use wire::Rule;
 
-// The other shapes
+// The byte before the record of a Hello: the size of its hash.
+const HELLO_HASH_SIZE: u8 = 0x10;
 
 pub fn read_query_body(s: &[u8], c: Cursor) -> BodyStep
     ensures meaning { λ r. ⌜ bodyMeaning (now (s .entry)) r ≡ decodeBody queryBody (now (s .entry)) (c .at) ⌝ }
     ensures placed { λ r. ⌜ BodyStepPlaced (now (s .entry)) r ⌝ }
 {
-    let q = read_query(s, c);
-    let QueryStep::Got(query, next) = q else {
-        return BodyStep::Refused(q.fault());
+    let query_step = read_query(s, c);
+    let QueryStep::Got(query, next) = query_step else {
+        return BodyStep::Refused(query_step.fault());
     };
     BodyStep::Got(Body::Query(query), next)
 }
@@ -49,9 +50,9 @@ pub fn read_hash_body(s: &[u8], c: Cursor) -> BodyStep
     ensures meaning { λ r. ⌜ bodyMeaning (now (s .entry)) r ≡ decodeBody hashBody (now (s .entry)) (c .at) ⌝ }
     ensures placed { λ r. ⌜ BodyStepPlaced (now (s .entry)) r ⌝ }
 {
-    let h = c.hash(s);
-    let HashStep::Got(hash, next) = h else {
-        return BodyStep::Refused(h.fault());
+    let hash_step = c.hash(s);
+    let HashStep::Got(hash, next) = hash_step else {
+        return BodyStep::Refused(hash_step.fault());
     };
     BodyStep::Got(Body::Hash(hash), next)
 }
@@ -60,9 +61,9 @@ pub fn read_dword_body(s: &[u8], c: Cursor) -> BodyStep
     ensures meaning { λ r. ⌜ bodyMeaning (now (s .entry)) r ≡ decodeBody dwordBody (now (s .entry)) (c .at) ⌝ }
     ensures placed { λ r. ⌜ BodyStepPlaced (now (s .entry)) r ⌝ }
 {
-    let d = c.dword(s);
-    let DwordStep::Got(number, next) = d else {
-        return BodyStep::Refused(d.fault());
+    let number_step = c.dword(s);
+    let DwordStep::Got(number, next) = number_step else {
+        return BodyStep::Refused(number_step.fault());
     };
     BodyStep::Got(Body::Dword(number), next)
 }
@@ -71,13 +72,13 @@ pub fn read_two_dwords(s: &[u8], c: Cursor) -> BodyStep
     ensures meaning { λ r. ⌜ bodyMeaning (now (s .entry)) r ≡ decodeBody twoDwordsBody (now (s .entry)) (c .at) ⌝ }
     ensures placed { λ r. ⌜ BodyStepPlaced (now (s .entry)) r ⌝ }
 {
-    let a = c.dword(s);
-    let DwordStep::Got(first, after_first) = a else {
-        return BodyStep::Refused(a.fault());
+    let first_step = c.dword(s);
+    let DwordStep::Got(first, after_first) = first_step else {
+        return BodyStep::Refused(first_step.fault());
     };
-    let b = after_first.dword(s);
-    let DwordStep::Got(second, next) = b else {
-        return BodyStep::Refused(b.fault());
+    let second_step = after_first.dword(s);
+    let DwordStep::Got(second, next) = second_step else {
+        return BodyStep::Refused(second_step.fault());
     };
     BodyStep::Got(Body::TwoDwords(first, second), next)
 }
@@ -86,9 +87,9 @@ pub fn read_text_body(s: &[u8], c: Cursor) -> BodyStep
     ensures meaning { λ r. ⌜ bodyMeaning (now (s .entry)) r ≡ decodeBody textBody (now (s .entry)) (c .at) ⌝ }
     ensures placed { λ r. ⌜ BodyStepPlaced (now (s .entry)) r ⌝ }
 {
-    let t = c.string(s);
-    let PlaceStep::Got(text, next) = t else {
-        return BodyStep::Refused(t.fault());
+    let text_step = c.string(s);
+    let PlaceStep::Got(text, next) = text_step else {
+        return BodyStep::Refused(text_step.fault());
     };
     BodyStep::Got(Body::Text(text), next)
 }
@@ -97,13 +98,13 @@ pub fn read_two_texts(s: &[u8], c: Cursor) -> BodyStep
     ensures meaning { λ r. ⌜ bodyMeaning (now (s .entry)) r ≡ decodeBody twoTextsBody (now (s .entry)) (c .at) ⌝ }
     ensures placed { λ r. ⌜ BodyStepPlaced (now (s .entry)) r ⌝ }
 {
-    let a = c.string(s);
-    let PlaceStep::Got(first, after_first) = a else {
-        return BodyStep::Refused(a.fault());
+    let first_step = c.string(s);
+    let PlaceStep::Got(first, after_first) = first_step else {
+        return BodyStep::Refused(first_step.fault());
     };
-    let b = after_first.string(s);
-    let PlaceStep::Got(second, next) = b else {
-        return BodyStep::Refused(b.fault());
+    let second_step = after_first.string(s);
+    let PlaceStep::Got(second, next) = second_step else {
+        return BodyStep::Refused(second_step.fault());
     };
     BodyStep::Got(Body::TwoTexts(first, second), next)
 }
@@ -112,9 +113,9 @@ pub fn read_address_body(s: &[u8], c: Cursor) -> BodyStep
     ensures meaning { λ r. ⌜ bodyMeaning (now (s .entry)) r ≡ decodeBody addressBody (now (s .entry)) (c .at) ⌝ }
     ensures placed { λ r. ⌜ BodyStepPlaced (now (s .entry)) r ⌝ }
 {
-    let a = read_address(s, c);
-    let AddressStep::Got(address, next) = a else {
-        return BodyStep::Refused(a.fault());
+    let address_step = read_address(s, c);
+    let AddressStep::Got(address, next) = address_step else {
+        return BodyStep::Refused(address_step.fault());
     };
     BodyStep::Got(Body::Address(address), next)
 }
@@ -123,9 +124,9 @@ pub fn read_addresses_body(s: &[u8], c: Cursor) -> BodyStep
     ensures meaning { λ r. ⌜ bodyMeaning (now (s .entry)) r ≡ decodeBody addressesBody (now (s .entry)) (c .at) ⌝ }
     ensures placed { λ r. ⌜ BodyStepPlaced (now (s .entry)) r ⌝ }
 {
-    let l = read_addresses(s, c);
-    let ItemsStep::Got(addresses, next) = l else {
-        return BodyStep::Refused(l.fault());
+    let addresses_step = read_addresses(s, c);
+    let ItemsStep::Got(addresses, next) = addresses_step else {
+        return BodyStep::Refused(addresses_step.fault());
     };
     BodyStep::Got(Body::Addresses(addresses), next)
 }
@@ -134,13 +135,13 @@ pub fn read_hash_addresses(s: &[u8], c: Cursor) -> BodyStep
     ensures meaning { λ r. ⌜ bodyMeaning (now (s .entry)) r ≡ decodeBody hashAddressesBody (now (s .entry)) (c .at) ⌝ }
     ensures placed { λ r. ⌜ BodyStepPlaced (now (s .entry)) r ⌝ }
 {
-    let h = c.hash(s);
-    let HashStep::Got(hash, after_hash) = h else {
-        return BodyStep::Refused(h.fault());
+    let hash_step = c.hash(s);
+    let HashStep::Got(hash, after_hash) = hash_step else {
+        return BodyStep::Refused(hash_step.fault());
     };
-    let l = read_addresses(s, after_hash);
-    let ItemsStep::Got(addresses, next) = l else {
-        return BodyStep::Refused(l.fault());
+    let addresses_step = read_addresses(s, after_hash);
+    let ItemsStep::Got(addresses, next) = addresses_step else {
+        return BodyStep::Refused(addresses_step.fault());
     };
     BodyStep::Got(Body::HashAddresses(hash, addresses), next)
 }
@@ -149,13 +150,13 @@ pub fn read_address_dword(s: &[u8], c: Cursor) -> BodyStep
     ensures meaning { λ r. ⌜ bodyMeaning (now (s .entry)) r ≡ decodeBody addressDwordBody (now (s .entry)) (c .at) ⌝ }
     ensures placed { λ r. ⌜ BodyStepPlaced (now (s .entry)) r ⌝ }
 {
-    let a = read_address(s, c);
-    let AddressStep::Got(address, after_address) = a else {
-        return BodyStep::Refused(a.fault());
+    let address_step = read_address(s, c);
+    let AddressStep::Got(address, after_address) = address_step else {
+        return BodyStep::Refused(address_step.fault());
     };
-    let d = after_address.dword(s);
-    let DwordStep::Got(number, next) = d else {
-        return BodyStep::Refused(d.fault());
+    let number_step = after_address.dword(s);
+    let DwordStep::Got(number, next) = number_step else {
+        return BodyStep::Refused(number_step.fault());
     };
     BodyStep::Got(Body::AddressDword(address, number), next)
 }
@@ -164,17 +165,17 @@ pub fn read_hash_address_tags(s: &[u8], c: Cursor) -> BodyStep
     ensures meaning { λ r. ⌜ bodyMeaning (now (s .entry)) r ≡ decodeBody hashAddressTagsBody (now (s .entry)) (c .at) ⌝ }
     ensures placed { λ r. ⌜ BodyStepPlaced (now (s .entry)) r ⌝ }
 {
-    let h = c.hash(s);
-    let HashStep::Got(hash, after_hash) = h else {
-        return BodyStep::Refused(h.fault());
+    let hash_step = c.hash(s);
+    let HashStep::Got(hash, after_hash) = hash_step else {
+        return BodyStep::Refused(hash_step.fault());
     };
-    let a = read_address(s, after_hash);
-    let AddressStep::Got(address, after_address) = a else {
-        return BodyStep::Refused(a.fault());
+    let address_step = read_address(s, after_hash);
+    let AddressStep::Got(address, after_address) = address_step else {
+        return BodyStep::Refused(address_step.fault());
     };
-    let t = read_tags(s, after_address);
-    let ItemsStep::Got(tags, next) = t else {
-        return BodyStep::Refused(t.fault());
+    let tags_step = read_tags(s, after_address);
+    let ItemsStep::Got(tags, next) = tags_step else {
+        return BodyStep::Refused(tags_step.fault());
     };
     BodyStep::Got(Body::HashAddressTags(hash, address, tags), next)
 }
@@ -183,9 +184,9 @@ pub fn read_record_body(s: &[u8], c: Cursor) -> BodyStep
     ensures meaning { λ r. ⌜ bodyMeaning (now (s .entry)) r ≡ decodeBody recordBody (now (s .entry)) (c .at) ⌝ }
     ensures placed { λ r. ⌜ BodyStepPlaced (now (s .entry)) r ⌝ }
 {
-    let r = read_record(s, c);
-    let RecordStep::Got(record, next) = r else {
-        return BodyStep::Refused(r.fault());
+    let record_step = read_record(s, c);
+    let RecordStep::Got(record, next) = record_step else {
+        return BodyStep::Refused(record_step.fault());
     };
     BodyStep::Got(Body::Record(record), next)
 }
@@ -194,9 +195,9 @@ pub fn read_records_body(s: &[u8], c: Cursor) -> BodyStep
     ensures meaning { λ r. ⌜ bodyMeaning (now (s .entry)) r ≡ decodeBody recordsBody (now (s .entry)) (c .at) ⌝ }
     ensures placed { λ r. ⌜ BodyStepPlaced (now (s .entry)) r ⌝ }
 {
-    let l = read_records(s, c);
-    let ItemsStep::Got(records, next) = l else {
-        return BodyStep::Refused(l.fault());
+    let records_step = read_records(s, c);
+    let ItemsStep::Got(records, next) = records_step else {
+        return BodyStep::Refused(records_step.fault());
     };
     BodyStep::Got(Body::Records(records), next)
 }
@@ -205,9 +206,9 @@ pub fn read_records_body(s: &[u8], c: Cursor) -> BodyStep
 fn read_flag(s: &[u8], c: Cursor) -> ByteStep
     ensures { λ r. ⌜ byteMeaning r ≡ decodeFlag (now (s .entry)) (c .at) ⌝ }
 {
-    let b = c.byte(s);
-    let ByteStep::Got(flag, next) = b else {
-        return ByteStep::Refused(b.fault());
+    let flag_step = c.byte(s);
+    let ByteStep::Got(flag, next) = flag_step else {
+        return ByteStep::Refused(flag_step.fault());
     };
     if flag <= 1 {
         return ByteStep::Got(flag, next);
@@ -223,13 +224,13 @@ pub fn read_records_flag(s: &[u8], c: Cursor) -> BodyStep
     ensures meaning { λ r. ⌜ bodyMeaning (now (s .entry)) r ≡ decodeBody recordsFlagBody (now (s .entry)) (c .at) ⌝ }
     ensures placed { λ r. ⌜ BodyStepPlaced (now (s .entry)) r ⌝ }
 {
-    let l = read_records(s, c);
-    let ItemsStep::Got(records, after_records) = l else {
-        return BodyStep::Refused(l.fault());
+    let records_step = read_records(s, c);
+    let ItemsStep::Got(records, after_records) = records_step else {
+        return BodyStep::Refused(records_step.fault());
     };
-    let b = read_flag(s, after_records);
-    let ByteStep::Got(flag, next) = b else {
-        return BodyStep::Refused(b.fault());
+    let flag_step = read_flag(s, after_records);
+    let ByteStep::Got(flag, next) = flag_step else {
+        return BodyStep::Refused(flag_step.fault());
     };
     BodyStep::Got(Body::RecordsFlag(records, flag), next)
 }
@@ -238,13 +239,13 @@ pub fn read_record_address(s: &[u8], c: Cursor) -> BodyStep
     ensures meaning { λ r. ⌜ bodyMeaning (now (s .entry)) r ≡ decodeBody recordAddressBody (now (s .entry)) (c .at) ⌝ }
     ensures placed { λ r. ⌜ BodyStepPlaced (now (s .entry)) r ⌝ }
 {
-    let r = read_record(s, c);
-    let RecordStep::Got(record, after_record) = r else {
-        return BodyStep::Refused(r.fault());
+    let record_step = read_record(s, c);
+    let RecordStep::Got(record, after_record) = record_step else {
+        return BodyStep::Refused(record_step.fault());
     };
-    let a = read_address(s, after_record);
-    let AddressStep::Got(address, next) = a else {
-        return BodyStep::Refused(a.fault());
+    let address_step = read_address(s, after_record);
+    let AddressStep::Got(address, next) = address_step else {
+        return BodyStep::Refused(address_step.fault());
     };
     BodyStep::Got(Body::RecordAddress(record, address), next)
 }
@@ -253,17 +254,17 @@ pub fn read_hello(s: &[u8], c: Cursor) -> BodyStep
     ensures meaning { λ r. ⌜ bodyMeaning (now (s .entry)) r ≡ decodeBody helloBody (now (s .entry)) (c .at) ⌝ }
     ensures placed { λ r. ⌜ BodyStepPlaced (now (s .entry)) r ⌝ }
 {
-    let f = c.fixed(s, 0x10);
-    let DoneStep::Got(after_fixed) = f else {
-        return BodyStep::Refused(f.fault());
+    let fixed_step = c.fixed(s, HELLO_HASH_SIZE);
+    let DoneStep::Got(after_fixed) = fixed_step else {
+        return BodyStep::Refused(fixed_step.fault());
     };
-    let r = read_record(s, after_fixed);
-    let RecordStep::Got(record, after_record) = r else {
-        return BodyStep::Refused(r.fault());
+    let record_step = read_record(s, after_fixed);
+    let RecordStep::Got(record, after_record) = record_step else {
+        return BodyStep::Refused(record_step.fault());
     };
-    let a = read_address(s, after_record);
-    let AddressStep::Got(address, next) = a else {
-        return BodyStep::Refused(a.fault());
+    let address_step = read_address(s, after_record);
+    let AddressStep::Got(address, next) = address_step else {
+        return BodyStep::Refused(address_step.fault());
     };
     BodyStep::Got(Body::Hello(record, address), next)
 }
@@ -272,13 +273,13 @@ pub fn read_hash_text(s: &[u8], c: Cursor) -> BodyStep
     ensures meaning { λ r. ⌜ bodyMeaning (now (s .entry)) r ≡ decodeBody hashTextBody (now (s .entry)) (c .at) ⌝ }
     ensures placed { λ r. ⌜ BodyStepPlaced (now (s .entry)) r ⌝ }
 {
-    let h = c.hash(s);
-    let HashStep::Got(hash, after_hash) = h else {
-        return BodyStep::Refused(h.fault());
+    let hash_step = c.hash(s);
+    let HashStep::Got(hash, after_hash) = hash_step else {
+        return BodyStep::Refused(hash_step.fault());
     };
-    let t = after_hash.string(s);
-    let PlaceStep::Got(text, next) = t else {
-        return BodyStep::Refused(t.fault());
+    let text_step = after_hash.string(s);
+    let PlaceStep::Got(text, next) = text_step else {
+        return BodyStep::Refused(text_step.fault());
     };
     BodyStep::Got(Body::HashText(hash, text), next)
 }
@@ -287,13 +288,13 @@ pub fn read_hashset(s: &[u8], c: Cursor) -> BodyStep
     ensures meaning { λ r. ⌜ bodyMeaning (now (s .entry)) r ≡ decodeBody hashsetBody (now (s .entry)) (c .at) ⌝ }
     ensures placed { λ r. ⌜ BodyStepPlaced (now (s .entry)) r ⌝ }
 {
-    let h = c.hash(s);
-    let HashStep::Got(hash, after_hash) = h else {
-        return BodyStep::Refused(h.fault());
+    let hash_step = c.hash(s);
+    let HashStep::Got(hash, after_hash) = hash_step else {
+        return BodyStep::Refused(hash_step.fault());
     };
-    let l = read_hashes(s, after_hash);
-    let ItemsStep::Got(parts, next) = l else {
-        return BodyStep::Refused(l.fault());
+    let parts_step = read_hashes(s, after_hash);
+    let ItemsStep::Got(parts, next) = parts_step else {
+        return BodyStep::Refused(parts_step.fault());
     };
     BodyStep::Got(Body::Hashset(hash, parts), next)
 }

@@ -19,36 +19,41 @@ use wire::HashStep;
 use wire::Place;
 use wire::Rule;
 
+// The size of a range, a start and an end, and of three of them.
+const RANGE_SIZE: usize = 8;
+
+const RANGES_SIZE: usize = 24;
+
 // 46
 
 // Start and end are checked together, by themselves and then by the number of bytes after them.
 fn read_range(s: &[u8], c: Cursor) -> RangeStep
     ensures { λ r. ⌜ rangeMeaning r ≡ decodeRange (now (s .entry)) (c .at) ⌝ }
 {
-    let a = c.dword(s);
-    let DwordStep::Got(start, after_start) = a else {
-        return RangeStep::Refused(a.fault());
+    let start_step = c.dword(s);
+    let DwordStep::Got(start, after_start) = start_step else {
+        return RangeStep::Refused(start_step.fault());
     };
-    let b = after_start.dword(s);
-    let DwordStep::Got(end, next) = b else {
-        return RangeStep::Refused(b.fault());
+    let end_step = after_start.dword(s);
+    let DwordStep::Got(end, next) = end_step else {
+        return RangeStep::Refused(end_step.fault());
     };
     if end < start {
         return RangeStep::Refused(Fault {
             rule: Rule::Order,
             at: c.at,
-            size: 8,
+            size: RANGE_SIZE,
         });
     }
-    let behind = next.remaining(s);
+    let left = next.remaining(s);
     let wanted = (end - start) as usize;
-    if behind == wanted {
+    if left == wanted {
         return RangeStep::Got(start, end, next);
     }
     RangeStep::Refused(Fault {
         rule: Rule::DataLength,
         at: c.at,
-        size: 8,
+        size: RANGE_SIZE,
     })
 }
 
@@ -56,13 +61,13 @@ pub fn read_sending_part(s: &[u8], c: Cursor) -> BodyStep
     ensures meaning { λ r. ⌜ bodyMeaning (now (s .entry)) r ≡ decodeBody sendingPartBody (now (s .entry)) (c .at) ⌝ }
     ensures placed { λ r. ⌜ BodyStepPlaced (now (s .entry)) r ⌝ }
 {
-    let h = c.hash(s);
-    let HashStep::Got(hash, after_hash) = h else {
-        return BodyStep::Refused(h.fault());
+    let hash_step = c.hash(s);
+    let HashStep::Got(hash, after_hash) = hash_step else {
+        return BodyStep::Refused(hash_step.fault());
     };
-    let r = read_range(s, after_hash);
-    let RangeStep::Got(start, end, next) = r else {
-        return BodyStep::Refused(r.fault());
+    let range_step = read_range(s, after_hash);
+    let RangeStep::Got(start, end, next) = range_step else {
+        return BodyStep::Refused(range_step.fault());
     };
     let len = next.remaining(s);
     let data = Place { at: next.at, len };
@@ -80,17 +85,17 @@ pub fn read_sending_part(s: &[u8], c: Cursor) -> BodyStep
 pub fn read_triple(s: &[u8], c: Cursor) -> TripleStep
     ensures { λ r. ⌜ tripleMeaning r ≡ decodeTriple (now (s .entry)) (c .at) ⌝ }
 {
-    let d1 = c.dword(s);
-    let DwordStep::Got(first, c1) = d1 else {
-        return TripleStep::Refused(d1.fault());
+    let first_step = c.dword(s);
+    let DwordStep::Got(first, after_first) = first_step else {
+        return TripleStep::Refused(first_step.fault());
     };
-    let d2 = c1.dword(s);
-    let DwordStep::Got(second, c2) = d2 else {
-        return TripleStep::Refused(d2.fault());
+    let second_step = after_first.dword(s);
+    let DwordStep::Got(second, after_second) = second_step else {
+        return TripleStep::Refused(second_step.fault());
     };
-    let d3 = c2.dword(s);
-    let DwordStep::Got(third, next) = d3 else {
-        return TripleStep::Refused(d3.fault());
+    let third_step = after_second.dword(s);
+    let DwordStep::Got(third, next) = third_step else {
+        return TripleStep::Refused(third_step.fault());
     };
     TripleStep::Got(
         Triple {
@@ -106,18 +111,18 @@ pub fn read_triple(s: &[u8], c: Cursor) -> TripleStep
 fn read_ranges(s: &[u8], c: Cursor) -> RangesStep
     ensures { λ r. ⌜ rangesMeaning r ≡ decodeRanges (now (s .entry)) (c .at) ⌝ }
 {
-    let a = read_triple(s, c);
-    let TripleStep::Got(starts, after_starts) = a else {
-        return RangesStep::Refused(a.fault());
+    let starts_step = read_triple(s, c);
+    let TripleStep::Got(starts, after_starts) = starts_step else {
+        return RangesStep::Refused(starts_step.fault());
     };
-    let b = read_triple(s, after_starts);
-    let TripleStep::Got(ends, next) = b else {
-        return RangesStep::Refused(b.fault());
+    let ends_step = read_triple(s, after_starts);
+    let TripleStep::Got(ends, next) = ends_step else {
+        return RangesStep::Refused(ends_step.fault());
     };
     let fault = Fault {
         rule: Rule::Order,
         at: c.at,
-        size: 24,
+        size: RANGES_SIZE,
     };
     if ends.first < starts.first {
         return RangesStep::Refused(fault);
@@ -135,13 +140,13 @@ pub fn read_request_parts(s: &[u8], c: Cursor) -> BodyStep
     ensures meaning { λ r. ⌜ bodyMeaning (now (s .entry)) r ≡ decodeBody requestPartsBody (now (s .entry)) (c .at) ⌝ }
     ensures placed { λ r. ⌜ BodyStepPlaced (now (s .entry)) r ⌝ }
 {
-    let h = c.hash(s);
-    let HashStep::Got(hash, after_hash) = h else {
-        return BodyStep::Refused(h.fault());
+    let hash_step = c.hash(s);
+    let HashStep::Got(hash, after_hash) = hash_step else {
+        return BodyStep::Refused(hash_step.fault());
     };
-    let r = read_ranges(s, after_hash);
-    let RangesStep::Got(starts, ends, next) = r else {
-        return BodyStep::Refused(r.fault());
+    let ranges_step = read_ranges(s, after_hash);
+    let RangesStep::Got(starts, ends, next) = ranges_step else {
+        return BodyStep::Refused(ranges_step.fault());
     };
     let parts = RequestParts { hash, starts, ends };
     BodyStep::Got(Body::RequestParts(parts), next)

@@ -29,36 +29,36 @@ use wire::WordStep;
 
 // 50
 
-// 2 to the power k, for the bits of a byte.
-fn power(k: usize) -> usize
-    requires { ⌜ k < 8 ⌝ }
-    ensures { λ r. ⌜ r ≡ 2 ^ k ⌝ }
+// 2 to the power of a number of bits of a byte.
+fn power(bits: usize) -> usize
+    requires { ⌜ bits < 8 ⌝ }
+    ensures { λ r. ⌜ r ≡ 2 ^ bits ⌝ }
 {
-    1 << k
+    1 << bits
 }
 
-// How many bytes the bits of n parts take.
-fn packed_bytes(n: usize) -> usize
-    ensures { λ r. ⌜ r ≡ packedBytes n ⌝ }
+// How many bytes the bits of so many parts take.
+fn packed_bytes(parts: usize) -> usize
+    ensures { λ r. ⌜ r ≡ packedBytes parts ⌝ }
 {
-    n / 8 + (n % 8 + 7) / 8
+    parts / 8 + (parts % 8 + 7) / 8
 }
 
-// The bits of n parts. All their bytes must be there before the unused bits of the last one are checked.
-pub fn read_bits(s: &[u8], c: Cursor, n: usize) -> BitsStep
-    ensures { λ r. ⌜ bitsMeaning n (now (s .entry)) r ≡ decodeBits n (now (s .entry)) (c .at) ⌝ }
-    ensures inside { λ r. ⌜ BitsStepInside n (now (s .entry)) r ⌝ }
+// The bits of so many parts. All their bytes must be there before the unused bits of the last one are checked.
+pub fn read_bits(s: &[u8], c: Cursor, parts: usize) -> BitsStep
+    ensures { λ r. ⌜ bitsMeaning parts (now (s .entry)) r ≡ decodeBits parts (now (s .entry)) (c .at) ⌝ }
+    ensures inside { λ r. ⌜ BitsStepInside parts (now (s .entry)) r ⌝ }
 {
-    let size = packed_bytes(n);
-    let p = c.run(s, size);
-    let PlaceStep::Got(_, next) = p else {
-        return BitsStep::Refused(p.fault());
+    let size = packed_bytes(parts);
+    let run_step = c.run(s, size);
+    let PlaceStep::Got(_, next) = run_step else {
+        return BitsStep::Refused(run_step.fault());
     };
-    let used = n % 8;
+    let used = parts % 8;
     if used == 0 {
         return BitsStep::Got(c.at, next);
     }
-    let last = c.at + n / 8;
+    let last = c.at + parts / 8;
     let byte = s[last];
     if (byte as usize) < power(used) {
         return BitsStep::Got(c.at, next);
@@ -74,18 +74,18 @@ pub fn read_file_status(s: &[u8], c: Cursor) -> BodyStep
     ensures meaning { λ r. ⌜ bodyMeaning (now (s .entry)) r ≡ decodeBody fileStatusBody (now (s .entry)) (c .at) ⌝ }
     ensures placed { λ r. ⌜ BodyStepPlaced (now (s .entry)) r ⌝ }
 {
-    let h = c.hash(s);
-    let HashStep::Got(hash, after_hash) = h else {
-        return BodyStep::Refused(h.fault());
+    let hash_step = c.hash(s);
+    let HashStep::Got(hash, after_hash) = hash_step else {
+        return BodyStep::Refused(hash_step.fault());
     };
-    let w = after_hash.word(s);
-    let WordStep::Got(count, after_count) = w else {
-        return BodyStep::Refused(w.fault());
+    let count_step = after_hash.word(s);
+    let WordStep::Got(count, after_count) = count_step else {
+        return BodyStep::Refused(count_step.fault());
     };
     let parts = count as usize;
-    let b = read_bits(s, after_count, parts);
-    let BitsStep::Got(bits, next) = b else {
-        return BodyStep::Refused(b.fault());
+    let bits_step = read_bits(s, after_count, parts);
+    let BitsStep::Got(bits, next) = bits_step else {
+        return BodyStep::Refused(bits_step.fault());
     };
     let status = FileStatus { hash, parts, bits };
     BodyStep::Got(Body::FileStatus(status), next)
@@ -93,11 +93,21 @@ pub fn read_file_status(s: &[u8], c: Cursor) -> BodyStep
 
 // 96 and 97
 
+// The last two bytes of the DWORD of an extended 96, which an extended 97 has too, after its two bytes.
+const FIRST_MARK: u8 = 0xAA;
+
+const SECOND_MARK: u8 = 0x5A;
+
+const MARKS: u32 = 0x5AAA;
+
+// The size of the body of a plain 97.
+const PLAIN_STATUS_SIZE: usize = 12;
+
 // The form is extended exactly if the last two bytes of the DWORD are AA 5A.
 fn form_of(number: u32) -> Form
     ensures { λ r. ⌜ formMeaning r ≡ formOf number ⌝ }
 {
-    if number / 65536 == 0x5AAA {
+    if number / 65536 == MARKS {
         return Form::Extended;
     }
     Form::Plain
@@ -107,9 +117,9 @@ pub fn read_status_request(s: &[u8], c: Cursor) -> BodyStep
     ensures meaning { λ r. ⌜ bodyMeaning (now (s .entry)) r ≡ decodeBody statusRequestBody (now (s .entry)) (c .at) ⌝ }
     ensures placed { λ r. ⌜ BodyStepPlaced (now (s .entry)) r ⌝ }
 {
-    let d = c.dword(s);
-    let DwordStep::Got(number, next) = d else {
-        return BodyStep::Refused(d.fault());
+    let number_step = c.dword(s);
+    let DwordStep::Got(number, next) = number_step else {
+        return BodyStep::Refused(number_step.fault());
     };
     let form = form_of(number);
     let request = StatusRequest { form, number };
@@ -119,25 +129,25 @@ pub fn read_status_request(s: &[u8], c: Cursor) -> BodyStep
 fn read_extended_status(s: &[u8], c: Cursor) -> ExtendedStatusStep
     ensures { λ r. ⌜ extendedStatusMeaning r ≡ decodeExtendedStatus (now (s .entry)) (c .at) ⌝ }
 {
-    let a = c.byte(s);
-    let ByteStep::Got(first, c1) = a else {
-        return ExtendedStatusStep::Refused(a.fault());
+    let first_step = c.byte(s);
+    let ByteStep::Got(first, after_first) = first_step else {
+        return ExtendedStatusStep::Refused(first_step.fault());
     };
-    let b = c1.byte(s);
-    let ByteStep::Got(second, c2) = b else {
-        return ExtendedStatusStep::Refused(b.fault());
+    let second_step = after_first.byte(s);
+    let ByteStep::Got(second, after_second) = second_step else {
+        return ExtendedStatusStep::Refused(second_step.fault());
     };
-    let f = c2.fixed(s, 0xAA);
-    let DoneStep::Got(c3) = f else {
-        return ExtendedStatusStep::Refused(f.fault());
+    let first_mark_step = after_second.fixed(s, FIRST_MARK);
+    let DoneStep::Got(after_first_mark) = first_mark_step else {
+        return ExtendedStatusStep::Refused(first_mark_step.fault());
     };
-    let g = c3.fixed(s, 0x5A);
-    let DoneStep::Got(c4) = g else {
-        return ExtendedStatusStep::Refused(g.fault());
+    let second_mark_step = after_first_mark.fixed(s, SECOND_MARK);
+    let DoneStep::Got(after_marks) = second_mark_step else {
+        return ExtendedStatusStep::Refused(second_mark_step.fault());
     };
-    let t = read_triple(s, c4);
-    let TripleStep::Got(numbers, next) = t else {
-        return ExtendedStatusStep::Refused(t.fault());
+    let numbers_step = read_triple(s, after_marks);
+    let TripleStep::Got(numbers, next) = numbers_step else {
+        return ExtendedStatusStep::Refused(numbers_step.fault());
     };
     let status = ExtendedStatus {
         first,
@@ -152,16 +162,16 @@ pub fn read_status(s: &[u8], c: Cursor) -> BodyStep
     ensures meaning { λ r. ⌜ bodyMeaning (now (s .entry)) r ≡ decodeBody statusBody (now (s .entry)) (c .at) ⌝ }
     ensures placed { λ r. ⌜ BodyStepPlaced (now (s .entry)) r ⌝ }
 {
-    if c.remaining(s) == 12 {
-        let p = read_triple(s, c);
-        let TripleStep::Got(numbers, next) = p else {
-            return BodyStep::Refused(p.fault());
+    if c.remaining(s) == PLAIN_STATUS_SIZE {
+        let numbers_step = read_triple(s, c);
+        let TripleStep::Got(numbers, next) = numbers_step else {
+            return BodyStep::Refused(numbers_step.fault());
         };
         return BodyStep::Got(Body::Status(numbers), next);
     }
-    let e = read_extended_status(s, c);
-    let ExtendedStatusStep::Got(status, next) = e else {
-        return BodyStep::Refused(e.fault());
+    let status_step = read_extended_status(s, c);
+    let ExtendedStatusStep::Got(status, next) = status_step else {
+        return BodyStep::Refused(status_step.fault());
     };
     BodyStep::Got(Body::ExtendedStatus(status), next)
 }

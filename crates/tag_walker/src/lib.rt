@@ -21,10 +21,11 @@ use tags::TagStep;
 use tags::read_tag;
 use wire::Cursor;
 use wire::DwordStep;
+use wire::PACKET_CEILING;
 use wire::Rule;
 use wire::number;
 
-// The place 0 stands for the beginning, where the count is still to be read: no tag begins there. There `left` has no meaning.
+// The offset 0 stands for the beginning, where the count is still to be read: no tag begins there. There `left` has no meaning.
 pub struct TagWalker<'a> {
     tags: &'a [u8],
     at: usize,
@@ -45,7 +46,7 @@ struct Moved {
     left: u32,
 }
 
-// A step that is no tag leaves the walker at its place.
+// A step that is no tag leaves the walker at its offset.
 fn stay(step: WalkStep, at: usize, left: u32) -> Moved
     ensures { λ r. ⌜ r ≡ moved step at left ⌝ }
 {
@@ -62,32 +63,32 @@ fn walk_from(s: &[u8], from: usize, count: u32, at: usize, left: u32) -> Moved
         }
         return stay(WalkStep::End, at, left);
     }
-    let t = read_tag(s, Cursor { at: from });
-    let TagStep::Got(tag, next) = t else {
-        return stay(WalkStep::Refused(t.fault().number()), at, left);
+    let tag_step = read_tag(s, Cursor { at: from });
+    let TagStep::Got(tag, next) = tag_step else {
+        return stay(WalkStep::Refused(tag_step.fault().number()), at, left);
     };
-    let behind = next.at;
+    let after = next.at;
     let more = count - 1;
     Moved {
         step: WalkStep::Tag(tag),
-        at: behind,
+        at: after,
         left: more,
     }
 }
 
-// The step of a walker at any place: at the beginning the byte ceiling and then the count come first.
+// The step of a walker at any offset: at the beginning the byte ceiling and then the count come first.
 fn walk_at(s: &[u8], at: usize, left: u32) -> Moved
     ensures { λ r. ⌜ Walked (now (s .entry)) (walkAt (now (s .entry)) at left) at left r ⌝ }
 {
     if at != 0 {
         return walk_from(s, at, left, at, left);
     }
-    if 65536 < s.len() {
+    if PACKET_CEILING < s.len() {
         return stay(WalkStep::Refused(number(Rule::BytesCeiling)), at, left);
     }
-    let d = Cursor { at: 0 }.dword(s);
-    let DwordStep::Got(count, first) = d else {
-        return stay(WalkStep::Refused(d.fault().number()), at, left);
+    let count_step = Cursor { at: 0 }.dword(s);
+    let DwordStep::Got(count, first) = count_step else {
+        return stay(WalkStep::Refused(count_step.fault().number()), at, left);
     };
     walk_from(s, first.at, count, at, left)
 }
@@ -103,7 +104,7 @@ pub fn new<'a>(tags: &'a [u8]) -> TagWalker<'a>
     }
 }
 
-// The tag at the walker's place, or the end, or a refusal; a tag moves the walker after it.
+// The tag at the walker's offset, or the end, or a refusal; a tag moves the walker after it.
 pub fn next(w: &mut TagWalker) -> WalkStep
     ensures { λ r. ⌜ Next (now (w .entry)) r (now (w .exit)) ⌝ }
 {

@@ -28,8 +28,8 @@ returns-2 c =
 dword-requires : tie.Need-dword-requires
 dword-requires c κs = search needs
 
-enum-known-d : tie.Need-enum-known-d
-enum-known-d c = search needs
+enum-known-count-step : tie.Need-enum-known-count-step
+enum-known-count-step c = search needs
 
 enum-told : tie.Need-enum-told
 enum-told c = search needs
@@ -58,7 +58,7 @@ returns-4 : tie.Need-returns-4
 unfolding walkAt
 returns-4 c =
     let b = c .before .before .before .before in
-    rw (eq-eqb _ 0 (b .before .before .if1 .left), le-leb _ packetCeiling (b .before .if2 .left), ← b .dword .ensures, c .before .before .d .given .1)
+    rw (eq-eqb _ 0 (b .before .before .if1 .left), le-leb _ packetCeiling (b .before .if2 .left), ← b .dword .ensures, c .before .before .count-step .given .1)
     (c .walk-from2 .ensures)
 
 pub walk-at-spec : {M : Type 1} → statement M
@@ -71,7 +71,7 @@ walk-at-spec =
     stay-requires
     returns-2
     dword-requires
-    enum-known-d
+    enum-known-count-step
     enum-told
     fault-requires
     number-requires-2

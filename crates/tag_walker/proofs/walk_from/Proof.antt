@@ -30,8 +30,8 @@ returns-2 c =
 read-tag-requires : tie.Need-read-tag-requires
 read-tag-requires c κs = search needs
 
-enum-known-t : tie.Need-enum-known-t
-enum-known-t c = search needs
+enum-known-tag-step : tie.Need-enum-known-tag-step
+enum-known-tag-step c = search needs
 
 enum-told : tie.Need-enum-told
 enum-told c = search needs
@@ -59,8 +59,8 @@ returns-4 : tie.Need-returns-4
 unfolding walkFrom
 returns-4 c =
     let b = c .before in
-    rw (ne-eqb _ _ (b .before .before .before .if1 .left), ← b .before .before .read-tag .ensures .0, b .t .given .1)
-    (refl, (tt, rw (b .t .given .1) at (b .before .before .read-tag .ensures .1)))
+    rw (ne-eqb _ _ (b .before .before .before .if1 .left), ← b .before .before .read-tag .ensures .0, b .tag-step .given .1)
+    (refl, (tt, rw (b .tag-step .given .1) at (b .before .before .read-tag .ensures .1)))
 
 pub walk-from-spec : {M : Type 1} → statement M
 walk-from-spec =
@@ -72,7 +72,7 @@ walk-from-spec =
     stay-requires-2
     returns-2
     read-tag-requires
-    enum-known-t
+    enum-known-tag-step
     enum-told
     fault-requires
     number-requires-2

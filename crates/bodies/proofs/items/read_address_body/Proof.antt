@@ -7,8 +7,8 @@ use Rattle.bodies.proofs.items.read_address_body.Tie as tie
 read-address-requires : tie.Need-read-address-requires
 read-address-requires c κs = search needs
 
-enum-known-a : tie.Need-enum-known-a
-enum-known-a c = search needs
+enum-known-address-step : tie.Need-enum-known-address-step
+enum-known-address-step c = search needs
 
 enum-told : tie.Need-enum-told
 enum-told c = search needs
@@ -22,9 +22,9 @@ returns c = rw (c .fault .ensures, ← c .before .before .before .read-address .
 
 returns-2 : tie.Need-returns-2
 unfolding decodeBody
-returns-2 c = rw (← c .before .before .before .read-address .ensures, c .before .a .given .1) (refl, tt)
+returns-2 c = rw (← c .before .before .before .read-address .ensures, c .before .address-step .given .1) (refl, tt)
 
 pub read-address-body-spec : {M : Type 1} → statement M
 read-address-body-spec =
     tie.close
-    (tie.spec read-address-requires enum-known-a enum-told fault-requires returns returns-2)
+    (tie.spec read-address-requires enum-known-address-step enum-told fault-requires returns returns-2)

@@ -7,8 +7,8 @@ use Rattle.bodies.proofs.items.read_address_dword.Tie as tie
 read-address-requires : tie.Need-read-address-requires
 read-address-requires c κs = search needs
 
-enum-known-a : tie.Need-enum-known-a
-enum-known-a c = search needs
+enum-known-address-step : tie.Need-enum-known-address-step
+enum-known-address-step c = search needs
 
 enum-told : tie.Need-enum-told
 enum-told c = search needs
@@ -23,8 +23,8 @@ returns c = rw (c .fault .ensures, ← c .before .before .before .read-address .
 dword-requires : tie.Need-dword-requires
 dword-requires c κs = search needs
 
-enum-known-d : tie.Need-enum-known-d
-enum-known-d c = search needs
+enum-known-number-step : tie.Need-enum-known-number-step
+enum-known-number-step c = search needs
 
 enum-told-2 : tie.Need-enum-told-2
 enum-told-2 c = search needs
@@ -35,11 +35,11 @@ fault-requires-2 c κs = search needs
 returns-2 : tie.Need-returns-2
 unfolding decodeBody
 returns-2 c =
-    let a = c .before .before .before .before .before in
+    let address = c .before .before .before .before .before in
     rw (
       c .fault2 .ensures,
-      ← a .before .before .read-address .ensures,
-      a .a .given .1,
+      ← address .before .before .read-address .ensures,
+      address .address-step .given .1,
       ← c .before .before .before .dword .ensures,
       c .before .enum-told2 .given .1,
     )
@@ -48,21 +48,21 @@ returns-2 c =
 returns-3 : tie.Need-returns-3
 unfolding decodeBody
 returns-3 c =
-    let d = c .before in
-    let a = d .before .before .before .before in
-    rw (← a .before .before .read-address .ensures, a .a .given .1, ← d .before .before .dword .ensures, d .d .given .1) (refl, tt)
+    let number = c .before in
+    let address = number .before .before .before .before in
+    rw (← address .before .before .read-address .ensures, address .address-step .given .1, ← number .before .before .dword .ensures, number .number-step .given .1) (refl, tt)
 
 pub read-address-dword-spec : {M : Type 1} → statement M
 read-address-dword-spec =
     tie.close
     (tie.spec
     read-address-requires
-    enum-known-a
+    enum-known-address-step
     enum-told
     fault-requires
     returns
     dword-requires
-    enum-known-d
+    enum-known-number-step
     enum-told-2
     fault-requires-2
     returns-2

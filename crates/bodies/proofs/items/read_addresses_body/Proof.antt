@@ -7,8 +7,8 @@ use Rattle.bodies.proofs.items.read_addresses_body.Tie as tie
 read-addresses-requires : tie.Need-read-addresses-requires
 read-addresses-requires c κs = search needs
 
-enum-known-l : tie.Need-enum-known-l
-enum-known-l c = search needs
+enum-known-addresses-step : tie.Need-enum-known-addresses-step
+enum-known-addresses-step c = search needs
 
 enum-told : tie.Need-enum-told
 enum-told c = search needs
@@ -25,11 +25,11 @@ unfolding decodeBody
 returns-2 c =
     rw (
       ← c .before .before .before .read-addresses .ensures .0,
-      c .before .l .given .1,
+      c .before .addresses-step .given .1,
     )
-    (refl, rw (c .before .l .given .1) at (c .before .before .before .read-addresses .ensures .1))
+    (refl, rw (c .before .addresses-step .given .1) at (c .before .before .before .read-addresses .ensures .1))
 
 pub read-addresses-body-spec : {M : Type 1} → statement M
 read-addresses-body-spec =
     tie.close
-    (tie.spec read-addresses-requires enum-known-l enum-told fault-requires returns returns-2)
+    (tie.spec read-addresses-requires enum-known-addresses-step enum-told fault-requires returns returns-2)

@@ -7,8 +7,8 @@ use Rattle.bodies.proofs.items.read_dword_body.Tie as tie
 dword-requires : tie.Need-dword-requires
 dword-requires c κs = search needs
 
-enum-known-d : tie.Need-enum-known-d
-enum-known-d c = search needs
+enum-known-number-step : tie.Need-enum-known-number-step
+enum-known-number-step c = search needs
 
 enum-told : tie.Need-enum-told
 enum-told c = search needs
@@ -22,8 +22,8 @@ returns c = rw (c .fault .ensures, ← c .before .before .before .dword .ensures
 
 returns-2 : tie.Need-returns-2
 unfolding decodeBody
-returns-2 c = rw (← c .before .before .before .dword .ensures, c .before .d .given .1) (refl, tt)
+returns-2 c = rw (← c .before .before .before .dword .ensures, c .before .number-step .given .1) (refl, tt)
 
 pub read-dword-body-spec : {M : Type 1} → statement M
 read-dword-body-spec =
-    tie.close (tie.spec dword-requires enum-known-d enum-told fault-requires returns returns-2)
+    tie.close (tie.spec dword-requires enum-known-number-step enum-told fault-requires returns returns-2)

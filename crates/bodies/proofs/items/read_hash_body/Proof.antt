@@ -8,8 +8,8 @@ use Rattle.bodies.proofs.items.read_hash_body.Tie as tie
 hash-requires : tie.Need-hash-requires
 hash-requires c κs = search needs
 
-enum-known-h : tie.Need-enum-known-h
-enum-known-h c = search needs
+enum-known-hash-step : tie.Need-enum-known-hash-step
+enum-known-hash-step c = search needs
 
 enum-told : tie.Need-enum-told
 enum-told c = search needs
@@ -23,9 +23,9 @@ returns c = rw (c .fault .ensures, ← c .before .before .before .hash .ensures,
 
 returns-2 : tie.Need-returns-2
 unfolding decodeBody
-returns-2 c = rw (← c .before .before .before .hash .ensures, c .before .h .given .1)
-    (refl, hash-inside _ _ _ (rw (c .before .h .given .1) at (c .before .before .before .hash .ensures)))
+returns-2 c = rw (← c .before .before .before .hash .ensures, c .before .hash-step .given .1)
+    (refl, hash-inside _ _ _ (rw (c .before .hash-step .given .1) at (c .before .before .before .hash .ensures)))
 
 pub read-hash-body-spec : {M : Type 1} → statement M
 read-hash-body-spec =
-    tie.close (tie.spec hash-requires enum-known-h enum-told fault-requires returns returns-2)
+    tie.close (tie.spec hash-requires enum-known-hash-step enum-told fault-requires returns returns-2)

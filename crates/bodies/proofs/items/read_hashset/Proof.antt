@@ -8,8 +8,8 @@ use Rattle.bodies.proofs.items.read_hashset.Tie as tie
 hash-requires : tie.Need-hash-requires
 hash-requires c κs = search needs
 
-enum-known-h : tie.Need-enum-known-h
-enum-known-h c = search needs
+enum-known-hash-step : tie.Need-enum-known-hash-step
+enum-known-hash-step c = search needs
 
 enum-told : tie.Need-enum-told
 enum-told c = search needs
@@ -24,8 +24,8 @@ returns c = rw (c .fault .ensures, ← c .before .before .before .hash .ensures,
 read-hashes-requires : tie.Need-read-hashes-requires
 read-hashes-requires c κs = search needs
 
-enum-known-l : tie.Need-enum-known-l
-enum-known-l c = search needs
+enum-known-parts-step : tie.Need-enum-known-parts-step
+enum-known-parts-step c = search needs
 
 enum-told-2 : tie.Need-enum-told-2
 enum-told-2 c = search needs
@@ -36,11 +36,11 @@ fault-requires-2 c κs = search needs
 returns-2 : tie.Need-returns-2
 unfolding decodeBody
 returns-2 c =
-    let h = c .before .before .before .before .before in
+    let hash = c .before .before .before .before .before in
     rw (
       c .fault2 .ensures,
-      ← h .before .before .hash .ensures,
-      h .h .given .1,
+      ← hash .before .before .hash .ensures,
+      hash .hash-step .given .1,
       ← c .before .before .before .read-hashes .ensures .0,
       c .before .enum-told2 .given .1,
     )
@@ -49,27 +49,27 @@ returns-2 c =
 returns-3 : tie.Need-returns-3
 unfolding decodeBody
 returns-3 c =
-    let l = c .before in
-    let h = l .before .before .before .before in
+    let parts = c .before in
+    let hash = parts .before .before .before .before in
     rw (
-      ← h .before .before .hash .ensures,
-      h .h .given .1,
-      ← l .before .before .read-hashes .ensures .0,
-      l .l .given .1,
+      ← hash .before .before .hash .ensures,
+      hash .hash-step .given .1,
+      ← parts .before .before .read-hashes .ensures .0,
+      parts .parts-step .given .1,
     )
-    (refl, (hash-inside _ _ _ (rw (h .h .given .1) at (h .before .before .hash .ensures)), rw (l .l .given .1) at (l .before .before .read-hashes .ensures .1)))
+    (refl, (hash-inside _ _ _ (rw (hash .hash-step .given .1) at (hash .before .before .hash .ensures)), rw (parts .parts-step .given .1) at (parts .before .before .read-hashes .ensures .1)))
 
 pub read-hashset-spec : {M : Type 1} → statement M
 read-hashset-spec =
     tie.close
     (tie.spec
     hash-requires
-    enum-known-h
+    enum-known-hash-step
     enum-told
     fault-requires
     returns
     read-hashes-requires
-    enum-known-l
+    enum-known-parts-step
     enum-told-2
     fault-requires-2
     returns-2

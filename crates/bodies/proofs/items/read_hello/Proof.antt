@@ -7,8 +7,8 @@ use Rattle.bodies.proofs.items.read_hello.Tie as tie
 fixed-requires : tie.Need-fixed-requires
 fixed-requires c κs = search needs
 
-enum-known-f : tie.Need-enum-known-f
-enum-known-f c = search needs
+enum-known-fixed-step : tie.Need-enum-known-fixed-step
+enum-known-fixed-step c = search needs
 
 enum-told : tie.Need-enum-told
 enum-told c = search needs
@@ -23,8 +23,8 @@ returns c = rw (c .fault .ensures, ← c .before .before .before .fixed .ensures
 read-record-requires : tie.Need-read-record-requires
 read-record-requires c κs = search needs
 
-enum-known-r : tie.Need-enum-known-r
-enum-known-r c = search needs
+enum-known-record-step : tie.Need-enum-known-record-step
+enum-known-record-step c = search needs
 
 enum-told-2 : tie.Need-enum-told-2
 enum-told-2 c = search needs
@@ -35,11 +35,11 @@ fault-requires-2 c κs = search needs
 returns-2 : tie.Need-returns-2
 unfolding decodeBody
 returns-2 c =
-    let f = c .before .before .before .before .before in
+    let fixed = c .before .before .before .before .before in
     rw (
       c .fault2 .ensures,
-      ← f .before .before .fixed .ensures,
-      f .f .given .1,
+      ← fixed .before .before .fixed .ensures,
+      fixed .fixed-step .given .1,
       ← c .before .before .before .read-record .ensures .0,
       c .before .enum-told2 .given .1,
     )
@@ -48,8 +48,8 @@ returns-2 c =
 read-address-requires : tie.Need-read-address-requires
 read-address-requires c κs = search needs
 
-enum-known-a : tie.Need-enum-known-a
-enum-known-a c = search needs
+enum-known-address-step : tie.Need-enum-known-address-step
+enum-known-address-step c = search needs
 
 enum-told-3 : tie.Need-enum-told-3
 enum-told-3 c = search needs
@@ -60,14 +60,14 @@ fault-requires-3 c κs = search needs
 returns-3 : tie.Need-returns-3
 unfolding decodeBody
 returns-3 c =
-    let r = c .before .before .before .before .before in
-    let f = r .before .before .before .before in
+    let after-record = c .before .before .before .before .before in
+    let fixed = after-record .before .before .before .before in
     rw (
       c .fault3 .ensures,
-      ← f .before .before .fixed .ensures,
-      f .f .given .1,
-      ← r .before .before .read-record .ensures .0,
-      r .r .given .1,
+      ← fixed .before .before .fixed .ensures,
+      fixed .fixed-step .given .1,
+      ← after-record .before .before .read-record .ensures .0,
+      after-record .record-step .given .1,
       ← c .before .before .before .read-address .ensures,
       c .before .enum-told3 .given .1,
     )
@@ -76,35 +76,35 @@ returns-3 c =
 returns-4 : tie.Need-returns-4
 unfolding decodeBody
 returns-4 c =
-    let a = c .before in
-    let r = a .before .before .before .before in
-    let f = r .before .before .before .before in
+    let address = c .before in
+    let after-record = address .before .before .before .before in
+    let fixed = after-record .before .before .before .before in
     rw (
-      ← f .before .before .fixed .ensures,
-      f .f .given .1,
-      ← r .before .before .read-record .ensures .0,
-      r .r .given .1,
-      ← a .before .before .read-address .ensures,
-      a .a .given .1,
+      ← fixed .before .before .fixed .ensures,
+      fixed .fixed-step .given .1,
+      ← after-record .before .before .read-record .ensures .0,
+      after-record .record-step .given .1,
+      ← address .before .before .read-address .ensures,
+      address .address-step .given .1,
     )
-    (refl, rw (r .r .given .1) at (r .before .before .read-record .ensures .1))
+    (refl, rw (after-record .record-step .given .1) at (after-record .before .before .read-record .ensures .1))
 
 pub read-hello-spec : {M : Type 1} → statement M
 read-hello-spec =
     tie.close
     (tie.spec
     fixed-requires
-    enum-known-f
+    enum-known-fixed-step
     enum-told
     fault-requires
     returns
     read-record-requires
-    enum-known-r
+    enum-known-record-step
     enum-told-2
     fault-requires-2
     returns-2
     read-address-requires
-    enum-known-a
+    enum-known-address-step
     enum-told-3
     fault-requires-3
     returns-3

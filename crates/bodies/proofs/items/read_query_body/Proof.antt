@@ -7,8 +7,8 @@ use Rattle.bodies.proofs.items.read_query_body.Tie as tie
 read-query-requires : tie.Need-read-query-requires
 read-query-requires c κs = search needs
 
-enum-known-q : tie.Need-enum-known-q
-enum-known-q c = search needs
+enum-known-query-step : tie.Need-enum-known-query-step
+enum-known-query-step c = search needs
 
 enum-told : tie.Need-enum-told
 enum-told c = search needs
@@ -25,11 +25,11 @@ unfolding decodeBody
 returns-2 c =
     rw (
       ← c .before .before .before .read-query .ensures .0,
-      c .before .q .given .1,
+      c .before .query-step .given .1,
     )
-    (refl, rw (c .before .q .given .1) at (c .before .before .before .read-query .ensures .1))
+    (refl, rw (c .before .query-step .given .1) at (c .before .before .before .read-query .ensures .1))
 
 pub read-query-body-spec : {M : Type 1} → statement M
 read-query-body-spec =
     tie.close
-    (tie.spec read-query-requires enum-known-q enum-told fault-requires returns returns-2)
+    (tie.spec read-query-requires enum-known-query-step enum-told fault-requires returns returns-2)

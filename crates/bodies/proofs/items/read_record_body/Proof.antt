@@ -7,8 +7,8 @@ use Rattle.bodies.proofs.items.read_record_body.Tie as tie
 read-record-requires : tie.Need-read-record-requires
 read-record-requires c κs = search needs
 
-enum-known-r : tie.Need-enum-known-r
-enum-known-r c = search needs
+enum-known-record-step : tie.Need-enum-known-record-step
+enum-known-record-step c = search needs
 
 enum-told : tie.Need-enum-told
 enum-told c = search needs
@@ -25,11 +25,11 @@ unfolding decodeBody
 returns-2 c =
     rw (
       ← c .before .before .before .read-record .ensures .0,
-      c .before .r .given .1,
+      c .before .record-step .given .1,
     )
-    (refl, rw (c .before .r .given .1) at (c .before .before .before .read-record .ensures .1))
+    (refl, rw (c .before .record-step .given .1) at (c .before .before .before .read-record .ensures .1))
 
 pub read-record-body-spec : {M : Type 1} → statement M
 read-record-body-spec =
     tie.close
-    (tie.spec read-record-requires enum-known-r enum-told fault-requires returns returns-2)
+    (tie.spec read-record-requires enum-known-record-step enum-told fault-requires returns returns-2)

@@ -7,8 +7,8 @@ use Rattle.bodies.proofs.items.read_records_body.Tie as tie
 read-records-requires : tie.Need-read-records-requires
 read-records-requires c κs = search needs
 
-enum-known-l : tie.Need-enum-known-l
-enum-known-l c = search needs
+enum-known-records-step : tie.Need-enum-known-records-step
+enum-known-records-step c = search needs
 
 enum-told : tie.Need-enum-told
 enum-told c = search needs
@@ -25,11 +25,11 @@ unfolding decodeBody
 returns-2 c =
     rw (
       ← c .before .before .before .read-records .ensures .0,
-      c .before .l .given .1,
+      c .before .records-step .given .1,
     )
-    (refl, rw (c .before .l .given .1) at (c .before .before .before .read-records .ensures .1))
+    (refl, rw (c .before .records-step .given .1) at (c .before .before .before .read-records .ensures .1))
 
 pub read-records-body-spec : {M : Type 1} → statement M
 read-records-body-spec =
     tie.close
-    (tie.spec read-records-requires enum-known-l enum-told fault-requires returns returns-2)
+    (tie.spec read-records-requires enum-known-records-step enum-told fault-requires returns returns-2)

@@ -7,8 +7,8 @@ use Rattle.bodies.proofs.items.read_records_flag.Tie as tie
 read-records-requires : tie.Need-read-records-requires
 read-records-requires c κs = search needs
 
-enum-known-l : tie.Need-enum-known-l
-enum-known-l c = search needs
+enum-known-records-step : tie.Need-enum-known-records-step
+enum-known-records-step c = search needs
 
 enum-told : tie.Need-enum-told
 enum-told c = search needs
@@ -23,8 +23,8 @@ returns c = rw (c .fault .ensures, ← c .before .before .before .read-records .
 read-flag-requires : tie.Need-read-flag-requires
 read-flag-requires c κs = search needs
 
-enum-known-b : tie.Need-enum-known-b
-enum-known-b c = search needs
+enum-known-flag-step : tie.Need-enum-known-flag-step
+enum-known-flag-step c = search needs
 
 enum-told-2 : tie.Need-enum-told-2
 enum-told-2 c = search needs
@@ -35,11 +35,11 @@ fault-requires-2 c κs = search needs
 returns-2 : tie.Need-returns-2
 unfolding decodeBody
 returns-2 c =
-    let l = c .before .before .before .before .before in
+    let records = c .before .before .before .before .before in
     rw (
       c .fault2 .ensures,
-      ← l .before .before .read-records .ensures .0,
-      l .l .given .1,
+      ← records .before .before .read-records .ensures .0,
+      records .records-step .given .1,
       ← c .before .before .before .read-flag .ensures,
       c .before .enum-told2 .given .1,
     )
@@ -48,27 +48,27 @@ returns-2 c =
 returns-3 : tie.Need-returns-3
 unfolding decodeBody
 returns-3 c =
-    let b = c .before in
-    let l = b .before .before .before .before in
+    let flag = c .before in
+    let records = flag .before .before .before .before in
     rw (
-      ← l .before .before .read-records .ensures .0,
-      l .l .given .1,
-      ← b .before .before .read-flag .ensures,
-      b .b .given .1,
+      ← records .before .before .read-records .ensures .0,
+      records .records-step .given .1,
+      ← flag .before .before .read-flag .ensures,
+      flag .flag-step .given .1,
     )
-    (refl, rw (l .l .given .1) at (l .before .before .read-records .ensures .1))
+    (refl, rw (records .records-step .given .1) at (records .before .before .read-records .ensures .1))
 
 pub read-records-flag-spec : {M : Type 1} → statement M
 read-records-flag-spec =
     tie.close
     (tie.spec
     read-records-requires
-    enum-known-l
+    enum-known-records-step
     enum-told
     fault-requires
     returns
     read-flag-requires
-    enum-known-b
+    enum-known-flag-step
     enum-told-2
     fault-requires-2
     returns-2

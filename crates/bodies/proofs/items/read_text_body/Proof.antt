@@ -7,8 +7,8 @@ use Rattle.bodies.proofs.items.read_text_body.Tie as tie
 string-requires : tie.Need-string-requires
 string-requires c κs = search needs
 
-enum-known-t : tie.Need-enum-known-t
-enum-known-t c = search needs
+enum-known-text-step : tie.Need-enum-known-text-step
+enum-known-text-step c = search needs
 
 enum-told : tie.Need-enum-told
 enum-told c = search needs
@@ -22,9 +22,9 @@ returns c = rw (c .fault .ensures, ← c .before .before .before .string .ensure
 
 returns-2 : tie.Need-returns-2
 unfolding decodeBody
-returns-2 c = rw (← c .before .before .before .string .ensures .0, c .before .t .given .1)
-    (refl, rw (c .before .t .given .1) at (c .before .before .before .string .ensures .1))
+returns-2 c = rw (← c .before .before .before .string .ensures .0, c .before .text-step .given .1)
+    (refl, rw (c .before .text-step .given .1) at (c .before .before .before .string .ensures .1))
 
 pub read-text-body-spec : {M : Type 1} → statement M
 read-text-body-spec =
-    tie.close (tie.spec string-requires enum-known-t enum-told fault-requires returns returns-2)
+    tie.close (tie.spec string-requires enum-known-text-step enum-told fault-requires returns returns-2)

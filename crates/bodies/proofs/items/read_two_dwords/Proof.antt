@@ -7,8 +7,8 @@ use Rattle.bodies.proofs.items.read_two_dwords.Tie as tie
 dword-requires : tie.Need-dword-requires
 dword-requires c κs = search needs
 
-enum-known-a : tie.Need-enum-known-a
-enum-known-a c = search needs
+enum-known-first-step : tie.Need-enum-known-first-step
+enum-known-first-step c = search needs
 
 enum-told : tie.Need-enum-told
 enum-told c = search needs
@@ -23,8 +23,8 @@ returns c = rw (c .fault .ensures, ← c .before .before .before .dword .ensures
 dword-requires-2 : tie.Need-dword-requires-2
 dword-requires-2 c κs = search needs
 
-enum-known-b : tie.Need-enum-known-b
-enum-known-b c = search needs
+enum-known-second-step : tie.Need-enum-known-second-step
+enum-known-second-step c = search needs
 
 enum-told-2 : tie.Need-enum-told-2
 enum-told-2 c = search needs
@@ -35,11 +35,11 @@ fault-requires-2 c κs = search needs
 returns-2 : tie.Need-returns-2
 unfolding decodeBody
 returns-2 c =
-    let a = c .before .before .before .before .before in
+    let first = c .before .before .before .before .before in
     rw (
       c .fault2 .ensures,
-      ← a .before .before .dword .ensures,
-      a .a .given .1,
+      ← first .before .before .dword .ensures,
+      first .first-step .given .1,
       ← c .before .before .before .dword2 .ensures,
       c .before .enum-told2 .given .1,
     )
@@ -48,21 +48,21 @@ returns-2 c =
 returns-3 : tie.Need-returns-3
 unfolding decodeBody
 returns-3 c =
-    let b = c .before in
-    let a = b .before .before .before .before in
-    rw (← a .before .before .dword .ensures, a .a .given .1, ← b .before .before .dword2 .ensures, b .b .given .1) (refl, tt)
+    let second = c .before in
+    let first = second .before .before .before .before in
+    rw (← first .before .before .dword .ensures, first .first-step .given .1, ← second .before .before .dword2 .ensures, second .second-step .given .1) (refl, tt)
 
 pub read-two-dwords-spec : {M : Type 1} → statement M
 read-two-dwords-spec =
     tie.close
     (tie.spec
     dword-requires
-    enum-known-a
+    enum-known-first-step
     enum-told
     fault-requires
     returns
     dword-requires-2
-    enum-known-b
+    enum-known-second-step
     enum-told-2
     fault-requires-2
     returns-2

@@ -8,8 +8,8 @@ use Rattle.bodies.proofs.ranges.read_range.Tie as tie
 dword-requires : tie.Need-dword-requires
 dword-requires c κs = search needs
 
-enum-known-a : tie.Need-enum-known-a
-enum-known-a c = search needs
+enum-known-start-step : tie.Need-enum-known-start-step
+enum-known-start-step c = search needs
 
 enum-told : tie.Need-enum-told
 enum-told c = search needs
@@ -24,8 +24,8 @@ returns c = rw (c .fault .ensures, ← c .before .before .before .dword .ensures
 dword-requires-2 : tie.Need-dword-requires-2
 dword-requires-2 c κs = search needs
 
-enum-known-b : tie.Need-enum-known-b
-enum-known-b c = search needs
+enum-known-end-step : tie.Need-enum-known-end-step
+enum-known-end-step c = search needs
 
 enum-told-2 : tie.Need-enum-told-2
 enum-told-2 c = search needs
@@ -36,11 +36,11 @@ fault-requires-2 c κs = search needs
 returns-2 : tie.Need-returns-2
 unfolding decodeRange
 returns-2 c =
-    let a = c .before .before .before .before .before in
+    let start = c .before .before .before .before .before in
     rw (
       c .fault2 .ensures,
-      ← a .before .before .dword .ensures,
-      a .a .given .1,
+      ← start .before .before .dword .ensures,
+      start .start-step .given .1,
       ← c .before .before .before .dword2 .ensures,
       c .before .enum-told2 .given .1,
     )
@@ -49,9 +49,9 @@ returns-2 c =
 returns-3 : tie.Need-returns-3
 unfolding decodeRange
 returns-3 c =
-    let b = c .before .before in
-    let a = b .before .before .before .before in
-    rw (← a .before .before .dword .ensures, a .a .given .1, ← b .before .before .dword2 .ensures, b .b .given .1, lt-leb _ _ (c .if1 .taken)) refl
+    let end = c .before .before in
+    let start = end .before .before .before .before in
+    rw (← start .before .before .dword .ensures, start .start-step .given .1, ← end .before .before .dword2 .ensures, end .end-step .given .1, lt-leb _ _ (c .if1 .taken)) refl
 
 remaining-requires : tie.Need-remaining-requires
 remaining-requires c κs = search needs
@@ -62,13 +62,13 @@ cast-wanted c = search needs
 returns-4 : tie.Need-returns-4
 unfolding decodeRange
 returns-4 c =
-    let b = c .before .before .before .before in
-    let a = b .before .before .before .before in
+    let end = c .before .before .before .before in
+    let start = end .before .before .before .before in
     rw (
-      ← a .before .before .dword .ensures,
-      a .a .given .1,
-      ← b .before .before .dword2 .ensures,
-      b .b .given .1,
+      ← start .before .before .dword .ensures,
+      start .start-step .given .1,
+      ← end .before .before .dword2 .ensures,
+      end .end-step .given .1,
       le-leb _ _ (c .before .before .if1 .left),
       ← c .before .remaining .ensures,
       eq-eqb _ _ (c .if2 .taken),
@@ -78,13 +78,13 @@ returns-4 c =
 returns-5 : tie.Need-returns-5
 unfolding decodeRange
 returns-5 c =
-    let b = c .before .before .before .before in
-    let a = b .before .before .before .before in
+    let end = c .before .before .before .before in
+    let start = end .before .before .before .before in
     rw (
-      ← a .before .before .dword .ensures,
-      a .a .given .1,
-      ← b .before .before .dword2 .ensures,
-      b .b .given .1,
+      ← start .before .before .dword .ensures,
+      start .start-step .given .1,
+      ← end .before .before .dword2 .ensures,
+      end .end-step .given .1,
       le-leb _ _ (c .before .before .if1 .left),
       ← c .before .remaining .ensures,
       ne-eqb _ _ (c .if2 .left),
@@ -96,12 +96,12 @@ read-range-spec =
     tie.close
     (tie.spec
     dword-requires
-    enum-known-a
+    enum-known-start-step
     enum-told
     fault-requires
     returns
     dword-requires-2
-    enum-known-b
+    enum-known-end-step
     enum-told-2
     fault-requires-2
     returns-2

@@ -8,8 +8,8 @@ use Rattle.bodies.proofs.ranges.read_ranges.Tie as tie
 read-triple-requires : tie.Need-read-triple-requires
 read-triple-requires c κs = search needs
 
-enum-known-a : tie.Need-enum-known-a
-enum-known-a c = search needs
+enum-known-starts-step : tie.Need-enum-known-starts-step
+enum-known-starts-step c = search needs
 
 enum-told : tie.Need-enum-told
 enum-told c = search needs
@@ -24,8 +24,8 @@ returns c = rw (c .fault .ensures, ← c .before .before .before .read-triple .e
 read-triple-requires-2 : tie.Need-read-triple-requires-2
 read-triple-requires-2 c κs = search needs
 
-enum-known-b : tie.Need-enum-known-b
-enum-known-b c = search needs
+enum-known-ends-step : tie.Need-enum-known-ends-step
+enum-known-ends-step c = search needs
 
 enum-told-2 : tie.Need-enum-told-2
 enum-told-2 c = search needs
@@ -36,11 +36,11 @@ fault-requires-2 c κs = search needs
 returns-2 : tie.Need-returns-2
 unfolding decodeRanges
 returns-2 c =
-    let a = c .before .before .before .before .before in
+    let starts = c .before .before .before .before .before in
     rw (
       c .fault2 .ensures,
-      ← a .before .before .read-triple .ensures,
-      a .a .given .1,
+      ← starts .before .before .read-triple .ensures,
+      starts .starts-step .given .1,
       ← c .before .before .before .read-triple2 .ensures,
       c .before .enum-told2 .given .1,
     )
@@ -49,13 +49,13 @@ returns-2 c =
 returns-3 : tie.Need-returns-3
 unfolding decodeRanges
 returns-3 c =
-    let b = c .before .before .before .before in
-    let a = b .before .before .before .before in
+    let ends = c .before .before .before .before in
+    let starts = ends .before .before .before .before in
     rw (
-      ← a .before .before .read-triple .ensures,
-      a .a .given .1,
-      ← b .before .before .read-triple2 .ensures,
-      b .b .given .1,
+      ← starts .before .before .read-triple .ensures,
+      starts .starts-step .given .1,
+      ← ends .before .before .read-triple2 .ensures,
+      ends .ends-step .given .1,
       lt-leb _ _ (c .if1 .taken),
     )
     refl
@@ -63,13 +63,13 @@ returns-3 c =
 returns-4 : tie.Need-returns-4
 unfolding decodeRanges
 returns-4 c =
-    let b = c .before .before .before .before .before .before .before in
-    let a = b .before .before .before .before in
+    let ends = c .before .before .before .before .before .before .before in
+    let starts = ends .before .before .before .before in
     rw (
-      ← a .before .before .read-triple .ensures,
-      a .a .given .1,
-      ← b .before .before .read-triple2 .ensures,
-      b .b .given .1,
+      ← starts .before .before .read-triple .ensures,
+      starts .starts-step .given .1,
+      ← ends .before .before .read-triple2 .ensures,
+      ends .ends-step .given .1,
       le-leb _ _ (c .before .before .before .if1 .left),
       lt-leb _ _ (c .if2 .taken),
     )
@@ -78,13 +78,13 @@ returns-4 c =
 returns-5 : tie.Need-returns-5
 unfolding decodeRanges
 returns-5 c =
-    let b = c .before .before .before .before .before .before .before .before .before .before in
-    let a = b .before .before .before .before in
+    let ends = c .before .before .before .before .before .before .before .before .before .before in
+    let starts = ends .before .before .before .before in
     rw (
-      ← a .before .before .read-triple .ensures,
-      a .a .given .1,
-      ← b .before .before .read-triple2 .ensures,
-      b .b .given .1,
+      ← starts .before .before .read-triple .ensures,
+      starts .starts-step .given .1,
+      ← ends .before .before .read-triple2 .ensures,
+      ends .ends-step .given .1,
       le-leb _ _ (c .before .before .before .before .before .before .if1 .left),
       le-leb _ _ (c .before .before .before .if2 .left),
       lt-leb _ _ (c .if3 .taken),
@@ -94,13 +94,13 @@ returns-5 c =
 returns-6 : tie.Need-returns-6
 unfolding decodeRanges
 returns-6 c =
-    let b = c .before .before .before .before .before .before .before .before .before .before in
-    let a = b .before .before .before .before in
+    let ends = c .before .before .before .before .before .before .before .before .before .before in
+    let starts = ends .before .before .before .before in
     rw (
-      ← a .before .before .read-triple .ensures,
-      a .a .given .1,
-      ← b .before .before .read-triple2 .ensures,
-      b .b .given .1,
+      ← starts .before .before .read-triple .ensures,
+      starts .starts-step .given .1,
+      ← ends .before .before .read-triple2 .ensures,
+      ends .ends-step .given .1,
       le-leb _ _ (c .before .before .before .before .before .before .if1 .left),
       le-leb _ _ (c .before .before .before .if2 .left),
       le-leb _ _ (c .if3 .left),
@@ -112,12 +112,12 @@ read-ranges-spec =
     tie.close
     (tie.spec
     read-triple-requires
-    enum-known-a
+    enum-known-starts-step
     enum-told
     fault-requires
     returns
     read-triple-requires-2
-    enum-known-b
+    enum-known-ends-step
     enum-told-2
     fault-requires-2
     returns-2

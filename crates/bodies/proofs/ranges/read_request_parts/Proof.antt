@@ -8,8 +8,8 @@ use Rattle.bodies.proofs.ranges.read_request_parts.Tie as tie
 hash-requires : tie.Need-hash-requires
 hash-requires c κs = search needs
 
-enum-known-h : tie.Need-enum-known-h
-enum-known-h c = search needs
+enum-known-hash-step : tie.Need-enum-known-hash-step
+enum-known-hash-step c = search needs
 
 enum-told : tie.Need-enum-told
 enum-told c = search needs
@@ -24,8 +24,8 @@ returns c = rw (c .fault .ensures, ← c .before .before .before .hash .ensures,
 read-ranges-requires : tie.Need-read-ranges-requires
 read-ranges-requires c κs = search needs
 
-enum-known-r : tie.Need-enum-known-r
-enum-known-r c = search needs
+enum-known-ranges-step : tie.Need-enum-known-ranges-step
+enum-known-ranges-step c = search needs
 
 enum-told-2 : tie.Need-enum-told-2
 enum-told-2 c = search needs
@@ -36,11 +36,11 @@ fault-requires-2 c κs = search needs
 returns-2 : tie.Need-returns-2
 unfolding decodeBody decodeRequestParts
 returns-2 c =
-    let h = c .before .before .before .before .before in
+    let hash = c .before .before .before .before .before in
     rw (
       c .fault2 .ensures,
-      ← h .before .before .hash .ensures,
-      h .h .given .1,
+      ← hash .before .before .hash .ensures,
+      hash .hash-step .given .1,
       ← c .before .before .before .read-ranges .ensures,
       c .before .enum-told2 .given .1,
     )
@@ -49,22 +49,22 @@ returns-2 c =
 returns-3 : tie.Need-returns-3
 unfolding decodeBody decodeRequestParts
 returns-3 c =
-    let r = c .before in
-    let h = r .before .before .before .before in
-    rw (← h .before .before .hash .ensures, h .h .given .1, ← r .before .before .read-ranges .ensures, r .r .given .1)
-    (refl, hash-inside _ _ _ (rw (h .h .given .1) at (h .before .before .hash .ensures)))
+    let ranges = c .before in
+    let hash = ranges .before .before .before .before in
+    rw (← hash .before .before .hash .ensures, hash .hash-step .given .1, ← ranges .before .before .read-ranges .ensures, ranges .ranges-step .given .1)
+    (refl, hash-inside _ _ _ (rw (hash .hash-step .given .1) at (hash .before .before .hash .ensures)))
 
 pub read-request-parts-spec : {M : Type 1} → statement M
 read-request-parts-spec =
     tie.close
     (tie.spec
     hash-requires
-    enum-known-h
+    enum-known-hash-step
     enum-told
     fault-requires
     returns
     read-ranges-requires
-    enum-known-r
+    enum-known-ranges-step
     enum-told-2
     fault-requires-2
     returns-2

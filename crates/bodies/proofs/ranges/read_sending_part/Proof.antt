@@ -10,8 +10,8 @@ use Rattle.bodies.proofs.ranges.read_sending_part.Tie as tie
 hash-requires : tie.Need-hash-requires
 hash-requires c κs = search needs
 
-enum-known-h : tie.Need-enum-known-h
-enum-known-h c = search needs
+enum-known-hash-step : tie.Need-enum-known-hash-step
+enum-known-hash-step c = search needs
 
 enum-told : tie.Need-enum-told
 enum-told c = search needs
@@ -26,8 +26,8 @@ returns c = rw (c .fault .ensures, ← c .before .before .before .hash .ensures,
 read-range-requires : tie.Need-read-range-requires
 read-range-requires c κs = search needs
 
-enum-known-r : tie.Need-enum-known-r
-enum-known-r c = search needs
+enum-known-range-step : tie.Need-enum-known-range-step
+enum-known-range-step c = search needs
 
 enum-told-2 : tie.Need-enum-told-2
 enum-told-2 c = search needs
@@ -38,11 +38,11 @@ fault-requires-2 c κs = search needs
 returns-2 : tie.Need-returns-2
 unfolding decodeBody decodeSendingPart
 returns-2 c =
-    let h = c .before .before .before .before .before in
+    let hash = c .before .before .before .before .before in
     rw (
       c .fault2 .ensures,
-      ← h .before .before .hash .ensures,
-      h .h .given .1,
+      ← hash .before .before .hash .ensures,
+      hash .hash-step .given .1,
       ← c .before .before .before .read-range .ensures,
       c .before .enum-told2 .given .1,
     )
@@ -54,29 +54,29 @@ remaining-requires c κs = search needs
 returns-3 : tie.Need-returns-3
 unfolding decodeBody decodeSendingPart decodeTail
 returns-3 c =
-    let r = c .before .before in
-    let h = r .before .before .before .before in
+    let range = c .before .before in
+    let hash = range .before .before .before .before in
     rw (
-      ← h .before .before .hash .ensures,
-      h .h .given .1,
-      ← r .before .before .read-range .ensures,
-      r .r .given .1,
+      ← hash .before .before .hash .ensures,
+      hash .hash-step .given .1,
+      ← range .before .before .read-range .ensures,
+      range .range-step .given .1,
       c .remaining .ensures,
       to-the-end,
     )
-    (refl, (hash-inside _ _ _ (rw (h .h .given .1) at (h .before .before .hash .ensures)), data-inside _ _ (rw (r .r .given .1) at (r .before .before .read-range .ensures))))
+    (refl, (hash-inside _ _ _ (rw (hash .hash-step .given .1) at (hash .before .before .hash .ensures)), data-inside _ _ (rw (range .range-step .given .1) at (range .before .before .read-range .ensures))))
 
 pub read-sending-part-spec : {M : Type 1} → statement M
 read-sending-part-spec =
     tie.close
     (tie.spec
     hash-requires
-    enum-known-h
+    enum-known-hash-step
     enum-told
     fault-requires
     returns
     read-range-requires
-    enum-known-r
+    enum-known-range-step
     enum-told-2
     fault-requires-2
     returns-2

@@ -7,8 +7,8 @@ use Rattle.bodies.proofs.ranges.read_triple.Tie as tie
 dword-requires : tie.Need-dword-requires
 dword-requires c κs = search needs
 
-enum-known-d1 : tie.Need-enum-known-d1
-enum-known-d1 c = search needs
+enum-known-first-step : tie.Need-enum-known-first-step
+enum-known-first-step c = search needs
 
 enum-told : tie.Need-enum-told
 enum-told c = search needs
@@ -23,8 +23,8 @@ returns c = rw (c .fault .ensures, ← c .before .before .before .dword .ensures
 dword-requires-2 : tie.Need-dword-requires-2
 dword-requires-2 c κs = search needs
 
-enum-known-d2 : tie.Need-enum-known-d2
-enum-known-d2 c = search needs
+enum-known-second-step : tie.Need-enum-known-second-step
+enum-known-second-step c = search needs
 
 enum-told-2 : tie.Need-enum-told-2
 enum-told-2 c = search needs
@@ -35,11 +35,11 @@ fault-requires-2 c κs = search needs
 returns-2 : tie.Need-returns-2
 unfolding decodeTriple
 returns-2 c =
-    let d1 = c .before .before .before .before .before in
+    let first = c .before .before .before .before .before in
     rw (
       c .fault2 .ensures,
-      ← d1 .before .before .dword .ensures,
-      d1 .d1 .given .1,
+      ← first .before .before .dword .ensures,
+      first .first-step .given .1,
       ← c .before .before .before .dword2 .ensures,
       c .before .enum-told2 .given .1,
     )
@@ -48,8 +48,8 @@ returns-2 c =
 dword-requires-3 : tie.Need-dword-requires-3
 dword-requires-3 c κs = search needs
 
-enum-known-d3 : tie.Need-enum-known-d3
-enum-known-d3 c = search needs
+enum-known-third-step : tie.Need-enum-known-third-step
+enum-known-third-step c = search needs
 
 enum-told-3 : tie.Need-enum-told-3
 enum-told-3 c = search needs
@@ -60,14 +60,14 @@ fault-requires-3 c κs = search needs
 returns-3 : tie.Need-returns-3
 unfolding decodeTriple
 returns-3 c =
-    let d2 = c .before .before .before .before .before in
-    let d1 = d2 .before .before .before .before in
+    let second = c .before .before .before .before .before in
+    let first = second .before .before .before .before in
     rw (
       c .fault3 .ensures,
-      ← d1 .before .before .dword .ensures,
-      d1 .d1 .given .1,
-      ← d2 .before .before .dword2 .ensures,
-      d2 .d2 .given .1,
+      ← first .before .before .dword .ensures,
+      first .first-step .given .1,
+      ← second .before .before .dword2 .ensures,
+      second .second-step .given .1,
       ← c .before .before .before .dword3 .ensures,
       c .before .enum-told3 .given .1,
     )
@@ -76,16 +76,16 @@ returns-3 c =
 returns-4 : tie.Need-returns-4
 unfolding decodeTriple
 returns-4 c =
-    let d3 = c .before in
-    let d2 = d3 .before .before .before .before in
-    let d1 = d2 .before .before .before .before in
+    let third = c .before in
+    let second = third .before .before .before .before in
+    let first = second .before .before .before .before in
     rw (
-      ← d1 .before .before .dword .ensures,
-      d1 .d1 .given .1,
-      ← d2 .before .before .dword2 .ensures,
-      d2 .d2 .given .1,
-      ← d3 .before .before .dword3 .ensures,
-      d3 .d3 .given .1,
+      ← first .before .before .dword .ensures,
+      first .first-step .given .1,
+      ← second .before .before .dword2 .ensures,
+      second .second-step .given .1,
+      ← third .before .before .dword3 .ensures,
+      third .third-step .given .1,
     )
     refl
 
@@ -94,17 +94,17 @@ read-triple-spec =
     tie.close
     (tie.spec
     dword-requires
-    enum-known-d1
+    enum-known-first-step
     enum-told
     fault-requires
     returns
     dword-requires-2
-    enum-known-d2
+    enum-known-second-step
     enum-told-2
     fault-requires-2
     returns-2
     dword-requires-3
-    enum-known-d3
+    enum-known-third-step
     enum-told-3
     fault-requires-3
     returns-3

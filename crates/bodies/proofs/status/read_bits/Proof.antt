@@ -11,8 +11,8 @@ packed-bytes-requires c κs = search needs
 run-requires : tie.Need-run-requires
 run-requires c κs = search needs
 
-enum-known-p : tie.Need-enum-known-p
-enum-known-p c = search needs
+enum-known-run-step : tie.Need-enum-known-run-step
+enum-known-run-step c = search needs
 
 enum-told : tie.Need-enum-told
 enum-told c = search needs
@@ -28,41 +28,41 @@ returns c =
 
 returns-2 : tie.Need-returns-2
 returns-2 c =
-    let p = c .before .before in
-    let read = rw (p .p .given .1, p .before .before .before .packed-bytes .ensures) at (p .before .before .run .ensures .0) in
+    let run = c .before .before in
+    let read = rw (run .run-step .given .1, run .before .before .before .packed-bytes .ensures) at (run .before .before .run .ensures .0) in
     let held = all-used _ _ _ read (c .if1 .taken) in
     (held, bits-inside _ _ _ read held)
 
 add-last : tie.Need-add-last
 add-last c =
-    let p = c .before .before .before in
-    omega (arith, bytes-there _ _ _ (rw (p .p .given .1, p .before .before .before .packed-bytes .ensures) at (p .before .before .run .ensures .0)))
+    let run = c .before .before .before in
+    omega (arith, bytes-there _ _ _ (rw (run .run-step .given .1, run .before .before .before .packed-bytes .ensures) at (run .before .before .run .ensures .0)))
 
 shared-slice-read-byte : tie.Need-shared-slice-read-byte
 shared-slice-read-byte c =
-    let p = c .before .before .before .before in
-    omega (arith, bytes-there _ _ _ (rw (p .p .given .1, p .before .before .before .packed-bytes .ensures) at (p .before .before .run .ensures .0)))
+    let run = c .before .before .before .before in
+    omega (arith, bytes-there _ _ _ (rw (run .run-step .given .1, run .before .before .before .packed-bytes .ensures) at (run .before .before .run .ensures .0)))
 
 cast-if2 : tie.Need-cast-if2
 cast-if2 c =
     let a = c .before .before .before .before .before .before .before .before .before .args in
-    omega (arith, c .shared-slice-known2 .given (a .c .at + a .n / 8))
+    omega (arith, c .shared-slice-known2 .given (a .c .at + a .parts / 8))
 
 power-requires : tie.Need-power-requires
 power-requires c κs = search needs
 
 returns-3 : tie.Need-returns-3
 returns-3 c =
-    let p = c .before .before .before .before .before .before in
-    let read = rw (p .p .given .1, p .before .before .before .packed-bytes .ensures) at (p .before .before .run .ensures .0) in
+    let run = c .before .before .before .before .before .before in
+    let read = rw (run .run-step .given .1, run .before .before .before .packed-bytes .ensures) at (run .before .before .run .ensures .0) in
     let held = unused-clear _ _ _ read (c .before .before .before .before .if1 .left) (rw (c .before .power .ensures) at (c .if2 .taken)) in
     (held, bits-inside _ _ _ read held)
 
 returns-4 : tie.Need-returns-4
 returns-4 c =
-    let p = c .before .before .before .before .before .before in
-    let read = rw (p .p .given .1, p .before .before .before .packed-bytes .ensures) at (p .before .before .run .ensures .0) in
-    rw (p .before .before .before .packed-bytes .ensures) (unused-set _ _ _ read (c .before .before .before .before .if1 .left) (rw (c .before .power .ensures) at (c .if2 .left)), tt)
+    let run = c .before .before .before .before .before .before in
+    let read = rw (run .run-step .given .1, run .before .before .before .packed-bytes .ensures) at (run .before .before .run .ensures .0) in
+    rw (run .before .before .before .packed-bytes .ensures) (unused-set _ _ _ read (c .before .before .before .before .if1 .left) (rw (c .before .power .ensures) at (c .if2 .left)), tt)
 
 pub read-bits-spec : {M : Type 1} → statement M
 read-bits-spec =
@@ -70,7 +70,7 @@ read-bits-spec =
     (tie.spec
     packed-bytes-requires
     run-requires
-    enum-known-p
+    enum-known-run-step
     enum-told
     fault-requires
     returns

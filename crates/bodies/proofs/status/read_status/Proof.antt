@@ -11,8 +11,8 @@ remaining-requires c κs = search needs
 read-triple-requires : tie.Need-read-triple-requires
 read-triple-requires c κs = search needs
 
-enum-known-p : tie.Need-enum-known-p
-enum-known-p c = search needs
+enum-known-numbers-step : tie.Need-enum-known-numbers-step
+enum-known-numbers-step c = search needs
 
 enum-told : tie.Need-enum-told
 enum-told c = search needs
@@ -36,15 +36,15 @@ returns c =
 returns-2 : tie.Need-returns-2
 unfolding decodeBody
 returns-2 c =
-    let p = c .before in
-    let b = p .before .before .before in
-    rw (← b .before .remaining .ensures, eq-eqb _ _ (b .if1 .taken), ← p .before .before .read-triple .ensures, p .p .given .1) (refl, tt)
+    let numbers = c .before in
+    let b = numbers .before .before .before in
+    rw (← b .before .remaining .ensures, eq-eqb _ _ (b .if1 .taken), ← numbers .before .before .read-triple .ensures, numbers .numbers-step .given .1) (refl, tt)
 
 read-extended-status-requires : tie.Need-read-extended-status-requires
 read-extended-status-requires c κs = search needs
 
-enum-known-e : tie.Need-enum-known-e
-enum-known-e c = search needs
+enum-known-status-step : tie.Need-enum-known-status-step
+enum-known-status-step c = search needs
 
 enum-told-2 : tie.Need-enum-told-2
 enum-told-2 c = search needs
@@ -68,9 +68,9 @@ returns-3 c =
 returns-4 : tie.Need-returns-4
 unfolding decodeBody
 returns-4 c =
-    let e = c .before in
-    let b = e .before .before .before in
-    rw (← b .before .remaining .ensures, ne-eqb _ _ (b .if1 .left), ← e .before .before .read-extended-status .ensures, e .e .given .1) (refl, tt)
+    let status = c .before in
+    let b = status .before .before .before in
+    rw (← b .before .remaining .ensures, ne-eqb _ _ (b .if1 .left), ← status .before .before .read-extended-status .ensures, status .status-step .given .1) (refl, tt)
 
 pub read-status-spec : {M : Type 1} → statement M
 read-status-spec =
@@ -78,13 +78,13 @@ read-status-spec =
     (tie.spec
     remaining-requires
     read-triple-requires
-    enum-known-p
+    enum-known-numbers-step
     enum-told
     fault-requires
     returns
     returns-2
     read-extended-status-requires
-    enum-known-e
+    enum-known-status-step
     enum-told-2
     fault-requires-2
     returns-3

@@ -7,8 +7,8 @@ use Rattle.bodies.proofs.status.read_status_request.Tie as tie
 dword-requires : tie.Need-dword-requires
 dword-requires c κs = search needs
 
-enum-known-d : tie.Need-enum-known-d
-enum-known-d c = search needs
+enum-known-number-step : tie.Need-enum-known-number-step
+enum-known-number-step c = search needs
 
 enum-told : tie.Need-enum-told
 enum-told c = search needs
@@ -26,15 +26,15 @@ form-of-requires c κs = search needs
 returns-2 : tie.Need-returns-2
 unfolding decodeBody decodeStatusRequest
 returns-2 c =
-    let d = c .before .before in
-    rw (← d .before .before .dword .ensures, d .d .given .1, ← c .form-of .ensures) (refl, tt)
+    let number = c .before .before in
+    rw (← number .before .before .dword .ensures, number .number-step .given .1, ← c .form-of .ensures) (refl, tt)
 
 pub read-status-request-spec : {M : Type 1} → statement M
 read-status-request-spec =
     tie.close
     (tie.spec
     dword-requires
-    enum-known-d
+    enum-known-number-step
     enum-told
     fault-requires
     returns
