@@ -1,6 +1,6 @@
 -- The opening byte that is decoded is the one that a link lists.
 use Prim.Native.Nat.{ℕ}
-use mathlib.Core.Path.{_≡_, refl}
+use mathlib.Core.Path.{_≡_, refl, sym, ap, _∙_}
 use mathlib.Core.Bool.{Bool, true, false}
 use mathlib.Core.List.{List, [], _∷_}
 use lib.Dec.{eqb}
@@ -25,7 +25,7 @@ module _ (k : ℕ) (s : List ℕ) (at : ℕ) {b next : ℕ} where
   decoded (got a n) e = passed a n (eqb a k) refl e
 
 -- where a step answers with what is decoded
-pub opening-is : (k : ℕ) (s : List ℕ) (at : ℕ) {r : ByteStep} {b : ℕ} {c : Cursor} →
-    r ≡ ByteStep.Got b c → byteMeaning r ≡ decodeOpening (k ∷ []) s at → b ≡ k
+pub opened : (k : ℕ) (s : List ℕ) (at : ℕ) {r : ByteStep} {b : ℕ} {c : Cursor} →
+    r ≡ ByteStep.Got b c → byteMeaning r ≡ decodeOpening (k ∷ []) s at → got k (c .at) ≡ decodeOpening (k ∷ []) s at
 unfolding decodeOpening
-opening-is k s at g e = eqb-true _ _ (decoded k s at (decodeByte s at) (rw g at e))
+opened k s at {c = c} g e = let read = rw g at e in ap (λ n. got n (c .at)) (sym (eqb-true _ _ (decoded k s at (decodeByte s at) read))) ∙ read

@@ -7,8 +7,8 @@ use Rattle.format.specs.Messages as messages
 use Rattle.format.specs.Messages.{Opcodes, serverOpcodes, clientOpcodes, udpOpcodes, server, client, udp, serverLink, clientLink, udpLink}
 use Rattle.format.specs.Layout.{encode}
 use Rattle.format.specs.Rules.{Valid}
-use Rattle.format.specs.Decoding.{Outcome, refused, got, Decoder, _>>=_, pure, Reply, refusedWith, message, reply}
-use Rattle.format.specs.PacketOrder.{decodeBody, decodeTcp, decodeUdp}
+use Rattle.format.specs.Decoding.{Outcome, refused, got, Decoder, _>>=_, pure, Reply, refusedWith, message, reply, ends}
+use Rattle.format.specs.PacketOrder.{decodeBody, decodeLength, decodeTcp, decodeUdp}
 use Rattle.format.specs.MetOrder.{decode}
 use Rattle.wire.specs.declared.Fault.{Fault}
 use Rattle.wire.specs.WireAnswers.{faultMeaning, noFault}
@@ -28,6 +28,12 @@ abbrev pub decodeLink : Link → Decoder messages.Packet
 decodeLink Link.Server = decodeTcp server
 decodeLink Link.Client = decodeTcp client
 decodeLink Link.Udp = decodeUdp udp
+
+-- What comes between the opening byte and the opcode.
+abbrev pub decodeFrame : Link → Decoder (Unit {0})
+decodeFrame Link.Server = λ s at. ends (decodeLength s at)
+decodeFrame Link.Client = λ s at. ends (decodeLength s at)
+decodeFrame Link.Udp = pure tt
 
 abbrev pub shapeMeaning : Listed → Option messages.Shape
 shapeMeaning (Listed.As s) = some (shapeOf s)

@@ -8,10 +8,10 @@ ghost use mathlib.Core.List.{[], _∷_};
 ghost use Rattle.format.specs.Tables.{lookup};
 ghost use Rattle.format.specs.Messages.{serverOpcodes, clientOpcodes, udpOpcodes};
 ghost use Rattle.format.specs.Messages as messages;
-ghost use Rattle.format.specs.Decoding.{message};
-ghost use Rattle.format.specs.PacketOrder.{decodeOpening, decodeLength, decodeOpcode, decodeTcp, decodeUdp};
-ghost use Rattle.wire.specs.WireAnswers.{byteMeaning, dwordMeaning};
-ghost use Rattle.packets.specs.PacketAnswers.{opcodesOf, decodeLink, shapeMeaning, headMeaning, packetBehind};
+ghost use Rattle.format.specs.Decoding.{message, ends};
+ghost use Rattle.format.specs.PacketOrder.{decodeOpening, decodeLength, decodeOpcode};
+ghost use Rattle.wire.specs.WireAnswers.{byteMeaning, doneMeaning};
+ghost use Rattle.packets.specs.PacketAnswers.{opcodesOf, decodeLink, decodeFrame, shapeMeaning, headMeaning, packetBehind};
 ghost use Rattle.packets.specs.PacketAnswers.{packetReply, PacketPlaced, linkReply, LinkAccepts};
 ghost use Rattle.packets.specs.PacketAnswers.{headFault};
 use bodies::Body;
@@ -20,8 +20,10 @@ use bodies::Shape;
 use bodies::read_body;
 use wire::ByteStep;
 use wire::Cursor;
+use wire::DoneStep;
 use wire::DwordStep;
 use wire::Fault;
+use wire::PACKET_CEILING;
 use wire::Rule;
 use wire::no_fault;
 use wire::number;
@@ -158,9 +160,9 @@ const OPENING: u8 = 0xE3;
 fn read_opening(s: &[u8], c: Cursor) -> ByteStep
     ensures { λ r. ⌜ byteMeaning r ≡ decodeOpening (0xE3 ∷ []) (now (s .entry)) (c .at) ⌝ }
 {
-    let b = c.byte(s);
-    let ByteStep::Got(opening, next) = b else {
-        return ByteStep::Refused(b.fault());
+    let opening_step = c.byte(s);
+    let ByteStep::Got(opening, next) = opening_step else {
+        return ByteStep::Refused(opening_step.fault());
     };
     if opening == OPENING {
         return ByteStep::Got(opening, next);
@@ -173,36 +175,47 @@ fn read_opening(s: &[u8], c: Cursor) -> ByteStep
 }
 
 // The header's length, which must be the number of bytes after it, and not 0.
-fn read_length(s: &[u8], c: Cursor) -> DwordStep
-    ensures { λ r. ⌜ dwordMeaning r ≡ decodeLength (now (s .entry)) (c .at) ⌝ }
+fn read_length(s: &[u8], c: Cursor) -> DoneStep
+    ensures { λ r. ⌜ doneMeaning r ≡ ends (decodeLength (now (s .entry)) (c .at)) ⌝ }
 {
-    let d = c.dword(s);
-    let DwordStep::Got(n, next) = d else {
-        return DwordStep::Refused(d.fault());
+    let length_step = c.dword(s);
+    let DwordStep::Got(length, next) = length_step else {
+        return DoneStep::Refused(length_step.fault());
     };
     let fault = Fault {
         rule: Rule::FrameLength,
         at: c.at,
         size: 4,
     };
-    if n == 0 {
-        return DwordStep::Refused(fault);
+    if length == 0 {
+        return DoneStep::Refused(fault);
     }
-    let length = n as usize;
-    let behind = next.remaining(s);
-    if length == behind {
-        return DwordStep::Got(n, next);
+    let framed = length as usize;
+    let left = next.remaining(s);
+    if framed == left {
+        return DoneStep::Got(next);
     }
-    DwordStep::Refused(fault)
+    DoneStep::Refused(fault)
 }
 
-// The opcode, and the shape of what stands after it.
+// What comes between the opening byte and the opcode: on TCP the length, on UDP nothing.
+fn read_frame(s: &[u8], c: Cursor, link: Link) -> DoneStep
+    ensures { λ r. ⌜ doneMeaning r ≡ decodeFrame link (now (s .entry)) (c .at) ⌝ }
+{
+    match link {
+        Link::Server => read_length(s, c),
+        Link::Client => read_length(s, c),
+        Link::Udp => DoneStep::Got(c),
+    }
+}
+
+// The opcode, and the shape of the body after it.
 fn read_opcode(s: &[u8], c: Cursor, link: Link) -> HeadStep
     ensures { λ r. ⌜ headMeaning r ≡ decodeOpcode (opcodesOf link) (now (s .entry)) (c .at) ⌝ }
 {
-    let b = c.byte(s);
-    let ByteStep::Got(code, next) = b else {
-        return HeadStep::Refused(b.fault());
+    let code_step = c.byte(s);
+    let ByteStep::Got(code, next) = code_step else {
+        return HeadStep::Refused(code_step.fault());
     };
     let listed = shape_of(link, code);
     let Listed::As(shape) = listed else {
@@ -215,59 +228,39 @@ fn read_opcode(s: &[u8], c: Cursor, link: Link) -> HeadStep
     HeadStep::Got(code, shape, next)
 }
 
-// The head of a TCP packet of a link: opening byte, length, opcode.
-fn read_tcp_head(s: &[u8], link: Link) -> HeadStep
-    ensures { λ r. ⌜ packetBehind (now (s .entry)) r ≡ decodeTcp ((0xE3, opcodesOf link) ∷ []) (now (s .entry)) 0 ⌝ }
-{
-    let o = read_opening(s, Cursor { at: 0 });
-    let ByteStep::Got(_, after_opening) = o else {
-        return HeadStep::Refused(o.fault());
-    };
-    let d = read_length(s, after_opening);
-    let DwordStep::Got(_, after_length) = d else {
-        return HeadStep::Refused(d.fault());
-    };
-    read_opcode(s, after_length, link)
-}
-
-// The head of a UDP packet: opening byte, opcode.
-fn read_udp_head(s: &[u8], link: Link) -> HeadStep
-    ensures { λ r. ⌜ packetBehind (now (s .entry)) r ≡ decodeUdp ((0xE3, opcodesOf link) ∷ []) (now (s .entry)) 0 ⌝ }
-{
-    let o = read_opening(s, Cursor { at: 0 });
-    let ByteStep::Got(_, after_opening) = o else {
-        return HeadStep::Refused(o.fault());
-    };
-    read_opcode(s, after_opening, link)
-}
-
+// The head of a packet. The opcode is read in one call for all links: a function with one caller is compiled into it, so that the code of
+// the opcode goes straight on to that of the body.
 fn read_head(s: &[u8], link: Link) -> HeadStep
     ensures { λ r. ⌜ packetBehind (now (s .entry)) r ≡ decodeLink link (now (s .entry)) 0 ⌝ }
 {
-    match link {
-        Link::Server => read_tcp_head(s, Link::Server),
-        Link::Client => read_tcp_head(s, Link::Client),
-        Link::Udp => read_udp_head(s, Link::Udp),
-    }
+    let opening_step = read_opening(s, Cursor { at: 0 });
+    let ByteStep::Got(_, after_opening) = opening_step else {
+        return HeadStep::Refused(opening_step.fault());
+    };
+    let frame_step = read_frame(s, after_opening, link);
+    let DoneStep::Got(after_frame) = frame_step else {
+        return HeadStep::Refused(frame_step.fault());
+    };
+    read_opcode(s, after_frame, link)
 }
 
-// The packet that the bytes are on a link, if they are exactly one. The body is taken from its reader straight into the answer: it is the
-// largest value of a packet, and each further copy of it is felt.
+// The packet that the bytes are on a link, if they are exactly one. The body is moved once, from its reader into the answer: it is
+// the largest value of a packet, and each further copy costs time.
 pub fn read_packet(s: &[u8], link: Link) -> PacketAnswer
     ensures meaning { λ r. ⌜ packetReply (now (s .entry)) r ≡ linkReply link (now (s .entry)) ⌝ }
     ensures placed { λ r. ⌜ PacketPlaced (now (s .entry)) r ⌝ }
     ensures demand3 { λ r. ⌜ ((m : messages.Packet) → (packetReply (now (s .entry)) r ≡ message m) ↔ LinkAccepts link (now (s .entry)) m) ⌝ }
 {
-    if 65536 < s.len() {
+    if PACKET_CEILING < s.len() {
         return PacketAnswer::Refused(number(Rule::BytesCeiling));
     }
-    let h = read_head(s, link);
-    let HeadStep::Got(opcode, shape, after_opcode) = h else {
-        return PacketAnswer::Refused(h.fault().number());
+    let head_step = read_head(s, link);
+    let HeadStep::Got(opcode, shape, after_opcode) = head_step else {
+        return PacketAnswer::Refused(head_step.fault().number());
     };
-    let b = read_body(s, after_opcode, shape);
-    let BodyStep::Got(body, next) = b else {
-        return PacketAnswer::Refused(b.fault().number());
+    let body_step = read_body(s, after_opcode, shape);
+    let BodyStep::Got(body, next) = body_step else {
+        return PacketAnswer::Refused(body_step.fault().number());
     };
     let end = next.at;
     if end == s.len() {

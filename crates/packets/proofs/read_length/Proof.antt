@@ -1,6 +1,7 @@
 use mathlib.Core.Path.{refl}
 use borrow.Author.Tests.{eq-eqb, ne-eqb}
 use borrow.Author.Needs.{needs}
+use Rattle.format.specs.Decoding.{ends}
 use Rattle.format.specs.PacketOrder.{decodeLength}
 use Rattle.packets.proofs.read_length.Statement.{statement}
 use Rattle.packets.proofs.read_length.Tie as tie
@@ -8,8 +9,8 @@ use Rattle.packets.proofs.read_length.Tie as tie
 dword-requires : tie.Need-dword-requires
 dword-requires c κs = search needs
 
-enum-known-d : tie.Need-enum-known-d
-enum-known-d c = search needs
+enum-known-length-step : tie.Need-enum-known-length-step
+enum-known-length-step c = search needs
 
 enum-told : tie.Need-enum-told
 enum-told c = search needs
@@ -18,26 +19,26 @@ fault-requires : tie.Need-fault-requires
 fault-requires c κs = search needs
 
 returns : tie.Need-returns
-unfolding decodeLength
+unfolding decodeLength ends
 returns c = rw (c .fault .ensures, ← c .before .before .before .dword .ensures, c .before .enum-told .given .1) refl
 
 returns-2 : tie.Need-returns-2
-unfolding decodeLength
-returns-2 c = rw (← c .before .before .before .before .dword .ensures, c .before .before .d .given .1, eq-eqb _ _ (c .if1 .taken)) refl
+unfolding decodeLength ends
+returns-2 c = rw (← c .before .before .before .before .dword .ensures, c .before .before .length-step .given .1, eq-eqb _ _ (c .if1 .taken)) refl
 
-cast-length : tie.Need-cast-length
-cast-length c = search needs
+cast-framed : tie.Need-cast-framed
+cast-framed c = search needs
 
 remaining-requires : tie.Need-remaining-requires
 remaining-requires c κs = search needs
 
 returns-3 : tie.Need-returns-3
-unfolding decodeLength
+unfolding decodeLength ends
 returns-3 c =
     let b = c .before .before .before .before in
     rw (
       ← b .before .before .dword .ensures,
-      b .d .given .1,
+      b .length-step .given .1,
       ne-eqb _ _ (c .before .before .if1 .left),
       ← c .before .remaining .ensures,
       eq-eqb _ (c .before .remaining .result) (c .if2 .taken),
@@ -45,12 +46,12 @@ returns-3 c =
     refl
 
 returns-4 : tie.Need-returns-4
-unfolding decodeLength
+unfolding decodeLength ends
 returns-4 c =
     let b = c .before .before .before .before in
     rw (
       ← b .before .before .dword .ensures,
-      b .d .given .1,
+      b .length-step .given .1,
       ne-eqb _ _ (c .before .before .if1 .left),
       ← c .before .remaining .ensures,
       ne-eqb _ (c .before .remaining .result) (c .if2 .left),
@@ -62,12 +63,12 @@ read-length-spec =
     tie.close
     (tie.spec
     dword-requires
-    enum-known-d
+    enum-known-length-step
     enum-told
     fault-requires
     returns
     returns-2
-    cast-length
+    cast-framed
     remaining-requires
     returns-3
     returns-4)

@@ -7,8 +7,8 @@ use Rattle.packets.proofs.read_opcode.Tie as tie
 byte-requires : tie.Need-byte-requires
 byte-requires c κs = search needs
 
-enum-known-b : tie.Need-enum-known-b
-enum-known-b c = search needs
+enum-known-code-step : tie.Need-enum-known-code-step
+enum-known-code-step c = search needs
 
 enum-told : tie.Need-enum-told
 enum-told c = search needs
@@ -33,20 +33,20 @@ returns-2 : tie.Need-returns-2
 unfolding decodeOpcode
 returns-2 c =
     let b = c .before .before .before .before in
-    rw (← b .before .before .byte .ensures, b .b .given .1, ← c .before .before .shape-of .ensures, c .enum-told2 .given .1) refl
+    rw (← b .before .before .byte .ensures, b .code-step .given .1, ← c .before .before .shape-of .ensures, c .enum-told2 .given .1) refl
 
 returns-3 : tie.Need-returns-3
 unfolding decodeOpcode
 returns-3 c =
     let b = c .before .before .before .before .before in
-    rw (← b .before .before .byte .ensures, b .b .given .1, ← c .before .before .before .shape-of .ensures, c .before .listed .given .1) refl
+    rw (← b .before .before .byte .ensures, b .code-step .given .1, ← c .before .before .before .shape-of .ensures, c .before .listed .given .1) refl
 
 pub read-opcode-spec : {M : Type 1} → statement M
 read-opcode-spec =
     tie.close
     (tie.spec
     byte-requires
-    enum-known-b
+    enum-known-code-step
     enum-told
     fault-requires
     returns

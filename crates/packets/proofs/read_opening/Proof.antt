@@ -8,8 +8,8 @@ use Rattle.packets.proofs.read_opening.Tie as tie
 byte-requires : tie.Need-byte-requires
 byte-requires c κs = search needs
 
-enum-known-b : tie.Need-enum-known-b
-enum-known-b c = search needs
+enum-known-opening-step : tie.Need-enum-known-opening-step
+enum-known-opening-step c = search needs
 
 enum-told : tie.Need-enum-told
 enum-told c = search needs
@@ -23,13 +23,13 @@ returns c = rw (c .fault .ensures, ← c .before .before .before .byte .ensures,
 
 returns-2 : tie.Need-returns-2
 unfolding decodeOpening
-returns-2 c = rw (← c .before .before .before .before .byte .ensures, c .before .before .b .given .1, eq-eqb _ _ (c .if1 .taken)) refl
+returns-2 c = rw (← c .before .before .before .before .byte .ensures, c .before .before .opening-step .given .1, eq-eqb _ _ (c .if1 .taken)) refl
 
 returns-3 : tie.Need-returns-3
 unfolding decodeOpening
-returns-3 c = rw (← c .before .before .before .before .byte .ensures, c .before .before .b .given .1, ne-eqb _ _ (c .if1 .left)) refl
+returns-3 c = rw (← c .before .before .before .before .byte .ensures, c .before .before .opening-step .given .1, ne-eqb _ _ (c .if1 .left)) refl
 
 pub read-opening-spec : {M : Type 1} → statement M
 read-opening-spec =
     tie.close
-    (tie.spec byte-requires enum-known-b enum-told fault-requires returns returns-2 returns-3)
+    (tie.spec byte-requires enum-known-opening-step enum-told fault-requires returns returns-2 returns-3)

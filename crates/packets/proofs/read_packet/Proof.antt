@@ -22,8 +22,8 @@ returns c =
 read-head-requires : tie.Need-read-head-requires
 read-head-requires c κs = search needs
 
-enum-known-h : tie.Need-enum-known-h
-enum-known-h c = search needs
+enum-known-head-step : tie.Need-enum-known-head-step
+enum-known-head-step c = search needs
 
 enum-told : tie.Need-enum-told
 enum-told c = search needs
@@ -52,8 +52,8 @@ returns-2 c =
 read-body-requires : tie.Need-read-body-requires
 read-body-requires c κs = search needs
 
-enum-known-b : tie.Need-enum-known-b
-enum-known-b c = search needs
+enum-known-body-step : tie.Need-enum-known-body-step
+enum-known-body-step c = search needs
 
 enum-told-2 : tie.Need-enum-told-2
 enum-told-2 c = search needs
@@ -75,7 +75,7 @@ returns-3 c =
       c .before .fault2 .ensures,
       le-leb _ packetCeiling (h .before .if1 .left),
       ← h .read-head .ensures,
-      b .before .before .h .given .1,
+      b .before .before .head-step .given .1,
       ← b .read-body .ensures .0,
       c .before .before .enum-told2 .given .1,
     )
@@ -91,13 +91,13 @@ returns-4 c =
     (rw (
       le-leb _ packetCeiling (h .before .if1 .left),
       ← h .read-head .ensures,
-      b .before .before .h .given .1,
+      b .before .before .head-step .given .1,
       ← b .read-body .ensures .0,
-      c .before .before .b .given .1,
+      c .before .before .body-step .given .1,
       eq-eqb _ (length (now (args .s))) (c .if2 .taken),
     )
     refl)
-    (rw (c .before .before .b .given .1) at (b .read-body .ensures .1))
+    (rw (c .before .before .body-step .given .1) at (b .read-body .ensures .1))
 
 number-requires-4 : tie.Need-number-requires-4
 number-requires-4 c κs = search needs
@@ -112,9 +112,9 @@ returns-5 c =
       c .number4 .ensures,
       le-leb _ packetCeiling (h .before .if1 .left),
       ← h .read-head .ensures,
-      b .before .before .h .given .1,
+      b .before .before .head-step .given .1,
       ← b .read-body .ensures .0,
-      c .before .before .before .b .given .1,
+      c .before .before .before .body-step .given .1,
       ne-eqb _ _ (c .before .if2 .left),
     )
     refl)
@@ -127,13 +127,13 @@ read-packet-spec =
     number-requires
     returns
     read-head-requires
-    enum-known-h
+    enum-known-head-step
     enum-told
     fault-requires
     number-requires-2
     returns-2
     read-body-requires
-    enum-known-b
+    enum-known-body-step
     enum-told-2
     fault-requires-2
     number-requires-3
