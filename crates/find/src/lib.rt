@@ -9,21 +9,20 @@
 //
 // specs/Shifts.antt says what the table holds.
 ghost use mathlib.Core.Path.{_≡_};
-ghost use mathlib.Core.Bool.{true, false};
 ghost use Prim.Native.Nat.{_+_, _*_, _≤_, _<_};
 ghost use lib.ListN.{length};
 ghost use Rattle.format.specs.Truth.{occurs};
 ghost use Rattle.find.specs.Shifts.{Agrees, Decides, Samples, Moves};
 
-// Entry k of the table is for the length SAMPLE * k.
-const SAMPLE: usize = 8;
+// Entry k of the table is for the length STRIDE * k.
+const STRIDE: usize = 8;
 
-// The entries of a table, and the longest part that they serve: one byte fewer than SAMPLE for each.
-const SAMPLES: usize = 8192;
+// The entries of a table, and the longest part that they serve: one byte fewer than STRIDE for each.
+const ENTRIES: usize = 8192;
 
 const LONGEST_PART: usize = 65535;
 
-const FEW_SAMPLES: usize = 128;
+const FEW_ENTRIES: usize = 128;
 
 const MEDIUM_PART: usize = 1023;
 
@@ -80,12 +79,12 @@ fn after_mismatch(part: &[u8], table: &[u16], matched: usize) -> Move
     requires { ⌜ (matched < 65536) × (matched < 8 * length (now table)) × Samples (now part) (now table) matched ⌝ }
     ensures { λ r. ⌜ Moves (now (part .entry)) matched (r .shift) (r .kept) ⌝ }
 {
-    if matched < SAMPLE {
+    if matched < STRIDE {
         return Move { shift: 1, kept: 0 };
     }
-    let sample = matched / SAMPLE;
+    let sample = matched / STRIDE;
     let shift = table[sample] as usize;
-    let kept = SAMPLE * sample - shift;
+    let kept = STRIDE * sample - shift;
     Move { shift, kept }
 }
 
@@ -98,8 +97,8 @@ fn fill_table(part: &[u8], table: &mut [u16])
     let mut start = 1;
     let mut matched = 0;
     let mut sample = 1;
-    while SAMPLE * sample <= part.len() {
-        if start + matched == SAMPLE * sample {
+    while STRIDE * sample <= part.len() {
+        if start + matched == STRIDE * sample {
             table[sample] = start as u16;
             sample += 1;
             continue;
@@ -108,9 +107,9 @@ fn fill_table(part: &[u8], table: &mut [u16])
             matched += 1;
             continue;
         }
-        let m = after_mismatch(part, table, matched);
-        start += m.shift;
-        matched = m.kept;
+        let next = after_mismatch(part, table, matched);
+        start += next.shift;
+        matched = next.kept;
     }
 }
 
@@ -131,9 +130,9 @@ fn search_by_table(text: &[u8], part: &[u8], table: &[u16]) -> bool
             matched += 1;
             continue;
         }
-        let m = after_mismatch(part, table, matched);
-        start += m.shift;
-        matched = m.kept;
+        let next = after_mismatch(part, table, matched);
+        start += next.shift;
+        matched = next.kept;
     }
     false
 }
@@ -144,7 +143,7 @@ fn search_medium(text: &[u8], part: &[u8]) -> bool
     requires { ⌜ (length (now part) ≤ 1023) × (length (now part) ≤ length (now text)) ⌝ }
     ensures { λ r. ⌜ r ≡ occurs (now (part .entry)) (now (text .entry)) ⌝ }
 {
-    let mut table = [0; FEW_SAMPLES];
+    let mut table = [0; FEW_ENTRIES];
     fill_table(part, &mut table);
     search_by_table(text, part, &table)
 }
@@ -153,7 +152,7 @@ fn search_long(text: &[u8], part: &[u8]) -> bool
     requires { ⌜ (length (now part) ≤ 65535) × (length (now part) ≤ length (now text)) ⌝ }
     ensures { λ r. ⌜ r ≡ occurs (now (part .entry)) (now (text .entry)) ⌝ }
 {
-    let mut table = [0; SAMPLES];
+    let mut table = [0; ENTRIES];
     fill_table(part, &mut table);
     search_by_table(text, part, &table)
 }

@@ -12,7 +12,7 @@ ghost use Rattle.format.specs.Messages as messages;
 ghost use Rattle.format.specs.Layout.{encodeQuery};
 ghost use Rattle.format.specs.Rules.{Valid, packetCeiling, depthLimit};
 ghost use Rattle.format.specs.Decoding.{message, reply};
-ghost use Rattle.format.specs.Order.{decodeCode, decodeName, operators, bounds, isJoin, isKeyword, isField, isLimit, decodeCase, decodeQueryIn, decodeQuery};
+ghost use Rattle.format.specs.Order.{decodeName, isJoin, isLimit, decodeCase, decodeQueryIn, decodeQuery};
 ghost use Rattle.format.specs.MetOrder.{decode};
 ghost use Rattle.query.specs.Nodes.{decodeNodeOf, decodeNode, decodeLeaf, depths};
 ghost use Rattle.query.specs.Skips.{Passes, EndsThere, Spans, places, endIn, depthIn};
@@ -21,14 +21,16 @@ ghost use Rattle.query.specs.QueryAnswers.{operatorFault, boundFault, no
 ghost use Rattle.query.specs.QueryAnswers.{QueryStepPlaced, QueryAnswerPlaced};
 use wire::ByteStep;
 use wire::Cursor;
-use wire::DwordStep;
 use wire::Fault;
+use wire::PACKET_CEILING;
 use wire::Place;
-use wire::PlaceStep;
 use wire::Rule;
 
-// A lone query has at most as many bytes as a packet.
-const PACKET_CEILING: usize = 65536;
+mod reading;
+
+pub use reading::read_bound;
+pub use reading::read_node;
+pub use reading::read_operator_code;
 
 const DEPTH_LIMIT: usize = 24;
 
@@ -150,123 +152,6 @@ impl QueryStep {
     }
 }
 
-pub fn read_operator_code(s: &[u8], c: Cursor) -> OperatorStep
-    ensures { λ r. ⌜ operatorMeaning r ≡ decodeCode operators (now (s .entry)) (c .at) ⌝ }
-{
-    let b = c.byte(s);
-    let ByteStep::Got(code, next) = b else {
-        return OperatorStep::Refused(b.fault());
-    };
-    match code {
-        0 => OperatorStep::Got(Operator::And, next),
-        1 => OperatorStep::Got(Operator::Or, next),
-        2 => OperatorStep::Got(Operator::AndNot, next),
-        _ => OperatorStep::Refused(Fault {
-            rule: Rule::Choice,
-            at: c.at,
-            size: 1,
-        }),
-    }
-}
-
-pub fn read_bound(s: &[u8], c: Cursor) -> BoundStep
-    ensures { λ r. ⌜ boundMeaning r ≡ decodeCode bounds (now (s .entry)) (c .at) ⌝ }
-{
-    let b = c.byte(s);
-    let ByteStep::Got(code, next) = b else {
-        return BoundStep::Refused(b.fault());
-    };
-    match code {
-        1 => BoundStep::Got(Bound::AtLeast, next),
-        2 => BoundStep::Got(Bound::AtMost, next),
-        _ => BoundStep::Refused(Fault {
-            rule: Rule::Choice,
-            at: c.at,
-            size: 1,
-        }),
-    }
-}
-
-// What stands after the first byte of each case of a query.
-
-fn read_join(s: &[u8], c: Cursor) -> NodeStep
-    ensures { λ r. ⌜ nodeMeaning (now (s .entry)) r ≡ decodeNodeOf isJoin (now (s .entry)) (c .at) ⌝ }
-    ensures inside { λ r. ⌜ NodeStepInside (now (s .entry)) r ⌝ }
-{
-    let o = read_operator_code(s, c);
-    let OperatorStep::Got(operator, next) = o else {
-        return NodeStep::Refused(o.fault());
-    };
-    NodeStep::Got(Node::Join(operator), next)
-}
-
-fn read_keyword(s: &[u8], c: Cursor) -> NodeStep
-    ensures { λ r. ⌜ nodeMeaning (now (s .entry)) r ≡ decodeNodeOf isKeyword (now (s .entry)) (c .at) ⌝ }
-    ensures inside { λ r. ⌜ NodeStepInside (now (s .entry)) r ⌝ }
-{
-    let t = c.string(s);
-    let PlaceStep::Got(text, next) = t else {
-        return NodeStep::Refused(t.fault());
-    };
-    NodeStep::Got(Node::Keyword(text), next)
-}
-
-fn read_field(s: &[u8], c: Cursor) -> NodeStep
-    ensures { λ r. ⌜ nodeMeaning (now (s .entry)) r ≡ decodeNodeOf isField (now (s .entry)) (c .at) ⌝ }
-    ensures inside { λ r. ⌜ NodeStepInside (now (s .entry)) r ⌝ }
-{
-    let t = c.string(s);
-    let PlaceStep::Got(text, after_text) = t else {
-        return NodeStep::Refused(t.fault());
-    };
-    let n = after_text.name(s);
-    let PlaceStep::Got(name, next) = n else {
-        return NodeStep::Refused(n.fault());
-    };
-    NodeStep::Got(Node::Field(text, name), next)
-}
-
-fn read_limit(s: &[u8], c: Cursor) -> NodeStep
-    ensures { λ r. ⌜ nodeMeaning (now (s .entry)) r ≡ decodeNodeOf isLimit (now (s .entry)) (c .at) ⌝ }
-    ensures inside { λ r. ⌜ NodeStepInside (now (s .entry)) r ⌝ }
-{
-    let d = c.dword(s);
-    let DwordStep::Got(value, after_value) = d else {
-        return NodeStep::Refused(d.fault());
-    };
-    let b = read_bound(s, after_value);
-    let BoundStep::Got(bound, after_bound) = b else {
-        return NodeStep::Refused(b.fault());
-    };
-    let n = after_bound.name(s);
-    let PlaceStep::Got(name, next) = n else {
-        return NodeStep::Refused(n.fault());
-    };
-    NodeStep::Got(Node::Limit(value, bound, name), next)
-}
-
-// The node at the cursor. After a join stand its two sides, after a leaf nothing of the query.
-pub fn read_node(s: &[u8], c: Cursor) -> NodeStep
-    ensures { λ r. ⌜ nodeMeaning (now (s .entry)) r ≡ decodeNode (now (s .entry)) (c .at) ⌝ }
-    ensures inside { λ r. ⌜ NodeStepInside (now (s .entry)) r ⌝ }
-{
-    let b = c.byte(s);
-    let ByteStep::Got(code, next) = b else {
-        return NodeStep::Refused(b.fault());
-    };
-    match code {
-        0 => read_join(s, next),
-        1 => read_keyword(s, next),
-        2 => read_field(s, next),
-        3 => read_limit(s, next),
-        _ => NodeStep::Refused(Fault {
-            rule: Rule::Choice,
-            at: c.at,
-            size: 1,
-        }),
-    }
-}
-
 fn larger(m: usize, n: usize) -> usize
     ensures { λ r. ⌜ r ≡ max m n ⌝ }
 {
@@ -277,9 +162,9 @@ fn larger(m: usize, n: usize) -> usize
 fn read_leaf(s: &[u8], c: Cursor) -> DepthStep
     ensures { λ r. ⌜ depthMeaning r ≡ decodeLeaf (now (s .entry)) (c .at) ⌝ }
 {
-    let n = read_node(s, c);
-    let NodeStep::Got(_, next) = n else {
-        return DepthStep::Refused(n.fault());
+    let node_step = read_node(s, c);
+    let NodeStep::Got(_, next) = node_step else {
+        return DepthStep::Refused(node_step.fault());
     };
     DepthStep::Got(1, next)
 }
@@ -297,9 +182,9 @@ pub fn read_query_in(s: &[u8], c: Cursor, left: usize) -> DepthStep
             size: 0,
         });
     }
-    let b = c.byte(s);
-    let ByteStep::Got(code, next) = b else {
-        return DepthStep::Refused(b.fault());
+    let code_step = c.byte(s);
+    let ByteStep::Got(code, next) = code_step else {
+        return DepthStep::Refused(code_step.fault());
     };
     if code == 0 {
         return read_operator(s, next, left);
@@ -312,18 +197,18 @@ fn read_operator(s: &[u8], c: Cursor, left: usize) -> DepthStep
     requires { ⌜ 0 < left ⌝ }
     ensures { λ r. ⌜ depthMeaning r ≡ depths (decodeCase (decodeQueryIn (left - 1)) isJoin (now (s .entry)) (c .at)) ⌝ }
 {
-    let o = read_operator_code(s, c);
-    let OperatorStep::Got(_, first) = o else {
-        return DepthStep::Refused(o.fault());
+    let operator_step = read_operator_code(s, c);
+    let OperatorStep::Got(_, first) = operator_step else {
+        return DepthStep::Refused(operator_step.fault());
     };
     let side = left - 1;
-    let a = read_query_in(s, first, side);
-    let DepthStep::Got(m, second) = a else {
-        return DepthStep::Refused(a.fault());
+    let first_step = read_query_in(s, first, side);
+    let DepthStep::Got(m, second) = first_step else {
+        return DepthStep::Refused(first_step.fault());
     };
-    let b = read_query_in(s, second, side);
-    let DepthStep::Got(n, end) = b else {
-        return DepthStep::Refused(b.fault());
+    let second_step = read_query_in(s, second, side);
+    let DepthStep::Got(n, end) = second_step else {
+        return DepthStep::Refused(second_step.fault());
     };
     let depth = larger(m, n) + 1;
     DepthStep::Got(depth, end)
@@ -530,9 +415,9 @@ pub fn read_lone_query(s: &[u8]) -> QueryAnswer
     if PACKET_CEILING < s.len() {
         return QueryAnswer::Refused(wire::number(Rule::BytesCeiling));
     }
-    let q = read_query(s, Cursor { at: 0 });
-    let QueryStep::Got(query, next) = q else {
-        let f = q.fault();
+    let query_step = read_query(s, Cursor { at: 0 });
+    let QueryStep::Got(query, next) = query_step else {
+        let f = query_step.fault();
         let rule = f.rule;
         return QueryAnswer::Refused(wire::number(rule));
     };

@@ -20,7 +20,7 @@ use Rattle.query.proofs.DepthStep.fault.Reads as depth-fault
 use Rattle.query.proofs.OperatorStep.fault.Reads as operator-fault
 use Rattle.query.proofs.larger.Reads as larger
 use Rattle.query.proofs.read_leaf.Reads as leaf
-use Rattle.query.proofs.read_operator_code.Reads as operator-code
+use Rattle.query.proofs.reading.read_operator_code.Reads as operator-code
 use Rattle.wire.proofs.ByteStep.fault.Reads as byte-fault
 use Rattle.wire.proofs.Cursor.byte.Reads as byte
 use Rattle.query.proofs.+read_operator+read_query_in.{statement}
@@ -66,8 +66,8 @@ module _ (t : ℕ) where
   operator-read-operator-code-requires : operator-lts.Need-read-operator-code-requires operator-calls operator-at operator.Post
   operator-read-operator-code-requires c κs = search needs
 
-  operator-enum-known-o : operator-lts.Need-enum-known-o operator-calls operator-at operator.Post
-  operator-enum-known-o c = search needs
+  operator-enum-known-operator-step : operator-lts.Need-enum-known-operator-step operator-calls operator-at operator.Post
+  operator-enum-known-operator-step c = search needs
 
   operator-enum-told : operator-lts.Need-enum-told operator-calls operator-at operator.Post
   operator-enum-told c = search needs
@@ -84,8 +84,8 @@ module _ (t : ℕ) where
   operator-read-query-in-requires : operator-lts.Need-read-query-in-requires operator-calls operator-at operator.Post
   operator-read-query-in-requires c κs = (omega arith, tt)
 
-  operator-enum-known-a : operator-lts.Need-enum-known-a operator-calls operator-at operator.Post
-  operator-enum-known-a c = search needs
+  operator-enum-known-first-step : operator-lts.Need-enum-known-first-step operator-calls operator-at operator.Post
+  operator-enum-known-first-step c = search needs
 
   operator-enum-told-2 : operator-lts.Need-enum-told-2 operator-calls operator-at operator.Post
   operator-enum-told-2 c = search needs
@@ -97,14 +97,14 @@ module _ (t : ℕ) where
   operator-returns-2 c =
       let b = c .before in
       let a = b .before .before .before .before in
-      rw (c .fault2 .ensures, depth-join, ← a .before .before .read-operator-code .ensures, a .o .given .1)
+      rw (c .fault2 .ensures, depth-join, ← a .before .before .read-operator-code .ensures, a .operator-step .given .1)
       (rw (← b .before .before .read-query-in .ensures, b .enum-told2 .given .1) refl)
 
   operator-read-query-in-requires-2 : operator-lts.Need-read-query-in-requires-2 operator-calls operator-at operator.Post
   operator-read-query-in-requires-2 c κs = (omega arith, tt)
 
-  operator-enum-known-b : operator-lts.Need-enum-known-b operator-calls operator-at operator.Post
-  operator-enum-known-b c = search needs
+  operator-enum-known-second-step : operator-lts.Need-enum-known-second-step operator-calls operator-at operator.Post
+  operator-enum-known-second-step c = search needs
 
   operator-enum-told-3 : operator-lts.Need-enum-told-3 operator-calls operator-at operator.Post
   operator-enum-told-3 c = search needs
@@ -117,8 +117,8 @@ module _ (t : ℕ) where
       let d = c .before in
       let b = d .before .before .before .before in
       let a = b .before .before .before .before in
-      rw (c .fault3 .ensures, depth-join, ← a .before .before .read-operator-code .ensures, a .o .given .1)
-      (rw (← b .before .before .read-query-in .ensures, b .a .given .1, ← d .before .before .read-query-in2 .ensures, d .enum-told3 .given .1) refl)
+      rw (c .fault3 .ensures, depth-join, ← a .before .before .read-operator-code .ensures, a .operator-step .given .1)
+      (rw (← b .before .before .read-query-in .ensures, b .first-step .given .1, ← d .before .before .read-query-in2 .ensures, d .enum-told3 .given .1) refl)
 
   operator-larger-requires : operator-lts.Need-larger-requires operator-calls operator-at operator.Post
   operator-larger-requires c κs = search needs
@@ -127,8 +127,8 @@ module _ (t : ℕ) where
   operator-add-depth c =
       let d = c .before .before in
       let b = d .before .before .before .before in
-      let m = within-depths _ _ _ (sym (rw (b .a .given .1) at (b .before .before .read-query-in .ensures))) in
-      let n = within-depths _ _ _ (sym (rw (d .b .given .1) at (d .before .before .read-query-in2 .ensures))) in
+      let m = within-depths _ _ _ (sym (rw (b .first-step .given .1) at (b .before .before .read-query-in .ensures))) in
+      let n = within-depths _ _ _ (sym (rw (d .second-step .given .1) at (d .before .before .read-query-in2 .ensures))) in
       let start = b .before .before .before .before .before .before .before .before in
       omega (arith, c .larger .ensures, m, n, start .pre .1, start .fits)
 
@@ -137,8 +137,8 @@ module _ (t : ℕ) where
       let d = c .before .before in
       let b = d .before .before .before .before in
       let a = b .before .before .before .before in
-      rw (depth-join, ← a .before .before .read-operator-code .ensures, a .o .given .1, ← b .before .before .read-query-in .ensures)
-      (rw (b .a .given .1, ← d .before .before .read-query-in2 .ensures, d .b .given .1, c .larger .ensures) refl)
+      rw (depth-join, ← a .before .before .read-operator-code .ensures, a .operator-step .given .1, ← b .before .before .read-query-in .ensures)
+      (rw (b .first-step .given .1, ← d .before .before .read-query-in2 .ensures, d .second-step .given .1, c .larger .ensures) refl)
 
   query-returns : query-lts.Need-returns query-calls query-at query.Post
   unfolding depths decodeQueryIn
@@ -147,8 +147,8 @@ module _ (t : ℕ) where
   query-byte-requires : query-lts.Need-byte-requires query-calls query-at query.Post
   query-byte-requires c κs = search needs
 
-  query-enum-known-b : query-lts.Need-enum-known-b query-calls query-at query.Post
-  query-enum-known-b c = search needs
+  query-enum-known-code-step : query-lts.Need-enum-known-code-step query-calls query-at query.Post
+  query-enum-known-code-step c = search needs
 
   query-enum-told : query-lts.Need-enum-told query-calls query-at query.Post
   query-enum-told c = search needs
@@ -169,7 +169,7 @@ module _ (t : ℕ) where
   unfolding decodeCode
   query-returns-3 c =
       let b = c .before .before .before in
-      rw (query-case _ (b .before .before .before .if1 .left), ← b .before .before .byte .ensures, b .b .given .1, c .before .if2 .taken)
+      rw (query-case _ (b .before .before .before .if1 .left), ← b .before .before .byte .ensures, b .code-step .given .1, c .before .if2 .taken)
       (c .read-operator .ensures)
 
   query-read-leaf-requires : query-lts.Need-read-leaf-requires query-calls query-at query.Post
@@ -178,25 +178,25 @@ module _ (t : ℕ) where
   query-returns-4 : query-lts.Need-returns-4 query-calls query-at query.Post
   query-returns-4 c =
       let b = c .before .before .before in
-      let e = rw (b .b .given .1) at (b .before .before .byte .ensures) in
+      let e = rw (b .code-step .given .1) at (b .before .before .byte .ensures) in
       rw (depth-leaf _ (b .before .before .before .if1 .left) _ _ e (c .before .if2 .left)) (c .read-leaf .ensures)
 
 pub +read-operator+read-query-in-spec : {M : Type 1} → statement M
 +read-operator+read-query-in-spec = close μ-operator μ-query
     (λ t. operator-lts.spec (operator-calls t) (operator-at t) operator.Post
     (operator-read-operator-code-requires t)
-    (operator-enum-known-o t)
+    (operator-enum-known-operator-step t)
     (operator-enum-told t)
     (operator-fault-requires t)
     (operator-returns t)
     (operator-sub-side t)
     (operator-read-query-in-requires t)
-    (operator-enum-known-a t)
+    (operator-enum-known-first-step t)
     (operator-enum-told-2 t)
     (operator-fault-requires-2 t)
     (operator-returns-2 t)
     (operator-read-query-in-requires-2 t)
-    (operator-enum-known-b t)
+    (operator-enum-known-second-step t)
     (operator-enum-told-3 t)
     (operator-fault-requires-3 t)
     (operator-returns-3 t)
@@ -206,7 +206,7 @@ pub +read-operator+read-query-in-spec : {M : Type 1} → statement M
     (λ t. query-lts.spec (query-calls t) (query-at t) query.Post
     (query-returns t)
     (query-byte-requires t)
-    (query-enum-known-b t)
+    (query-enum-known-code-step t)
     (query-enum-told t)
     (query-fault-requires t)
     (query-returns-2 t)

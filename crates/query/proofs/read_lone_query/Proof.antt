@@ -18,8 +18,8 @@ returns c = exact-placed loneQuery _ (c .before .before .shared-slice-known .giv
 read-query-requires : tie.Need-read-query-requires
 read-query-requires c κs = search needs
 
-enum-known-q : tie.Need-enum-known-q
-enum-known-q c = search needs
+enum-known-query-step : tie.Need-enum-known-query-step
+enum-known-query-step c = search needs
 
 enum-told : tie.Need-enum-told
 enum-told c = search needs
@@ -44,8 +44,8 @@ unfolding decode
 returns-3 c =
     let b = c .before .before .before in
     exact-placed loneQuery _ (b .before .before .before .before .shared-slice-known .given)
-    (rw (le-leb _ packetCeiling (b .before .before .before .if1 .left), ← b .before .before .read-query .ensures .0, b .q .given .1, eq-eqb _ _ (c .if2 .taken)) refl)
-    (rw (b .q .given .1) at (b .before .before .read-query .ensures .1))
+    (rw (le-leb _ packetCeiling (b .before .before .before .if1 .left), ← b .before .before .read-query .ensures .0, b .query-step .given .1, eq-eqb _ _ (c .if2 .taken)) refl)
+    (rw (b .query-step .given .1) at (b .before .before .read-query .ensures .1))
 
 number-requires-3 : tie.Need-number-requires-3
 number-requires-3 c κs = search needs
@@ -56,7 +56,7 @@ returns-4 c =
     let b = c .before .before .before .before in
     exact-placed loneQuery _ (b .before .before .before .before .shared-slice-known .given)
     (rw (c .number3 .ensures, le-leb _ packetCeiling (b .before .before .before .if1 .left))
-    (rw (← b .before .before .read-query .ensures .0, b .q .given .1, ne-eqb _ _ (c .before .if2 .left)) refl))
+    (rw (← b .before .before .read-query .ensures .0, b .query-step .given .1, ne-eqb _ _ (c .before .if2 .left)) refl))
     tt
 
 pub read-lone-query-spec : {M : Type 1} → statement M
@@ -66,7 +66,7 @@ read-lone-query-spec =
     number-requires
     returns
     read-query-requires
-    enum-known-q
+    enum-known-query-step
     enum-told
     fault-requires
     number-requires-2

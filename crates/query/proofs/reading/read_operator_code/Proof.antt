@@ -2,14 +2,14 @@ use mathlib.Core.Path.{refl}
 use borrow.Author.Tests.{ne-eqb}
 use Rattle.format.specs.Order.{decodeCode}
 use borrow.Author.Needs.{needs}
-use Rattle.query.proofs.read_operator_code.Statement.{statement}
-use Rattle.query.proofs.read_operator_code.Tie as tie
+use Rattle.query.proofs.reading.read_operator_code.Statement.{statement}
+use Rattle.query.proofs.reading.read_operator_code.Tie as tie
 
 byte-requires : tie.Need-byte-requires
 byte-requires c κs = search needs
 
-enum-known-b : tie.Need-enum-known-b
-enum-known-b c = search needs
+enum-known-code-step : tie.Need-enum-known-code-step
+enum-known-code-step c = search needs
 
 enum-told : tie.Need-enum-told
 enum-told c = search needs
@@ -23,21 +23,21 @@ returns c = rw (c .fault .ensures, ← c .before .before .before .byte .ensures,
 
 returns-2 : tie.Need-returns-2
 unfolding decodeCode
-returns-2 c = rw (← c .before .before .before .before .byte .ensures, c .before .before .b .given .1, c .match2 .keys1) refl
+returns-2 c = rw (← c .before .before .before .before .byte .ensures, c .before .before .code-step .given .1, c .match2 .keys1) refl
 
 returns-3 : tie.Need-returns-3
 unfolding decodeCode
-returns-3 c = rw (← c .before .before .before .before .byte .ensures, c .before .before .b .given .1, c .match2 .keys2) refl
+returns-3 c = rw (← c .before .before .before .before .byte .ensures, c .before .before .code-step .given .1, c .match2 .keys2) refl
 
 returns-4 : tie.Need-returns-4
 unfolding decodeCode
-returns-4 c = rw (← c .before .before .before .before .byte .ensures, c .before .before .b .given .1, c .match2 .keys3) refl
+returns-4 c = rw (← c .before .before .before .before .byte .ensures, c .before .before .code-step .given .1, c .match2 .keys3) refl
 
 returns-5 : tie.Need-returns-5
 unfolding decodeCode
 returns-5 c =
     let b = c .before .before in
-    rw (← b .before .before .byte .ensures, b .b .given .1)
+    rw (← b .before .before .byte .ensures, b .code-step .given .1)
     (rw (ne-eqb _ _ (c .match2 .rest .0 .0 .1), ne-eqb _ _ (c .match2 .rest .0 .1), ne-eqb _ _ (c .match2 .rest .1)) refl)
 
 pub read-operator-code-spec : {M : Type 1} → statement M
@@ -45,7 +45,7 @@ read-operator-code-spec =
     tie.close
     (tie.spec
     byte-requires
-    enum-known-b
+    enum-known-code-step
     enum-told
     fault-requires
     returns

@@ -1,13 +1,13 @@
 use mathlib.Core.Path.{refl}
 use borrow.Author.Needs.{needs}
-use Rattle.query.proofs.read_limit.Statement.{statement}
-use Rattle.query.proofs.read_limit.Tie as tie
+use Rattle.query.proofs.reading.read_limit.Statement.{statement}
+use Rattle.query.proofs.reading.read_limit.Tie as tie
 
 dword-requires : tie.Need-dword-requires
 dword-requires c κs = search needs
 
-enum-known-d : tie.Need-enum-known-d
-enum-known-d c = search needs
+enum-known-value-step : tie.Need-enum-known-value-step
+enum-known-value-step c = search needs
 
 enum-told : tie.Need-enum-told
 enum-told c = search needs
@@ -21,8 +21,8 @@ returns c = rw (c .fault .ensures, ← c .before .before .before .dword .ensures
 read-bound-requires : tie.Need-read-bound-requires
 read-bound-requires c κs = search needs
 
-enum-known-b : tie.Need-enum-known-b
-enum-known-b c = search needs
+enum-known-bound-step : tie.Need-enum-known-bound-step
+enum-known-bound-step c = search needs
 
 enum-told-2 : tie.Need-enum-told-2
 enum-told-2 c = search needs
@@ -33,14 +33,14 @@ fault-requires-2 c κs = search needs
 returns-2 : tie.Need-returns-2
 returns-2 c =
     let b = c .before .before .before .before .before in
-    rw (c .fault2 .ensures, ← b .before .before .dword .ensures, b .d .given .1)
+    rw (c .fault2 .ensures, ← b .before .before .dword .ensures, b .value-step .given .1)
     (rw (← c .before .before .before .read-bound .ensures, c .before .enum-told2 .given .1) (refl, tt))
 
 name-requires : tie.Need-name-requires
 name-requires c κs = search needs
 
-enum-known-n : tie.Need-enum-known-n
-enum-known-n c = search needs
+enum-known-name-step : tie.Need-enum-known-name-step
+enum-known-name-step c = search needs
 
 enum-told-3 : tie.Need-enum-told-3
 enum-told-3 c = search needs
@@ -52,33 +52,33 @@ returns-3 : tie.Need-returns-3
 returns-3 c =
     let b = c .before .before .before .before .before in
     let a = b .before .before .before .before in
-    rw (c .fault3 .ensures, ← a .before .before .dword .ensures, a .d .given .1)
-    (rw (← b .before .before .read-bound .ensures, b .b .given .1, ← c .before .before .before .name .ensures .0, c .before .enum-told3 .given .1) (refl, tt))
+    rw (c .fault3 .ensures, ← a .before .before .dword .ensures, a .value-step .given .1)
+    (rw (← b .before .before .read-bound .ensures, b .bound-step .given .1, ← c .before .before .before .name .ensures .0, c .before .enum-told3 .given .1) (refl, tt))
 
 returns-4 : tie.Need-returns-4
 returns-4 c =
     let b = c .before .before .before .before .before in
     let a = b .before .before .before .before in
-    rw (← a .before .before .dword .ensures, a .d .given .1)
-    (rw (← b .before .before .read-bound .ensures, b .b .given .1, ← c .before .before .before .name .ensures .0, c .before .n .given .1)
-    (refl, rw (c .before .n .given .1) at (c .before .before .before .name .ensures .1)))
+    rw (← a .before .before .dword .ensures, a .value-step .given .1)
+    (rw (← b .before .before .read-bound .ensures, b .bound-step .given .1, ← c .before .before .before .name .ensures .0, c .before .name-step .given .1)
+    (refl, rw (c .before .name-step .given .1) at (c .before .before .before .name .ensures .1)))
 
 pub read-limit-spec : {M : Type 1} → statement M
 read-limit-spec =
     tie.close
     (tie.spec
     dword-requires
-    enum-known-d
+    enum-known-value-step
     enum-told
     fault-requires
     returns
     read-bound-requires
-    enum-known-b
+    enum-known-bound-step
     enum-told-2
     fault-requires-2
     returns-2
     name-requires
-    enum-known-n
+    enum-known-name-step
     enum-told-3
     fault-requires-3
     returns-3

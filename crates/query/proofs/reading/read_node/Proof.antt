@@ -3,14 +3,14 @@ use borrow.Author.Tests.{ne-eqb}
 use Rattle.format.specs.Order.{decodeCode}
 use Rattle.query.specs.Nodes.{decodeNode}
 use borrow.Author.Needs.{needs}
-use Rattle.query.proofs.read_node.Statement.{statement}
-use Rattle.query.proofs.read_node.Tie as tie
+use Rattle.query.proofs.reading.read_node.Statement.{statement}
+use Rattle.query.proofs.reading.read_node.Tie as tie
 
 byte-requires : tie.Need-byte-requires
 byte-requires c κs = search needs
 
-enum-known-b : tie.Need-enum-known-b
-enum-known-b c = search needs
+enum-known-code-step : tie.Need-enum-known-code-step
+enum-known-code-step c = search needs
 
 enum-told : tie.Need-enum-told
 enum-told c = search needs
@@ -38,32 +38,32 @@ returns-2 : tie.Need-returns-2
 unfolding decodeNode decodeCode
 returns-2 c =
     let b = c .before .before .before in
-    rw (← b .before .before .byte .ensures, b .b .given .1, c .before .match2 .keys1) (c .read-join .ensures)
+    rw (← b .before .before .byte .ensures, b .code-step .given .1, c .before .match2 .keys1) (c .read-join .ensures)
 
 returns-3 : tie.Need-returns-3
 unfolding decodeNode decodeCode
 returns-3 c =
     let b = c .before .before .before in
-    rw (← b .before .before .byte .ensures, b .b .given .1, c .before .match2 .keys2) (c .read-keyword .ensures)
+    rw (← b .before .before .byte .ensures, b .code-step .given .1, c .before .match2 .keys2) (c .read-keyword .ensures)
 
 returns-4 : tie.Need-returns-4
 unfolding decodeNode decodeCode
 returns-4 c =
     let b = c .before .before .before in
-    rw (← b .before .before .byte .ensures, b .b .given .1, c .before .match2 .keys3) (c .read-field .ensures)
+    rw (← b .before .before .byte .ensures, b .code-step .given .1, c .before .match2 .keys3) (c .read-field .ensures)
 
 returns-5 : tie.Need-returns-5
 unfolding decodeNode decodeCode
 returns-5 c =
     let b = c .before .before .before in
-    rw (← b .before .before .byte .ensures, b .b .given .1, c .before .match2 .keys4) (c .read-limit .ensures)
+    rw (← b .before .before .byte .ensures, b .code-step .given .1, c .before .match2 .keys4) (c .read-limit .ensures)
 
 returns-6 : tie.Need-returns-6
 unfolding decodeNode decodeCode
 returns-6 c =
     let b = c .before .before in
     let r = c .match2 .rest in
-    rw (← b .before .before .byte .ensures, b .b .given .1)
+    rw (← b .before .before .byte .ensures, b .code-step .given .1)
     (rw (ne-eqb _ _ (r .0 .0 .0 .1), ne-eqb _ _ (r .0 .0 .1), ne-eqb _ _ (r .0 .1), ne-eqb _ _ (r .1)) (refl, tt))
 
 pub read-node-spec : {M : Type 1} → statement M
@@ -71,7 +71,7 @@ read-node-spec =
     tie.close
     (tie.spec
     byte-requires
-    enum-known-b
+    enum-known-code-step
     enum-told
     fault-requires
     returns
