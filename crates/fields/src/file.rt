@@ -15,42 +15,69 @@ use wire::Items;
 
 // Nine numbers and 0 after them.
 pub fn row_of_fields(
-    a: u64,
-    b: u64,
-    c: u64,
-    d: u64,
-    e: u64,
-    f: u64,
-    g: u64,
-    h: u64,
-    i: u64,
+    first: u64,
+    second: u64,
+    third: u64,
+    fourth: u64,
+    fifth: u64,
+    sixth: u64,
+    seventh: u64,
+    eighth: u64,
+    ninth: u64,
 ) -> [u64; 16]
-    ensures { λ r. ⌜ r ≡ filled 16 (a ∷ b ∷ c ∷ d ∷ e ∷ f ∷ g ∷ h ∷ i ∷ []) ⌝ }
+    ensures { λ r. ⌜ r ≡ filled 16 (first ∷ second ∷ third ∷ fourth ∷ fifth ∷ sixth ∷ seventh ∷ eighth ∷ ninth ∷ []) ⌝ }
 {
-    [a, b, c, d, e, f, g, h, i, 0, 0, 0, 0, 0, 0, 0]
+    [
+        first,
+        second,
+        third,
+        fourth,
+        fifth,
+        sixth,
+        seventh,
+        eighth,
+        ninth,
+        0,
+        0,
+        0,
+        0,
+        0,
+        0,
+        0,
+    ]
 }
 
-pub fn known_fields(m: KnownMet) -> [u64; 16]
-    ensures { λ r. ⌜ r ≡ filled 16 (knownNumbers m) ⌝ }
+pub fn known_fields(known: KnownMet) -> [u64; 16]
+    ensures { λ r. ⌜ r ≡ filled 16 (knownNumbers known) ⌝ }
 {
-    let l = m.entries;
-    let opening = m.opening as u64;
-    let at = l.at as u64;
-    let end = l.end as u64;
-    let count = l.count as u64;
+    let entries = known.entries;
+    let opening = known.opening as u64;
+    let at = entries.at as u64;
+    let end = entries.end as u64;
+    let count = entries.count as u64;
     row_of_fields(opening, at, end, count, 0, 0, 0, 0, 0)
 }
 
-pub fn server_fields(m: ServerMet) -> [u64; 16]
-    ensures { λ r. ⌜ r ≡ filled 16 (serverNumbers m) ⌝ }
+pub fn server_fields(server: ServerMet) -> [u64; 16]
+    ensures { λ r. ⌜ r ≡ filled 16 (serverNumbers server) ⌝ }
 {
-    let l = m.entries;
-    let t = m.tail;
-    let opening = m.opening as u64;
-    let at = l.at as u64;
-    let end = l.end as u64;
-    let count = l.count as u64;
-    row_of_fields(opening, at, end, count, t.at as u64, t.len as u64, 0, 0, 0)
+    let entries = server.entries;
+    let tail = server.tail;
+    let opening = server.opening as u64;
+    let at = entries.at as u64;
+    let end = entries.end as u64;
+    let count = entries.count as u64;
+    row_of_fields(
+        opening,
+        at,
+        end,
+        count,
+        tail.at as u64,
+        tail.len as u64,
+        0,
+        0,
+        0,
+    )
 }
 
 // A part.met, the same for each of its two layouts.
@@ -86,87 +113,107 @@ fn part_row(
     ]
 }
 
-pub fn part_fields(m: PartMet, size: u32) -> [u64; 16]
-    ensures { λ r. ⌜ r ≡ filled 16 (partNumbers m size) ⌝ }
+pub fn part_fields(part: PartMet, size: u32) -> [u64; 16]
+    ensures { λ r. ⌜ r ≡ filled 16 (partNumbers part size) ⌝ }
 {
     let none = Items {
         at: 0,
         end: 0,
         count: 0,
     };
-    match m {
-        PartMet::E0(e) => part_row(
+    match part {
+        PartMet::E0(entry) => part_row(
             0xE0,
             size,
-            e.date,
-            e.hash,
-            e.tags,
+            entry.date,
+            entry.hash,
+            entry.tags,
             shape::COUNTED_HASHES,
-            e.parts,
+            entry.parts,
             none,
         ),
-        PartMet::E1(f) => {
-            let blocks = f.blocks;
+        PartMet::E1(file) => {
+            let blocks = file.blocks;
             match blocks {
                 HashBlocks::Nothing => {
                     part_row(
                         0xE1,
                         size,
-                        f.date,
-                        f.hash,
-                        f.tags,
+                        file.date,
+                        file.hash,
+                        file.tags,
                         shape::NO_HASHES,
                         none,
                         none,
                     )
                 }
-                HashBlocks::Parts(p) => {
+                HashBlocks::Parts(part_hashes) => {
                     part_row(
                         0xE1,
                         size,
-                        f.date,
-                        f.hash,
-                        f.tags,
+                        file.date,
+                        file.hash,
+                        file.tags,
                         shape::PART_HASHES,
-                        p,
+                        part_hashes,
                         none,
                     )
                 }
-                HashBlocks::Blocks(b) => {
+                HashBlocks::Blocks(block_hashes) => {
                     part_row(
                         0xE1,
                         size,
-                        f.date,
-                        f.hash,
-                        f.tags,
+                        file.date,
+                        file.hash,
+                        file.tags,
                         shape::BLOCK_HASHES,
                         none,
-                        b,
+                        block_hashes,
                     )
                 }
-                HashBlocks::Both(p, b) => part_row(
+                HashBlocks::Both(part_hashes, block_hashes) => part_row(
                     0xE1,
                     size,
-                    f.date,
-                    f.hash,
-                    f.tags,
+                    file.date,
+                    file.hash,
+                    file.tags,
                     shape::BOTH_HASHES,
-                    p,
-                    b,
+                    part_hashes,
+                    block_hashes,
                 ),
             }
         }
     }
 }
 
-pub fn query_fields(q: Query) -> [u64; 16]
-    ensures { λ r. ⌜ r ≡ filled 16 (queryNumbers q) ⌝ }
+pub fn query_fields(query: Query) -> [u64; 16]
+    ensures { λ r. ⌜ r ≡ filled 16 (queryNumbers query) ⌝ }
 {
-    row_of_fields(q.at as u64, q.end as u64, q.depth as u64, 0, 0, 0, 0, 0, 0)
+    row_of_fields(
+        query.at as u64,
+        query.end as u64,
+        query.depth as u64,
+        0,
+        0,
+        0,
+        0,
+        0,
+        0,
+    )
 }
 
-pub fn list_fields(l: Items) -> [u64; 16]
-    ensures { λ r. ⌜ r ≡ filled 16 (itemsNumbers l) ⌝ }
+pub fn list_fields(list: Items) -> [u64; 16]
+    ensures { λ r. ⌜ r ≡ filled 16 (itemsNumbers list) ⌝ }
 {
-    row_of_fields(l.at as u64, l.end as u64, l.count as u64, 0, 0, 0, 0, 0, 0)
+    row_of_fields(
+        list.at as u64,
+        list.end as u64,
+        list.count as u64,
+        0,
+        0,
+        0,
+        0,
+        0,
+        0,
+    )
 }

@@ -52,113 +52,119 @@ fn row(
     ]
 }
 
-fn query_row(opening: u8, opcode: u8, q: Query) -> [u64; 16]
-    ensures { λ r. ⌜ r ≡ filled 16 (opening ∷ opcode ∷ bodyNumbers (Body.Query q)) ⌝ }
+fn query_row(opening: u8, opcode: u8, query: Query) -> [u64; 16]
+    ensures { λ r. ⌜ r ≡ filled 16 (opening ∷ opcode ∷ bodyNumbers (Body.Query query)) ⌝ }
 {
     row(
         opening,
         opcode,
         shape::QUERY,
-        q.at as u64,
-        q.end as u64,
-        q.depth as u64,
+        query.at as u64,
+        query.end as u64,
+        query.depth as u64,
         0,
     )
 }
 
-fn text_row(opening: u8, opcode: u8, t: Place) -> [u64; 16]
-    ensures { λ r. ⌜ r ≡ filled 16 (opening ∷ opcode ∷ bodyNumbers (Body.Text t)) ⌝ }
+fn text_row(opening: u8, opcode: u8, text: Place) -> [u64; 16]
+    ensures { λ r. ⌜ r ≡ filled 16 (opening ∷ opcode ∷ bodyNumbers (Body.Text text)) ⌝ }
 {
     row(
         opening,
         opcode,
         shape::TEXT,
-        t.at as u64,
-        t.len as u64,
+        text.at as u64,
+        text.len as u64,
         0,
         0,
     )
 }
 
-fn two_texts_row(opening: u8, opcode: u8, t: Place, u: Place) -> [u64; 16]
-    ensures { λ r. ⌜ r ≡ filled 16 (opening ∷ opcode ∷ bodyNumbers (Body.TwoTexts t u)) ⌝ }
+fn two_texts_row(opening: u8, opcode: u8, first: Place, second: Place) -> [u64; 16]
+    ensures { λ r. ⌜ r ≡ filled 16 (opening ∷ opcode ∷ bodyNumbers (Body.TwoTexts first second)) ⌝ }
 {
     row(
         opening,
         opcode,
-        6,
-        t.at as u64,
-        t.len as u64,
-        u.at as u64,
-        u.len as u64,
+        shape::TWO_TEXTS,
+        first.at as u64,
+        first.len as u64,
+        second.at as u64,
+        second.len as u64,
     )
 }
 
-fn hash_text_row(opening: u8, opcode: u8, hash: usize, t: Place) -> [u64; 16]
-    ensures { λ r. ⌜ r ≡ filled 16 (opening ∷ opcode ∷ bodyNumbers (Body.HashText hash t)) ⌝ }
+fn hash_text_row(opening: u8, opcode: u8, hash: usize, text: Place) -> [u64; 16]
+    ensures { λ r. ⌜ r ≡ filled 16 (opening ∷ opcode ∷ bodyNumbers (Body.HashText hash text)) ⌝ }
 {
     row(
         opening,
         opcode,
         shape::HASH_TEXT,
         hash as u64,
-        t.at as u64,
-        t.len as u64,
+        text.at as u64,
+        text.len as u64,
         0,
     )
 }
 
-fn address_row(opening: u8, opcode: u8, shape: u64, a: Address, n: u32) -> [u64; 16]
-    ensures { λ r. ⌜ r ≡ filled 16 (opening ∷ opcode ∷ shape ∷ addressNumbers a ++ n ∷ []) ⌝ }
+fn address_row(opening: u8, opcode: u8, shape: u64, address: Address, number: u32) -> [u64; 16]
+    ensures { λ r. ⌜ r ≡ filled 16 (opening ∷ opcode ∷ shape ∷ addressNumbers address ++ number ∷ []) ⌝ }
 {
     row(
         opening,
         opcode,
         shape,
-        a.ip as u64,
-        a.port as u64,
-        n as u64,
+        address.ip as u64,
+        address.port as u64,
+        number as u64,
         0,
     )
 }
 
-fn list_row(opening: u8, opcode: u8, shape: u64, l: Items, flag: u8) -> [u64; 16]
-    ensures { λ r. ⌜ r ≡ filled 16 (opening ∷ opcode ∷ shape ∷ itemsNumbers l ++ flag ∷ []) ⌝ }
+fn list_row(opening: u8, opcode: u8, shape: u64, list: Items, flag: u8) -> [u64; 16]
+    ensures { λ r. ⌜ r ≡ filled 16 (opening ∷ opcode ∷ shape ∷ itemsNumbers list ++ flag ∷ []) ⌝ }
 {
     row(
         opening,
         opcode,
         shape,
-        l.at as u64,
-        l.end as u64,
-        l.count as u64,
+        list.at as u64,
+        list.end as u64,
+        list.count as u64,
         flag as u64,
     )
 }
 
-fn hash_list_row(opening: u8, opcode: u8, shape: u64, hash: usize, l: Items) -> [u64; 16]
-    ensures { λ r. ⌜ r ≡ filled 16 (opening ∷ opcode ∷ shape ∷ hash ∷ itemsNumbers l) ⌝ }
+fn hash_list_row(opening: u8, opcode: u8, shape: u64, hash: usize, list: Items) -> [u64; 16]
+    ensures { λ r. ⌜ r ≡ filled 16 (opening ∷ opcode ∷ shape ∷ hash ∷ itemsNumbers list) ⌝ }
 {
     row(
         opening,
         opcode,
         shape,
         hash as u64,
-        l.at as u64,
-        l.end as u64,
-        l.count as u64,
+        list.at as u64,
+        list.end as u64,
+        list.count as u64,
     )
 }
 
-fn hash_address_tags_row(opening: u8, opcode: u8, hash: usize, a: Address, l: Items) -> [u64; 16]
-    ensures { λ r. ⌜ r ≡ filled 16 (opening ∷ opcode ∷ bodyNumbers (Body.HashAddressTags hash a l)) ⌝ }
+fn hash_address_tags_row(
+    opening: u8,
+    opcode: u8,
+    hash: usize,
+    address: Address,
+    tags: Items,
+) -> [u64; 16]
+    ensures { λ r. ⌜ r ≡ filled 16 (opening ∷ opcode ∷ bodyNumbers (Body.HashAddressTags hash address tags)) ⌝ }
 {
     let hash = hash as u64;
-    let ip = a.ip as u64;
-    let port = a.port as u64;
-    let at = l.at as u64;
-    let end = l.end as u64;
-    let count = l.count as u64;
+    let ip = address.ip as u64;
+    let port = address.port as u64;
+    let at = tags.at as u64;
+    let end = tags.end as u64;
+    let count = tags.count as u64;
     [
         opening as u64,
         opcode as u64,
@@ -180,22 +186,22 @@ fn hash_address_tags_row(opening: u8, opcode: u8, hash: usize, a: Address, l: It
 }
 
 // A record and an address, or 0 for one that is not there.
-fn record_row(opening: u8, opcode: u8, shape: u64, r: Record, a: Address) -> [u64; 16]
-    ensures { λ s. ⌜ s ≡ filled 16 (opening ∷ opcode ∷ shape ∷ recordNumbers r ++ addressNumbers a) ⌝ }
+fn record_row(opening: u8, opcode: u8, shape: u64, entry: Record, address: Address) -> [u64; 16]
+    ensures { λ r. ⌜ r ≡ filled 16 (opening ∷ opcode ∷ shape ∷ recordNumbers entry ++ addressNumbers address) ⌝ }
 {
-    let l = r.tags;
+    let tags = entry.tags;
     [
         opening as u64,
         opcode as u64,
         shape,
-        r.hash as u64,
-        r.client as u64,
-        r.port as u64,
-        l.at as u64,
-        l.end as u64,
-        l.count as u64,
-        a.ip as u64,
-        a.port as u64,
+        entry.hash as u64,
+        entry.client as u64,
+        entry.port as u64,
+        tags.at as u64,
+        tags.end as u64,
+        tags.count as u64,
+        address.ip as u64,
+        address.port as u64,
         0,
         0,
         0,
@@ -204,15 +210,15 @@ fn record_row(opening: u8, opcode: u8, shape: u64, r: Record, a: Address) -> [u6
     ]
 }
 
-fn sending_part_row(opening: u8, opcode: u8, p: SendingPart) -> [u64; 16]
-    ensures { λ r. ⌜ r ≡ filled 16 (opening ∷ opcode ∷ bodyNumbers (Body.SendingPart p)) ⌝ }
+fn sending_part_row(opening: u8, opcode: u8, part: SendingPart) -> [u64; 16]
+    ensures { λ r. ⌜ r ≡ filled 16 (opening ∷ opcode ∷ bodyNumbers (Body.SendingPart part)) ⌝ }
 {
-    let d = p.data;
-    let hash = p.hash as u64;
-    let start = p.start as u64;
-    let end = p.end as u64;
-    let at = d.at as u64;
-    let len = d.len as u64;
+    let data = part.data;
+    let hash = part.hash as u64;
+    let start = part.start as u64;
+    let end = part.end as u64;
+    let at = data.at as u64;
+    let len = data.len as u64;
     [
         opening as u64,
         opcode as u64,
@@ -233,22 +239,22 @@ fn sending_part_row(opening: u8, opcode: u8, p: SendingPart) -> [u64; 16]
     ]
 }
 
-fn request_parts_row(opening: u8, opcode: u8, p: RequestParts) -> [u64; 16]
-    ensures { λ r. ⌜ r ≡ filled 16 (opening ∷ opcode ∷ bodyNumbers (Body.RequestParts p)) ⌝ }
+fn request_parts_row(opening: u8, opcode: u8, parts: RequestParts) -> [u64; 16]
+    ensures { λ r. ⌜ r ≡ filled 16 (opening ∷ opcode ∷ bodyNumbers (Body.RequestParts parts)) ⌝ }
 {
-    let s = p.starts;
-    let e = p.ends;
+    let starts = parts.starts;
+    let ends = parts.ends;
     [
         opening as u64,
         opcode as u64,
         shape::REQUEST_PARTS,
-        p.hash as u64,
-        s.first as u64,
-        s.second as u64,
-        s.third as u64,
-        e.first as u64,
-        e.second as u64,
-        e.third as u64,
+        parts.hash as u64,
+        starts.first as u64,
+        starts.second as u64,
+        starts.third as u64,
+        ends.first as u64,
+        ends.second as u64,
+        ends.third as u64,
         0,
         0,
         0,
@@ -258,16 +264,16 @@ fn request_parts_row(opening: u8, opcode: u8, p: RequestParts) -> [u64; 16]
     ]
 }
 
-fn file_status_row(opening: u8, opcode: u8, f: FileStatus) -> [u64; 16]
-    ensures { λ r. ⌜ r ≡ filled 16 (opening ∷ opcode ∷ bodyNumbers (Body.FileStatus f)) ⌝ }
+fn file_status_row(opening: u8, opcode: u8, status: FileStatus) -> [u64; 16]
+    ensures { λ r. ⌜ r ≡ filled 16 (opening ∷ opcode ∷ bodyNumbers (Body.FileStatus status)) ⌝ }
 {
     row(
         opening,
         opcode,
         shape::FILE_STATUS,
-        f.hash as u64,
-        f.parts as u64,
-        f.bits as u64,
+        status.hash as u64,
+        status.parts as u64,
+        status.bits as u64,
         0,
     )
 }
@@ -281,50 +287,50 @@ fn form_number(form: Form) -> u64
     }
 }
 
-fn status_request_row(opening: u8, opcode: u8, r: StatusRequest) -> [u64; 16]
-    ensures { λ s. ⌜ s ≡ filled 16 (opening ∷ opcode ∷ bodyNumbers (Body.StatusRequest r)) ⌝ }
+fn status_request_row(opening: u8, opcode: u8, request: StatusRequest) -> [u64; 16]
+    ensures { λ r. ⌜ r ≡ filled 16 (opening ∷ opcode ∷ bodyNumbers (Body.StatusRequest request)) ⌝ }
 {
-    let form = r.form;
+    let form = request.form;
     row(
         opening,
         opcode,
         shape::STATUS_REQUEST,
         form_number(form),
-        r.number as u64,
+        request.number as u64,
         0,
         0,
     )
 }
 
-fn status_row(opening: u8, opcode: u8, t: Triple) -> [u64; 16]
-    ensures { λ r. ⌜ r ≡ filled 16 (opening ∷ opcode ∷ bodyNumbers (Body.Status t)) ⌝ }
+fn status_row(opening: u8, opcode: u8, numbers: Triple) -> [u64; 16]
+    ensures { λ r. ⌜ r ≡ filled 16 (opening ∷ opcode ∷ bodyNumbers (Body.Status numbers)) ⌝ }
 {
     row(
         opening,
         opcode,
         shape::STATUS,
-        t.first as u64,
-        t.second as u64,
-        t.third as u64,
+        numbers.first as u64,
+        numbers.second as u64,
+        numbers.third as u64,
         0,
     )
 }
 
-fn extended_status_row(opening: u8, opcode: u8, e: ExtendedStatus) -> [u64; 16]
-    ensures { λ r. ⌜ r ≡ filled 16 (opening ∷ opcode ∷ bodyNumbers (Body.ExtendedStatus e)) ⌝ }
+fn extended_status_row(opening: u8, opcode: u8, status: ExtendedStatus) -> [u64; 16]
+    ensures { λ r. ⌜ r ≡ filled 16 (opening ∷ opcode ∷ bodyNumbers (Body.ExtendedStatus status)) ⌝ }
 {
-    let t = e.numbers;
-    let a = e.first as u64;
-    let b = e.second as u64;
-    let first = t.first as u64;
-    let second = t.second as u64;
-    let third = t.third as u64;
+    let numbers = status.numbers;
+    let first_byte = status.first as u64;
+    let second_byte = status.second as u64;
+    let first = numbers.first as u64;
+    let second = numbers.second as u64;
+    let third = numbers.third as u64;
     [
         opening as u64,
         opcode as u64,
         shape::EXTENDED_STATUS,
-        a,
-        b,
+        first_byte,
+        second_byte,
         first,
         second,
         third,
@@ -339,7 +345,83 @@ fn extended_status_row(opening: u8, opcode: u8, e: ExtendedStatus) -> [u64; 16]
     ]
 }
 
+// The numbers of first_byte packet that was read. Its only caller reads: first_byte function with one caller is compiled into it, and there the code of each
+// shape goes straight on to its numbers, with no copy of the body in between.
 pub fn packet_fields(p: Packet) -> [u64; 16]
+    ensures { λ r. ⌜ r ≡ filled 16 (packetNumbers p) ⌝ }
+{
+    let opening = p.opening;
+    let opcode = p.opcode;
+    let body = p.body;
+    match body {
+        Body::Nothing => row(opening, opcode, shape::NOTHING, 0, 0, 0, 0),
+        Body::Query(query) => query_row(opening, opcode, query),
+        Body::Hash(hash) => row(opening, opcode, shape::HASH, hash as u64, 0, 0, 0),
+        Body::Dword(number) => row(opening, opcode, shape::DWORD, number as u64, 0, 0, 0),
+        Body::TwoDwords(first, second) => row(
+            opening,
+            opcode,
+            shape::TWO_DWORDS,
+            first as u64,
+            second as u64,
+            0,
+            0,
+        ),
+        Body::Text(text) => text_row(opening, opcode, text),
+        Body::TwoTexts(first, second) => two_texts_row(opening, opcode, first, second),
+        Body::Address(address) => address_row(opening, opcode, shape::ADDRESS, address, 0),
+        Body::Addresses(list) => list_row(opening, opcode, shape::ADDRESSES, list, 0),
+        Body::HashAddresses(hash, list) => hash_list_row(
+            opening,
+            opcode,
+            shape::HASH_ADDRESSES,
+            hash,
+            list,
+        ),
+        Body::AddressDword(address, number) => address_row(
+            opening,
+            opcode,
+            shape::ADDRESS_DWORD,
+            address,
+            number,
+        ),
+        Body::HashAddressTags(hash, address, list) => hash_address_tags_row(
+            opening,
+            opcode,
+            hash,
+            address,
+            list,
+        ),
+        Body::Record(record) => record_row(
+            opening,
+            opcode,
+            shape::RECORD,
+            record,
+            Address { ip: 0, port: 0 },
+        ),
+        Body::Records(list) => list_row(opening, opcode, shape::RECORDS, list, 0),
+        Body::RecordsFlag(list, flag) => list_row(opening, opcode, shape::RECORDS_FLAG, list, flag),
+        Body::RecordAddress(record, address) => record_row(
+            opening,
+            opcode,
+            shape::RECORD_ADDRESS,
+            record,
+            address,
+        ),
+        Body::Hello(record, address) => record_row(opening, opcode, shape::HELLO, record, address),
+        Body::HashText(hash, text) => hash_text_row(opening, opcode, hash, text),
+        Body::Hashset(hash, list) => hash_list_row(opening, opcode, shape::HASHSET, hash, list),
+        Body::SendingPart(sending) => sending_part_row(opening, opcode, sending),
+        Body::RequestParts(request) => request_parts_row(opening, opcode, request),
+        Body::FileStatus(status) => file_status_row(opening, opcode, status),
+        Body::StatusRequest(request) => status_request_row(opening, opcode, request),
+        Body::Status(numbers) => status_row(opening, opcode, numbers),
+        Body::ExtendedStatus(status) => extended_status_row(opening, opcode, status),
+    }
+}
+
+// The same numbers of a packet that is to be written, for the caller that compares them with those given.
+pub fn given_fields(p: Packet) -> [u64; 16]
     ensures { λ r. ⌜ r ≡ filled 16 (packetNumbers p) ⌝ }
 {
     let opening = p.opening;
