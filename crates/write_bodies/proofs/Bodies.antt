@@ -35,12 +35,14 @@ use Rattle.bodies.specs.declared.Triple.{Triple}
 use Rattle.bodies.specs.BodyAnswers.{bodyIn, heldAt, tripleOf}
 use Rattle.write_items.specs.There.{hashThere, itemsThere, placeThere}
 use Rattle.format.specs.RoundTrip.{IsThere}
+use Rattle.write_items.proofs.Listed.{Listed}
 use Rattle.write_items.proofs.Pieces.{length-string}
 use Rattle.write_items.proofs.There.{both-first, both-last, run-size, valid-hash}
 use Rattle.check_bodies.specs.Bodies.{bytesOf}
 use Rattle.check_bodies.proofs.Extents.{held-size, held-word}
-use Rattle.check_bodies.proofs.Places.{Listed, addresses-listed, hashes-listed, query-listed, records-listed, tags-listed}
-use Rattle.write_bodies.specs.PutBodies.{ListRun, Puts, Puttable, Run, listBytes}
+use Rattle.check_bodies.proofs.Places.{addresses-listed, hashes-listed, query-listed, records-listed, tags-listed}
+use Rattle.write_items.specs.Puts.{Puts}
+use Rattle.write_bodies.specs.PutBodies.{ListRun, Puttable, Run, listBytes}
 
 -- What was put are the bytes of the body.
 pub finished : {raw bytes old new : List ℕ} {n r : ℕ} → raw ≡ bytes → Puts raw n old new r → (r ≡ length bytes) × (new ≡ overwritten bytes old)

@@ -1,3 +1,2 @@
-pub mod Laws
 pub mod Bodies
 pub mod RecordEntries

@@ -26,7 +26,7 @@ use Rattle.check_bodies.specs.declared.BodyCheck.{BodyCheck}
 use Rattle.check_bodies.specs.Bodies.{BodyChecked, BodyEnds, bodyThere, bytesOf, recordThere}
 use Rattle.check_bodies.proofs.Extents.{records-fit}
 use Rattle.check_bodies.proofs.Places.{records-listed, tags-listed}
-use Rattle.write_bodies.specs.PutBodies.{Puts}
+use Rattle.write_items.specs.Puts.{Puts}
 use Rattle.write_bodies.specs.RecordEntries.{WritesBody, absent, overflows, tries, writeAddress, writeAddresses, writeRecord, writeRecords}
 
 -- What a check that found nothing says.

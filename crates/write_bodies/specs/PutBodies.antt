@@ -4,7 +4,7 @@ use mathlib.Core.Path.{_≡_}
 use mathlib.Core.List.{List}
 use lib.ListN.{length}
 use Rattle.format.specs.Decoding.{bytesAt}
-use Rattle.format.specs.Writing.{ValuesFit, overwritten}
+use Rattle.format.specs.Writing.{ValuesFit}
 use Rattle.wire.specs.declared.Items.{Items}
 use Rattle.bodies.specs.declared.Body.{Body}
 use Rattle.bodies.specs.BodyAnswers.{bodyIn}
@@ -21,12 +21,6 @@ ListRun s l end = (l .at ≤ end) × Run s (l .at) (end - l .at)
 
 abbrev pub listBytes : List ℕ → Items → ℕ → List ℕ
 listBytes s l end = bytesAt s (l .at) (end - l .at)
-
--- So many bytes were put at the front of an output, and nothing after them changed.
-pub record Puts (bytes : List ℕ) (size : ℕ) (old new : List ℕ) (r : ℕ) : Type 0 where
-  pub written : r ≡ size
-  pub sized : length bytes ≡ size
-  pub output : new ≡ overwritten bytes old
 
 -- What put_body asks: the places are there, the counts fit, the end is the one that was worked out, and there is room.
 pub record Puttable (s : List ℕ) (b : Body) (end : ℕ) (output : List ℕ) : Type 0 where

@@ -13,13 +13,15 @@ ghost use Rattle.bodies.specs.BodyAnswers.{bodyIn, tripleOf};
 ghost use Rattle.output.specs.WriteAnswers.{answered};
 ghost use Rattle.check_bodies.specs.Bodies.{bytesOf};
 ghost use Rattle.write_bodies.specs.RecordEntries.{WritesBody, writeAddress, writeAddresses, writeRecord, writeRecords};
-ghost use Rattle.write_bodies.specs.PutBodies.{ListRun, Puts, Puttable, Run, listBytes};
+ghost use Rattle.write_items.specs.Puts.{Puts};
+ghost use Rattle.write_bodies.specs.PutBodies.{ListRun, Puttable, Run, listBytes};
 use bodies::Body;
 use bodies::ExtendedStatus;
 use bodies::FileStatus;
 use bodies::RequestParts;
 use bodies::SendingPart;
 use bodies::Triple;
+use output::ROOM;
 use output::WriteAnswer;
 use query::Query;
 use records::Address;
@@ -27,16 +29,28 @@ use records::Record;
 use wire::Items;
 use wire::Place;
 
-// The bytes of a body, put at the front of what is lent. Each function answers with how many bytes it wrote. They are for put_body
-// alone: each requires that the places were read before, that counts fit, and that there is room.
+const HASH_BYTES: usize = 16;
 
-fn put_run(src: &[u8], at: usize, n: usize, out: &mut [u8]) -> usize
-    requires { ⌜ Run (now src) at n × (n ≤ length (now out)) ⌝ }
-    ensures { λ r. ⌜ Puts (bytesAt (now (src .entry)) at n) n (now (out .entry)) (now (out .exit)) r ⌝ }
+const ADDRESS_BYTES: usize = 6;
+
+// The byte before the record of a hello: the length of its hash.
+const HELLO_HASH: u8 = 0x10;
+
+// The two bytes that tell an extended status from a plain one.
+const EXTENDED_LOW: u8 = 0xAA;
+
+const EXTENDED_HIGH: u8 = 0x5A;
+
+// The bytes of a body, put at the front of what is lent. Each function returns how many bytes it wrote. They are for put_body
+// alone: each requires that the items were read at their offsets before, that counts fit, and that there is room.
+
+fn put_run(src: &[u8], at: usize, size: usize, out: &mut [u8]) -> usize
+    requires { ⌜ Run (now src) at size × (size ≤ length (now out)) ⌝ }
+    ensures { λ r. ⌜ Puts (bytesAt (now (src .entry)) at size) size (now (out .entry)) (now (out .exit)) r ⌝ }
 {
-    let bytes = wire::bytes_at(src, at, n);
+    let bytes = wire::bytes_at(src, at, size);
     output::copy(out, bytes);
-    n
+    size
 }
 
 fn put_query(src: &[u8], q: Query, end: usize, out: &mut [u8]) -> usize
@@ -47,50 +61,50 @@ fn put_query(src: &[u8], q: Query, end: usize, out: &mut [u8]) -> usize
     put_run(src, at, end - at, out)
 }
 
-fn put_text(src: &[u8], t: Place, out: &mut [u8]) -> usize
-    requires { ⌜ Run (now src) (t .at) (t .len) × (t .len < 65536) × (2 + t .len ≤ length (now out)) ⌝ }
-    ensures { λ r. ⌜ Puts (encodeString (placeBytes (now (src .entry)) t)) (2 + t .len) (now (out .entry)) (now (out .exit)) r ⌝ }
+fn put_text(src: &[u8], place: Place, out: &mut [u8]) -> usize
+    requires { ⌜ Run (now src) (place .at) (place .len) × (place .len < 65536) × (2 + place .len ≤ length (now out)) ⌝ }
+    ensures { λ r. ⌜ Puts (encodeString (placeBytes (now (src .entry)) place)) (2 + place .len) (now (out .entry)) (now (out .exit)) r ⌝ }
 {
-    let at = t.at;
-    let len = t.len;
+    let at = place.at;
+    let len = place.len;
     let text = wire::bytes_at(src, at, len);
     output::put_string(out, text)
 }
 
-fn put_number(n: u32, out: &mut [u8]) -> usize
+fn put_number(number: u32, out: &mut [u8]) -> usize
     requires { ⌜ 4 ≤ length (now out) ⌝ }
-    ensures { λ r. ⌜ Puts (dword n) 4 (now (out .entry)) (now (out .exit)) r ⌝ }
+    ensures { λ r. ⌜ Puts (dword number) 4 (now (out .entry)) (now (out .exit)) r ⌝ }
 {
-    output::put_dword(out, n);
+    output::put_dword(out, number);
     4
 }
 
-fn put_two_dwords(a: u32, b: u32, out: &mut [u8]) -> usize
+fn put_two_dwords(first: u32, second: u32, out: &mut [u8]) -> usize
     requires { ⌜ 8 ≤ length (now out) ⌝ }
-    ensures { λ r. ⌜ Puts (dword a ++ dword b) (4 + 4) (now (out .entry)) (now (out .exit)) r ⌝ }
+    ensures { λ r. ⌜ Puts (dword first ++ dword second) (4 + 4) (now (out .entry)) (now (out .exit)) r ⌝ }
 {
-    output::put_dword(out, a);
-    output::put_dword(&mut out[4..], b);
+    output::put_dword(out, first);
+    output::put_dword(&mut out[4..], second);
     8
 }
 
-fn put_triple(t: Triple, out: &mut [u8]) -> usize
+fn put_triple(triple: Triple, out: &mut [u8]) -> usize
     requires { ⌜ 12 ≤ length (now out) ⌝ }
-    ensures { λ r. ⌜ Puts (encodeTriple (tripleOf t)) (4 + (4 + 4)) (now (out .entry)) (now (out .exit)) r ⌝ }
+    ensures { λ r. ⌜ Puts (encodeTriple (tripleOf triple)) (4 + (4 + 4)) (now (out .entry)) (now (out .exit)) r ⌝ }
 {
-    output::put_dword(out, t.first);
-    let wrote = put_two_dwords(t.second, t.third, &mut out[4..]);
+    output::put_dword(out, triple.first);
+    let wrote = put_two_dwords(triple.second, triple.third, &mut out[4..]);
     4 + wrote
 }
 
 // The ip comes before the port.
-fn put_address(a: Address, out: &mut [u8]) -> usize
+fn put_address(address: Address, out: &mut [u8]) -> usize
     requires { ⌜ 6 ≤ length (now out) ⌝ }
-    ensures { λ r. ⌜ Puts (encodeAddress (addressOf a)) (4 + 2) (now (out .entry)) (now (out .exit)) r ⌝ }
+    ensures { λ r. ⌜ Puts (encodeAddress (addressOf address)) (4 + 2) (now (out .entry)) (now (out .exit)) r ⌝ }
 {
-    output::put_dword(out, a.ip);
-    output::put_word(&mut out[4..], a.port);
-    6
+    output::put_dword(out, address.ip);
+    output::put_word(&mut out[4..], address.port);
+    ADDRESS_BYTES
 }
 
 // A count that fits its field.
@@ -108,206 +122,219 @@ fn word_count(count: u32) -> u16
     count as u16
 }
 
-// A list lies as its count, then its items, whose bytes are copied.
+// A list is encoded as its count, then its items, whose bytes are copied.
 
-fn put_byte_list(src: &[u8], l: Items, end: usize, out: &mut [u8]) -> usize
-    requires { ⌜ ListRun (now src) l end × (l .count < 256) × (1 + (end - l .at) ≤ length (now out)) ⌝ }
-    ensures { λ r. ⌜ Puts (byte (l .count) ++ listBytes (now (src .entry)) l end) (1 + (end - l .at)) (now (out .entry)) (now (out .exit)) r ⌝ }
+fn put_byte_list(src: &[u8], list: Items, end: usize, out: &mut [u8]) -> usize
+    requires { ⌜ ListRun (now src) list end × (list .count < 256) × (1 + (end - list .at) ≤ length (now out)) ⌝ }
+    ensures { λ r. ⌜ Puts (byte (list .count) ++ listBytes (now (src .entry)) list end) (1 + (end - list .at)) (now (out .entry)) (now (out .exit)) r ⌝ }
 {
-    let at = l.at;
-    let n = end - at;
-    let count = byte_count(l.count);
+    let at = list.at;
+    let size = end - at;
+    let count = byte_count(list.count);
     output::put_byte(out, count);
-    let wrote = put_run(src, at, n, &mut out[1..]);
+    let wrote = put_run(src, at, size, &mut out[1..]);
     1 + wrote
 }
 
-fn put_word_list(src: &[u8], l: Items, end: usize, out: &mut [u8]) -> usize
-    requires { ⌜ ListRun (now src) l end × (l .count < 65536) × (2 + (end - l .at) ≤ length (now out)) ⌝ }
-    ensures { λ r. ⌜ Puts (word (l .count) ++ listBytes (now (src .entry)) l end) (2 + (end - l .at)) (now (out .entry)) (now (out .exit)) r ⌝ }
+fn put_word_list(src: &[u8], list: Items, end: usize, out: &mut [u8]) -> usize
+    requires { ⌜ ListRun (now src) list end × (list .count < 65536) × (2 + (end - list .at) ≤ length (now out)) ⌝ }
+    ensures { λ r. ⌜ Puts (word (list .count) ++ listBytes (now (src .entry)) list end) (2 + (end - list .at)) (now (out .entry)) (now (out .exit)) r ⌝ }
 {
-    let at = l.at;
-    let n = end - at;
-    let count = word_count(l.count);
+    let at = list.at;
+    let size = end - at;
+    let count = word_count(list.count);
     output::put_word(out, count);
-    let wrote = put_run(src, at, n, &mut out[2..]);
+    let wrote = put_run(src, at, size, &mut out[2..]);
     2 + wrote
 }
 
-fn put_dword_list(src: &[u8], l: Items, end: usize, out: &mut [u8]) -> usize
-    requires { ⌜ ListRun (now src) l end × (4 + (end - l .at) ≤ length (now out)) ⌝ }
-    ensures { λ r. ⌜ Puts (dword (l .count) ++ listBytes (now (src .entry)) l end) (4 + (end - l .at)) (now (out .entry)) (now (out .exit)) r ⌝ }
+fn put_dword_list(src: &[u8], list: Items, end: usize, out: &mut [u8]) -> usize
+    requires { ⌜ ListRun (now src) list end × (4 + (end - list .at) ≤ length (now out)) ⌝ }
+    ensures { λ r. ⌜ Puts (dword (list .count) ++ listBytes (now (src .entry)) list end) (4 + (end - list .at)) (now (out .entry)) (now (out .exit)) r ⌝ }
 {
-    let at = l.at;
-    let n = end - at;
-    output::put_dword(out, l.count);
-    let wrote = put_run(src, at, n, &mut out[4..]);
+    let at = list.at;
+    let size = end - at;
+    output::put_dword(out, list.count);
+    let wrote = put_run(src, at, size, &mut out[4..]);
     4 + wrote
 }
 
 // A hash, an address and a tag list.
-fn put_entry(src: &[u8], hash: usize, a: Address, tags: Items, end: usize, out: &mut [u8]) -> usize
+fn put_entry(
+    src: &[u8],
+    hash: usize,
+    address: Address,
+    tags: Items,
+    end: usize,
+    out: &mut [u8],
+) -> usize
     requires { ⌜ Run (now src) hash 16 × ListRun (now src) tags end × (26 + (end - tags .at) ≤ length (now out)) ⌝ }
-    ensures { λ r. ⌜ Puts ((hashAt (now (src .entry)) hash ++ encodeAddress (addressOf a)) ++ (dword (tags .count) ++ listBytes (now (src .entry)) tags end))
+    ensures { λ r. ⌜ Puts ((hashAt (now (src .entry)) hash ++ encodeAddress (addressOf address)) ++ (dword (tags .count) ++ listBytes (now (src .entry)) tags end))
         ((16 + (4 + 2)) + (4 + (end - tags .at))) (now (out .entry)) (now (out .exit)) r ⌝ }
 {
-    let first = put_run(src, hash, 16, out);
-    let second = put_address(a, &mut out[first..]);
+    let first = put_run(src, hash, HASH_BYTES, out);
+    let second = put_address(address, &mut out[first..]);
     let at = first + second;
     let wrote = put_dword_list(src, tags, end, &mut out[at..]);
     at + wrote
 }
 
-// A record lies as its hash, then its client and port like an address, then its tags.
-fn put_record(src: &[u8], r: Record, end: usize, out: &mut [u8]) -> usize
-    requires { ⌜ Run (now src) (r .hash) 16 × ListRun (now src) (r .tags) end × (26 + (end - r .tags .at) ≤ length (now out)) ⌝ }
-    ensures { λ w. ⌜ Puts (hashAt (now (src .entry)) (r .hash) ++ (dword (r .client) ++ (word (r .port) ++ (dword (r .tags .count) ++ listBytes (now (src .entry)) (r .tags) end))))
-        (26 + (end - r .tags .at)) (now (out .entry)) (now (out .exit)) w ⌝ }
+// A record is encoded as its hash, then its client and port like an address, then its tags.
+fn put_record(src: &[u8], file: Record, end: usize, out: &mut [u8]) -> usize
+    requires { ⌜ Run (now src) (file .hash) 16 × ListRun (now src) (file .tags) end × (26 + (end - file .tags .at) ≤ length (now out)) ⌝ }
+    ensures { λ w. ⌜ Puts (hashAt (now (src .entry)) (file .hash) ++ (dword (file .client) ++ (word (file .port) ++ (dword (file .tags .count) ++ listBytes (now (src .entry)) (file .tags) end))))
+        (26 + (end - file .tags .at)) (now (out .entry)) (now (out .exit)) w ⌝ }
 {
-    let hash = r.hash;
-    let tags = r.tags;
-    let a = Address {
-        ip: r.client,
-        port: r.port,
+    let hash = file.hash;
+    let tags = file.tags;
+    let address = Address {
+        ip: file.client,
+        port: file.port,
     };
-    put_entry(src, hash, a, tags, end, out)
+    put_entry(src, hash, address, tags, end, out)
 }
 
-fn put_two_texts(src: &[u8], t: Place, u: Place, out: &mut [u8]) -> usize
-    requires { ⌜ (Run (now src) (t .at) (t .len) × (t .len < 65536)) × (Run (now src) (u .at) (u .len) × (u .len < 65536)) × (4 + t .len + u .len ≤ length (now out)) ⌝ }
-    ensures { λ r. ⌜ Puts (encodeString (placeBytes (now (src .entry)) t) ++ encodeString (placeBytes (now (src .entry)) u)) ((2 + t .len) + (2 + u .len))
+fn put_two_texts(src: &[u8], first: Place, second: Place, out: &mut [u8]) -> usize
+    requires { ⌜ (Run (now src) (first .at) (first .len) × (first .len < 65536)) × (Run (now src) (second .at) (second .len) × (second .len < 65536)) × (4 + first .len + second .len ≤ length (now out)) ⌝ }
+    ensures { λ r. ⌜ Puts (encodeString (placeBytes (now (src .entry)) first) ++ encodeString (placeBytes (now (src .entry)) second)) ((2 + first .len) + (2 + second .len))
         (now (out .entry)) (now (out .exit)) r ⌝ }
 {
-    let at = put_text(src, t, out);
-    let wrote = put_text(src, u, &mut out[at..]);
+    let at = put_text(src, first, out);
+    let wrote = put_text(src, second, &mut out[at..]);
     at + wrote
 }
 
-fn put_hash_addresses(src: &[u8], hash: usize, l: Items, end: usize, out: &mut [u8]) -> usize
-    requires { ⌜ Run (now src) hash 16 × ListRun (now src) l end × (l .count < 256) × (17 + (end - l .at) ≤ length (now out)) ⌝ }
-    ensures { λ r. ⌜ Puts (hashAt (now (src .entry)) hash ++ (byte (l .count) ++ listBytes (now (src .entry)) l end)) (16 + (1 + (end - l .at)))
+fn put_hash_addresses(src: &[u8], hash: usize, list: Items, end: usize, out: &mut [u8]) -> usize
+    requires { ⌜ Run (now src) hash 16 × ListRun (now src) list end × (list .count < 256) × (17 + (end - list .at) ≤ length (now out)) ⌝ }
+    ensures { λ r. ⌜ Puts (hashAt (now (src .entry)) hash ++ (byte (list .count) ++ listBytes (now (src .entry)) list end)) (16 + (1 + (end - list .at)))
         (now (out .entry)) (now (out .exit)) r ⌝ }
 {
-    let at = put_run(src, hash, 16, out);
-    let wrote = put_byte_list(src, l, end, &mut out[at..]);
+    let at = put_run(src, hash, HASH_BYTES, out);
+    let wrote = put_byte_list(src, list, end, &mut out[at..]);
     at + wrote
 }
 
-fn put_address_dword(a: Address, n: u32, out: &mut [u8]) -> usize
+fn put_address_dword(address: Address, number: u32, out: &mut [u8]) -> usize
     requires { ⌜ 10 ≤ length (now out) ⌝ }
-    ensures { λ r. ⌜ Puts (encodeAddress (addressOf a) ++ dword n) ((4 + 2) + 4) (now (out .entry)) (now (out .exit)) r ⌝ }
+    ensures { λ r. ⌜ Puts (encodeAddress (addressOf address) ++ dword number) ((4 + 2) + 4) (now (out .entry)) (now (out .exit)) r ⌝ }
 {
-    let at = put_address(a, out);
-    output::put_dword(&mut out[at..], n);
+    let at = put_address(address, out);
+    output::put_dword(&mut out[at..], number);
     at + 4
 }
 
-fn put_records_flag(src: &[u8], l: Items, flag: u8, end: usize, out: &mut [u8]) -> usize
-    requires { ⌜ ListRun (now src) l end × (5 + (end - l .at) ≤ length (now out)) ⌝ }
-    ensures { λ r. ⌜ Puts ((dword (l .count) ++ listBytes (now (src .entry)) l end) ++ byte flag) ((4 + (end - l .at)) + 1)
+fn put_records_flag(src: &[u8], list: Items, flag: u8, end: usize, out: &mut [u8]) -> usize
+    requires { ⌜ ListRun (now src) list end × (5 + (end - list .at) ≤ length (now out)) ⌝ }
+    ensures { λ r. ⌜ Puts ((dword (list .count) ++ listBytes (now (src .entry)) list end) ++ byte flag) ((4 + (end - list .at)) + 1)
         (now (out .entry)) (now (out .exit)) r ⌝ }
 {
-    let at = put_dword_list(src, l, end, out);
+    let at = put_dword_list(src, list, end, out);
     output::put_byte(&mut out[at..], flag);
     at + 1
 }
 
-fn put_record_address(src: &[u8], r: Record, a: Address, end: usize, out: &mut [u8]) -> usize
-    requires { ⌜ Run (now src) (r .hash) 16 × ListRun (now src) (r .tags) end × (32 + (end - r .tags .at) ≤ length (now out)) ⌝ }
-    ensures { λ w. ⌜ Puts ((hashAt (now (src .entry)) (r .hash) ++ (dword (r .client) ++ (word (r .port) ++ (dword (r .tags .count) ++ listBytes (now (src .entry)) (r .tags) end))))
-        ++ encodeAddress (addressOf a)) ((26 + (end - r .tags .at)) + (4 + 2)) (now (out .entry)) (now (out .exit)) w ⌝ }
+fn put_record_address(
+    src: &[u8],
+    file: Record,
+    address: Address,
+    end: usize,
+    out: &mut [u8],
+) -> usize
+    requires { ⌜ Run (now src) (file .hash) 16 × ListRun (now src) (file .tags) end × (32 + (end - file .tags .at) ≤ length (now out)) ⌝ }
+    ensures { λ w. ⌜ Puts ((hashAt (now (src .entry)) (file .hash) ++ (dword (file .client) ++ (word (file .port) ++ (dword (file .tags .count) ++ listBytes (now (src .entry)) (file .tags) end))))
+        ++ encodeAddress (addressOf address)) ((26 + (end - file .tags .at)) + (4 + 2)) (now (out .entry)) (now (out .exit)) w ⌝ }
 {
-    let at = put_record(src, r, end, out);
-    let wrote = put_address(a, &mut out[at..]);
+    let at = put_record(src, file, end, out);
+    let wrote = put_address(address, &mut out[at..]);
     at + wrote
 }
 
-fn put_hello(src: &[u8], r: Record, a: Address, end: usize, out: &mut [u8]) -> usize
-    requires { ⌜ Run (now src) (r .hash) 16 × ListRun (now src) (r .tags) end × (33 + (end - r .tags .at) ≤ length (now out)) ⌝ }
-    ensures { λ w. ⌜ Puts (byte 0x10 ++ ((hashAt (now (src .entry)) (r .hash) ++ (dword (r .client) ++ (word (r .port) ++ (dword (r .tags .count) ++ listBytes (now (src .entry)) (r .tags) end))))
-        ++ encodeAddress (addressOf a))) (1 + ((26 + (end - r .tags .at)) + (4 + 2))) (now (out .entry)) (now (out .exit)) w ⌝ }
+fn put_hello(src: &[u8], client: Record, address: Address, end: usize, out: &mut [u8]) -> usize
+    requires { ⌜ Run (now src) (client .hash) 16 × ListRun (now src) (client .tags) end × (33 + (end - client .tags .at) ≤ length (now out)) ⌝ }
+    ensures { λ w. ⌜ Puts (byte 0x10 ++ ((hashAt (now (src .entry)) (client .hash) ++ (dword (client .client) ++ (word (client .port) ++ (dword (client .tags .count) ++ listBytes (now (src .entry)) (client .tags) end))))
+        ++ encodeAddress (addressOf address))) (1 + ((26 + (end - client .tags .at)) + (4 + 2))) (now (out .entry)) (now (out .exit)) w ⌝ }
 {
-    output::put_byte(out, 0x10);
-    let wrote = put_record_address(src, r, a, end, &mut out[1..]);
+    output::put_byte(out, HELLO_HASH);
+    let wrote = put_record_address(src, client, address, end, &mut out[1..]);
     1 + wrote
 }
 
-fn put_hash_text(src: &[u8], hash: usize, t: Place, out: &mut [u8]) -> usize
-    requires { ⌜ Run (now src) hash 16 × Run (now src) (t .at) (t .len) × (t .len < 65536) × (18 + t .len ≤ length (now out)) ⌝ }
-    ensures { λ r. ⌜ Puts (hashAt (now (src .entry)) hash ++ encodeString (placeBytes (now (src .entry)) t)) (16 + (2 + t .len)) (now (out .entry)) (now (out .exit)) r ⌝ }
+fn put_hash_text(src: &[u8], hash: usize, text: Place, out: &mut [u8]) -> usize
+    requires { ⌜ Run (now src) hash 16 × Run (now src) (text .at) (text .len) × (text .len < 65536) × (18 + text .len ≤ length (now out)) ⌝ }
+    ensures { λ r. ⌜ Puts (hashAt (now (src .entry)) hash ++ encodeString (placeBytes (now (src .entry)) text)) (16 + (2 + text .len)) (now (out .entry)) (now (out .exit)) r ⌝ }
 {
-    let at = put_run(src, hash, 16, out);
-    let wrote = put_text(src, t, &mut out[at..]);
+    let at = put_run(src, hash, HASH_BYTES, out);
+    let wrote = put_text(src, text, &mut out[at..]);
     at + wrote
 }
 
-fn put_hashset(src: &[u8], hash: usize, l: Items, end: usize, out: &mut [u8]) -> usize
-    requires { ⌜ Run (now src) hash 16 × ListRun (now src) l end × (l .count < 65536) × (18 + (end - l .at) ≤ length (now out)) ⌝ }
-    ensures { λ r. ⌜ Puts (hashAt (now (src .entry)) hash ++ (word (l .count) ++ listBytes (now (src .entry)) l end)) (16 + (2 + (end - l .at)))
+fn put_hashset(src: &[u8], hash: usize, list: Items, end: usize, out: &mut [u8]) -> usize
+    requires { ⌜ Run (now src) hash 16 × ListRun (now src) list end × (list .count < 65536) × (18 + (end - list .at) ≤ length (now out)) ⌝ }
+    ensures { λ r. ⌜ Puts (hashAt (now (src .entry)) hash ++ (word (list .count) ++ listBytes (now (src .entry)) list end)) (16 + (2 + (end - list .at)))
         (now (out .entry)) (now (out .exit)) r ⌝ }
 {
-    let at = put_run(src, hash, 16, out);
-    let wrote = put_word_list(src, l, end, &mut out[at..]);
+    let at = put_run(src, hash, HASH_BYTES, out);
+    let wrote = put_word_list(src, list, end, &mut out[at..]);
     at + wrote
 }
 
-fn put_sending_part(src: &[u8], p: SendingPart, out: &mut [u8]) -> usize
-    requires { ⌜ Run (now src) (p .hash) 16 × Run (now src) (p .data .at) (p .data .len) × (24 + p .data .len ≤ length (now out)) ⌝ }
-    ensures { λ r. ⌜ Puts ((hashAt (now (src .entry)) (p .hash) ++ (dword (p .start) ++ dword (p .end))) ++ placeBytes (now (src .entry)) (p .data)) ((16 + (4 + 4)) + p .data .len)
+fn put_sending_part(src: &[u8], part: SendingPart, out: &mut [u8]) -> usize
+    requires { ⌜ Run (now src) (part .hash) 16 × Run (now src) (part .data .at) (part .data .len) × (24 + part .data .len ≤ length (now out)) ⌝ }
+    ensures { λ r. ⌜ Puts ((hashAt (now (src .entry)) (part .hash) ++ (dword (part .start) ++ dword (part .end))) ++ placeBytes (now (src .entry)) (part .data)) ((16 + (4 + 4)) + part .data .len)
         (now (out .entry)) (now (out .exit)) r ⌝ }
 {
-    let hash = p.hash;
-    let data = p.data;
+    let hash = part.hash;
+    let data = part.data;
     let at = data.at;
     let len = data.len;
-    let first = put_run(src, hash, 16, out);
-    let second = put_two_dwords(p.start, p.end, &mut out[first..]);
+    let first = put_run(src, hash, HASH_BYTES, out);
+    let second = put_two_dwords(part.start, part.end, &mut out[first..]);
     let head = first + second;
     let wrote = put_run(src, at, len, &mut out[head..]);
     head + wrote
 }
 
-fn put_request_parts(src: &[u8], p: RequestParts, out: &mut [u8]) -> usize
-    requires { ⌜ Run (now src) (p .hash) 16 × (40 ≤ length (now out)) ⌝ }
-    ensures { λ r. ⌜ Puts ((hashAt (now (src .entry)) (p .hash) ++ encodeTriple (tripleOf (p .starts))) ++ encodeTriple (tripleOf (p .ends))) ((16 + (4 + (4 + 4))) + (4 + (4 + 4)))
+fn put_request_parts(src: &[u8], parts: RequestParts, out: &mut [u8]) -> usize
+    requires { ⌜ Run (now src) (parts .hash) 16 × (40 ≤ length (now out)) ⌝ }
+    ensures { λ r. ⌜ Puts ((hashAt (now (src .entry)) (parts .hash) ++ encodeTriple (tripleOf (parts .starts))) ++ encodeTriple (tripleOf (parts .ends))) ((16 + (4 + (4 + 4))) + (4 + (4 + 4)))
         (now (out .entry)) (now (out .exit)) r ⌝ }
 {
-    let hash = p.hash;
-    let starts = p.starts;
-    let ends = p.ends;
-    let first = put_run(src, hash, 16, out);
+    let hash = parts.hash;
+    let starts = parts.starts;
+    let ends = parts.ends;
+    let first = put_run(src, hash, HASH_BYTES, out);
     let second = put_triple(starts, &mut out[first..]);
     let at = first + second;
     let wrote = put_triple(ends, &mut out[at..]);
     at + wrote
 }
 
-fn put_file_status(src: &[u8], p: FileStatus, out: &mut [u8]) -> usize
-    requires { ⌜ Run (now src) (p .hash) 16 × Run (now src) (p .bits) (packedBytes (p .parts)) × (p .parts < 65536) × (18 + packedBytes (p .parts) ≤ length (now out)) ⌝ }
-    ensures { λ r. ⌜ Puts ((hashAt (now (src .entry)) (p .hash) ++ word (p .parts)) ++ bytesAt (now (src .entry)) (p .bits) (packedBytes (p .parts))) ((16 + 2) + packedBytes (p .parts))
+fn put_file_status(src: &[u8], status: FileStatus, out: &mut [u8]) -> usize
+    requires { ⌜ Run (now src) (status .hash) 16 × Run (now src) (status .bits) (packedBytes (status .parts)) × (status .parts < 65536) × (18 + packedBytes (status .parts) ≤ length (now out)) ⌝ }
+    ensures { λ r. ⌜ Puts ((hashAt (now (src .entry)) (status .hash) ++ word (status .parts)) ++ bytesAt (now (src .entry)) (status .bits) (packedBytes (status .parts))) ((16 + 2) + packedBytes (status .parts))
         (now (out .entry)) (now (out .exit)) r ⌝ }
 {
-    let hash = p.hash;
-    let bits = p.bits;
-    let parts = p.parts;
-    let n = (parts + 7) / 8;
-    let first = put_run(src, hash, 16, out);
+    let hash = status.hash;
+    let bits = status.bits;
+    let parts = status.parts;
+    let size = (parts + 7) / 8;
+    let first = put_run(src, hash, HASH_BYTES, out);
     output::put_word(&mut out[first..], parts as u16);
     let at = first + 2;
-    let wrote = put_run(src, bits, n, &mut out[at..]);
+    let wrote = put_run(src, bits, size, &mut out[at..]);
     at + wrote
 }
 
-fn put_extended_status(p: ExtendedStatus, out: &mut [u8]) -> usize
+fn put_extended_status(status: ExtendedStatus, out: &mut [u8]) -> usize
     requires { ⌜ 16 ≤ length (now out) ⌝ }
-    ensures { λ r. ⌜ Puts ((((byte (p .first) ++ byte (p .second)) ++ byte 0xAA) ++ byte 0x5A) ++ encodeTriple (tripleOf (p .numbers))) ((((1 + 1) + 1) + 1) + (4 + (4 + 4)))
+    ensures { λ r. ⌜ Puts ((((byte (status .first) ++ byte (status .second)) ++ byte 0xAA) ++ byte 0x5A) ++ encodeTriple (tripleOf (status .numbers))) ((((1 + 1) + 1) + 1) + (4 + (4 + 4)))
         (now (out .entry)) (now (out .exit)) r ⌝ }
 {
-    let numbers = p.numbers;
-    output::put_byte(out, p.first);
-    output::put_byte(&mut out[1..], p.second);
-    output::put_byte(&mut out[2..], 0xAA);
-    output::put_byte(&mut out[3..], 0x5A);
+    let numbers = status.numbers;
+    output::put_byte(out, status.first);
+    output::put_byte(&mut out[1..], status.second);
+    output::put_byte(&mut out[2..], EXTENDED_LOW);
+    output::put_byte(&mut out[3..], EXTENDED_HIGH);
     let wrote = put_triple(numbers, &mut out[4..]);
     4 + wrote
 }
@@ -322,36 +349,36 @@ pub fn put_body(src: &[u8], b: Body, end: usize, out: &mut [u8]) -> usize
     match b {
         Body::Nothing => 0,
         Body::Query(q) => put_query(src, q, end, out),
-        Body::Hash(h) => put_run(src, h, 16, out),
-        Body::Dword(n) => put_number(n, out),
-        Body::TwoDwords(n, m) => put_two_dwords(n, m, out),
-        Body::Text(t) => put_text(src, t, out),
-        Body::TwoTexts(t, u) => put_two_texts(src, t, u, out),
-        Body::Address(a) => put_address(a, out),
-        Body::Addresses(l) => put_byte_list(src, l, end, out),
-        Body::HashAddresses(h, l) => put_hash_addresses(src, h, l, end, out),
-        Body::AddressDword(a, n) => put_address_dword(a, n, out),
-        Body::HashAddressTags(h, a, l) => put_entry(src, h, a, l, end, out),
-        Body::Record(r) => put_record(src, r, end, out),
-        Body::Records(l) => put_dword_list(src, l, end, out),
-        Body::RecordsFlag(l, flag) => put_records_flag(src, l, flag, end, out),
-        Body::RecordAddress(r, a) => put_record_address(src, r, a, end, out),
-        Body::Hello(r, a) => put_hello(src, r, a, end, out),
-        Body::HashText(h, t) => put_hash_text(src, h, t, out),
-        Body::Hashset(h, l) => put_hashset(src, h, l, end, out),
-        Body::SendingPart(p) => put_sending_part(src, p, out),
-        Body::RequestParts(p) => put_request_parts(src, p, out),
-        Body::FileStatus(p) => put_file_status(src, p, out),
-        Body::StatusRequest(p) => put_number(p.number, out),
-        Body::Status(t) => put_triple(t, out),
-        Body::ExtendedStatus(p) => put_extended_status(p, out),
+        Body::Hash(hash) => put_run(src, hash, HASH_BYTES, out),
+        Body::Dword(number) => put_number(number, out),
+        Body::TwoDwords(first, second) => put_two_dwords(first, second, out),
+        Body::Text(text) => put_text(src, text, out),
+        Body::TwoTexts(first, second) => put_two_texts(src, first, second, out),
+        Body::Address(address) => put_address(address, out),
+        Body::Addresses(list) => put_byte_list(src, list, end, out),
+        Body::HashAddresses(hash, list) => put_hash_addresses(src, hash, list, end, out),
+        Body::AddressDword(address, number) => put_address_dword(address, number, out),
+        Body::HashAddressTags(hash, address, tags) => put_entry(src, hash, address, tags, end, out),
+        Body::Record(file) => put_record(src, file, end, out),
+        Body::Records(list) => put_dword_list(src, list, end, out),
+        Body::RecordsFlag(list, flag) => put_records_flag(src, list, flag, end, out),
+        Body::RecordAddress(file, address) => put_record_address(src, file, address, end, out),
+        Body::Hello(client, address) => put_hello(src, client, address, end, out),
+        Body::HashText(hash, text) => put_hash_text(src, hash, text, out),
+        Body::Hashset(hash, list) => put_hashset(src, hash, list, end, out),
+        Body::SendingPart(part) => put_sending_part(src, part, out),
+        Body::RequestParts(parts) => put_request_parts(src, parts, out),
+        Body::FileStatus(status) => put_file_status(src, status, out),
+        Body::StatusRequest(request) => put_number(request.number, out),
+        Body::Status(triple) => put_triple(triple, out),
+        Body::ExtendedStatus(status) => put_extended_status(status, out),
     }
 }
 
-// Entries and lists that no reader gave: a caller writes them one after the other into bytes of its own, and hands their place to a
+// Entries and lists that no reader gave: a caller writes them one after the other into bytes of its own, and hands their offset to a
 // writer of messages. Each answers with the number of a refusal, which leaves the output as it was, or with how many bytes it wrote.
 
-// A body by itself. Its values may break a rule of its packet: only places, counts and room are read.
+// A body by itself. Its values may break a rule of its packet: only offsets, counts and room are checked.
 fn write_bare(src: &[u8], b: Body, out: &mut [u8]) -> WriteAnswer
     ensures { λ r. ⌜ WritesBody (now (src .entry)) b (now (out .entry)) (answered r (now (out .exit))) ⌝ }
 {
@@ -362,7 +389,7 @@ fn write_bare(src: &[u8], b: Body, out: &mut [u8]) -> WriteAnswer
     }
     let size = check.size;
     if out.len() < size {
-        return output::refused(10);
+        return output::refused(ROOM);
     }
     let end = check.end;
     let wrote = put_body(src, b, end, out);
@@ -372,36 +399,36 @@ fn write_bare(src: &[u8], b: Body, out: &mut [u8]) -> WriteAnswer
     }
 }
 
-pub fn write_address(a: Address, out: &mut [u8]) -> WriteAnswer
-    ensures { λ r. ⌜ answered r (now (out .exit)) ≡ writeAddress (addressOf a) (now (out .entry)) ⌝ }
+pub fn write_address(address: Address, out: &mut [u8]) -> WriteAnswer
+    ensures { λ r. ⌜ answered r (now (out .exit)) ≡ writeAddress (addressOf address) (now (out .entry)) ⌝ }
 {
-    if out.len() < 6 {
-        return output::refused(10);
+    if out.len() < ADDRESS_BYTES {
+        return output::refused(ROOM);
     }
-    let wrote = put_address(a, out);
+    let wrote = put_address(address, out);
     WriteAnswer {
         number: 0,
         length: wrote,
     }
 }
 
-// A record, whose hash and tags lie at places of `src`.
-pub fn write_record(src: &[u8], r: Record, out: &mut [u8]) -> WriteAnswer
-    ensures { λ w. ⌜ answered w (now (out .exit)) ≡ writeRecord (now (src .entry)) r (now (out .entry)) ⌝ }
+// A record, whose hash and tags are encoded at offsets of `src`.
+pub fn write_record(src: &[u8], file: Record, out: &mut [u8]) -> WriteAnswer
+    ensures { λ w. ⌜ answered w (now (out .exit)) ≡ writeRecord (now (src .entry)) file (now (out .entry)) ⌝ }
 {
-    write_bare(src, Body::Record(r), out)
+    write_bare(src, Body::Record(file), out)
 }
 
-// The addresses that lie at a place of `src`, after a BYTE that counts them.
-pub fn write_addresses(src: &[u8], l: Items, out: &mut [u8]) -> WriteAnswer
-    ensures { λ r. ⌜ answered r (now (out .exit)) ≡ writeAddresses (now (src .entry)) l (now (out .entry)) ⌝ }
+// The addresses that are encoded at an offset of `src`, after a BYTE that counts them.
+pub fn write_addresses(src: &[u8], list: Items, out: &mut [u8]) -> WriteAnswer
+    ensures { λ r. ⌜ answered r (now (out .exit)) ≡ writeAddresses (now (src .entry)) list (now (out .entry)) ⌝ }
 {
-    write_bare(src, Body::Addresses(l), out)
+    write_bare(src, Body::Addresses(list), out)
 }
 
-// The records that lie at a place of `src`, after a DWORD that counts them.
-pub fn write_records(src: &[u8], l: Items, out: &mut [u8]) -> WriteAnswer
-    ensures { λ r. ⌜ answered r (now (out .exit)) ≡ writeRecords (now (src .entry)) l (now (out .entry)) ⌝ }
+// The records that are encoded at an offset of `src`, after a DWORD that counts them.
+pub fn write_records(src: &[u8], list: Items, out: &mut [u8]) -> WriteAnswer
+    ensures { λ r. ⌜ answered r (now (out .exit)) ≡ writeRecords (now (src .entry)) list (now (out .entry)) ⌝ }
 {
-    write_bare(src, Body::Records(l), out)
+    write_bare(src, Body::Records(list), out)
 }

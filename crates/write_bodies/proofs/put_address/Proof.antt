@@ -1,4 +1,4 @@
-use Rattle.write_bodies.proofs.Laws.{puts, then}
+use Rattle.write_items.proofs.Puts.{puts, then}
 use Rattle.format.proofs.Codec.{length-littleEndian}
 use Rattle.format.specs.Layout.{dword, encodeAddress, word}
 use borrow.Author.Needs.{needs}
@@ -26,8 +26,10 @@ same-length c = search needs
 returns : tie.Need-returns
 unfolding encodeAddress
 returns c =
-    then (puts (dword (c .before .before .before .before .before .before .before .before .before .args .a .ip)) 4 (length-littleEndian 4 _) (c .before .before .before .before .before .before .put-dword .ensures))
-    (puts (word (c .before .before .before .before .before .before .before .before .before .args .a .port)) 2 (length-littleEndian 2 _) (c .before .before .put-word .ensures))
+    let put-dword-at = c .before .before .before .before .before .before in
+    let start = put-dword-at .before .before .before in
+    then (puts (dword (start .args .address .ip)) 4 (length-littleEndian 4 _) (put-dword-at .put-dword .ensures))
+    (puts (word (start .args .address .port)) 2 (length-littleEndian 2 _) (c .before .before .put-word .ensures))
 
 pub put-address-spec : {M : Type 1} → statement M
 put-address-spec =

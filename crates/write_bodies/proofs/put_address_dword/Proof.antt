@@ -1,4 +1,4 @@
-use Rattle.write_bodies.proofs.Laws.{puts, then}
+use Rattle.write_items.proofs.Puts.{puts, then}
 use Rattle.format.proofs.Codec.{length-littleEndian}
 use Rattle.format.specs.Layout.{dword}
 use borrow.Author.Needs.{needs}
@@ -27,7 +27,10 @@ same-length : tie.Need-same-length
 same-length c = search needs
 
 returns : tie.Need-returns
-returns c = then (c .before .before .before .before .before .before .put-address .ensures) (puts (dword (c .before .before .before .before .before .before .before .before .before .args .n)) 4 (length-littleEndian 4 _) (c .before .before .put-dword .ensures))
+returns c =
+    let put-address-at = c .before .before .before .before .before .before in
+    let start = put-address-at .before .before .before in
+    then (put-address-at .put-address .ensures) (puts (dword (start .args .number)) 4 (length-littleEndian 4 _) (c .before .before .put-dword .ensures))
 
 pub put-address-dword-spec : {M : Type 1} → statement M
 put-address-dword-spec =

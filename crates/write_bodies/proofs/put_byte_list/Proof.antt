@@ -1,12 +1,13 @@
-use Rattle.write_bodies.proofs.Laws.{puts, then}
+-- The count and the run of the items: `then` of Puts.
+use Rattle.write_items.proofs.Puts.{puts, then}
 use Rattle.format.proofs.Codec.{length-littleEndian}
 use Rattle.format.specs.Layout.{byte}
 use borrow.Author.Needs.{needs}
 use Rattle.write_bodies.proofs.put_byte_list.Statement.{statement}
 use Rattle.write_bodies.proofs.put_byte_list.Tie as tie
 
-sub-n : tie.Need-sub-n
-sub-n c = search needs
+sub-size : tie.Need-sub-size
+sub-size c = search needs
 
 byte-count-requires : tie.Need-byte-count-requires
 byte-count-requires c κs = search needs
@@ -34,14 +35,17 @@ same-length c = search needs
 
 returns : tie.Need-returns
 returns c =
-    let counted = rw (c .before .before .before .before .before .before .before .before .byte-count .ensures) at (c .before .before .before .before .before .before .put-byte .ensures) in
-    then (puts (byte (c .before .before .before .before .before .before .before .before .before .before .before .args .l .count)) 1 (length-littleEndian 1 _) counted) (c .before .before .put-run .ensures)
+    let put-byte-at = c .before .before .before .before .before .before in
+    let byte-count-at = put-byte-at .before .before in
+    let start = byte-count-at .before .before .before in
+    let counted = rw (byte-count-at .byte-count .ensures) at (put-byte-at .put-byte .ensures) in
+    then (puts (byte (start .args .list .count)) 1 (length-littleEndian 1 _) counted) (c .before .before .put-run .ensures)
 
 pub put-byte-list-spec : {M : Type 1} → statement M
 put-byte-list-spec =
     tie.close
     (tie.spec
-    sub-n
+    sub-size
     byte-count-requires
     put-byte-requires
     sub-put-run

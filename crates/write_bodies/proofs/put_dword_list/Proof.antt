@@ -1,12 +1,13 @@
-use Rattle.write_bodies.proofs.Laws.{puts, then}
+-- The count and the run of the items: `then` of Puts.
+use Rattle.write_items.proofs.Puts.{puts, then}
 use Rattle.format.proofs.Codec.{length-littleEndian}
 use Rattle.format.specs.Layout.{dword}
 use borrow.Author.Needs.{needs}
 use Rattle.write_bodies.proofs.put_dword_list.Statement.{statement}
 use Rattle.write_bodies.proofs.put_dword_list.Tie as tie
 
-sub-n : tie.Need-sub-n
-sub-n c = search needs
+sub-size : tie.Need-sub-size
+sub-size c = search needs
 
 put-dword-requires : tie.Need-put-dword-requires
 put-dword-requires c κs = search needs
@@ -30,13 +31,16 @@ same-length : tie.Need-same-length
 same-length c = search needs
 
 returns : tie.Need-returns
-returns c = then (puts (dword (c .before .before .before .before .before .before .before .before .before .before .args .l .count)) 4 (length-littleEndian 4 _) (c .before .before .before .before .before .before .put-dword .ensures)) (c .before .before .put-run .ensures)
+returns c =
+    let put-dword-at = c .before .before .before .before .before .before in
+    let start = put-dword-at .before .before .before .before in
+    then (puts (dword (start .args .list .count)) 4 (length-littleEndian 4 _) (put-dword-at .put-dword .ensures)) (c .before .before .put-run .ensures)
 
 pub put-dword-list-spec : {M : Type 1} → statement M
 put-dword-list-spec =
     tie.close
     (tie.spec
-    sub-n
+    sub-size
     put-dword-requires
     sub-put-run
     part-put-run-start

@@ -1,4 +1,5 @@
-use Rattle.write_bodies.proofs.Laws.{then}
+-- The parts are put one after the other: `then` of Puts.
+use Rattle.write_items.proofs.Puts.{then}
 use borrow.Author.Needs.{needs}
 use Rattle.write_bodies.proofs.put_entry.Statement.{statement}
 use Rattle.write_bodies.proofs.put_entry.Tie as tie
@@ -40,7 +41,10 @@ same-length : tie.Need-same-length
 same-length c = search needs
 
 returns : tie.Need-returns
-returns c = then (then (c .before .before .before .before .before .before .before .before .before .before .put-run .ensures) (c .before .before .before .before .before .before .put-address .ensures)) (c .before .before .put-dword-list .ensures)
+returns c =
+    let put-address-at = c .before .before .before .before .before .before in
+    let put-run-at = put-address-at .before .before .before .before in
+    then (then (put-run-at .put-run .ensures) (put-address-at .put-address .ensures)) (c .before .before .put-dword-list .ensures)
 
 pub put-entry-spec : {M : Type 1} → statement M
 put-entry-spec =

@@ -1,4 +1,5 @@
-use Rattle.write_bodies.proofs.Laws.{puts, then}
+-- The parts are put one after the other: `then` of Puts.
+use Rattle.write_items.proofs.Puts.{puts, then}
 use Rattle.format.proofs.Codec.{length-littleEndian}
 use Rattle.format.specs.Layout.{byte}
 use borrow.Author.Needs.{needs}
@@ -64,11 +65,16 @@ same-length c = search needs
 
 returns : tie.Need-returns
 returns c =
-    let p = c .before .before .before .before .before .before .before .before .before .before .before .before .before .before .before .before .before .before .before .before .before .before .args .p in
-    let first = puts (byte (p .first)) 1 (length-littleEndian 1 _) (c .before .before .before .before .before .before .before .before .before .before .before .before .before .before .before .before .before .before .put-byte .ensures) in
-    let second = puts (byte (p .second)) 1 (length-littleEndian 1 _) (c .before .before .before .before .before .before .before .before .before .before .before .before .before .before .put-byte2 .ensures) in
-    let third = puts (byte 0xAA) 1 (length-littleEndian 1 _) (c .before .before .before .before .before .before .before .before .before .before .put-byte3 .ensures) in
-    let fourth = puts (byte 0x5A) 1 (length-littleEndian 1 _) (c .before .before .before .before .before .before .put-byte4 .ensures) in
+    let put-byte4-at = c .before .before .before .before .before .before in
+    let put-byte3-at = put-byte4-at .before .before .before .before in
+    let put-byte2-at = put-byte3-at .before .before .before .before in
+    let put-byte-at = put-byte2-at .before .before .before .before in
+    let start = put-byte-at .before .before .before .before in
+    let p = start .args .status in
+    let first = puts (byte (p .first)) 1 (length-littleEndian 1 _) (put-byte-at .put-byte .ensures) in
+    let second = puts (byte (p .second)) 1 (length-littleEndian 1 _) (put-byte2-at .put-byte2 .ensures) in
+    let third = puts (byte 0xAA) 1 (length-littleEndian 1 _) (put-byte3-at .put-byte3 .ensures) in
+    let fourth = puts (byte 0x5A) 1 (length-littleEndian 1 _) (put-byte4-at .put-byte4 .ensures) in
     then (then (then (then first second) third) fourth) (c .before .before .put-triple .ensures)
 
 pub put-extended-status-spec : {M : Type 1} → statement M

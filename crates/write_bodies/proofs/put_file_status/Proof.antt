@@ -1,11 +1,12 @@
-use Rattle.write_bodies.proofs.Laws.{puts, then}
+-- The parts are put one after the other: `then` of Puts.
+use Rattle.write_items.proofs.Puts.{puts, then}
 use Rattle.format.proofs.Codec.{length-littleEndian}
 use Rattle.format.specs.Layout.{word}
 use borrow.Author.Needs.{needs}
 use Rattle.write_bodies.proofs.put_file_status.Statement.{statement}
 use Rattle.write_bodies.proofs.put_file_status.Tie as tie
 
-add-n : tie.Need-add-n
+add-n : tie.Need-add-size
 add-n c = search needs
 
 put-run-requires : tie.Need-put-run-requires
@@ -49,8 +50,11 @@ same-length c = search needs
 
 returns : tie.Need-returns
 returns c =
+    let put-word-at = c .before .before .before .before .before .before in
+    let put-run-at = put-word-at .before .before .before .before in
+    let start = put-run-at .before .before .before .before in
     then
-    (then (c .before .before .before .before .before .before .before .before .before .before .put-run .ensures) (puts (word (c .before .before .before .before .before .before .before .before .before .before .before .before .before .before .args .p .parts)) 2 (length-littleEndian 2 _) (c .before .before .before .before .before .before .put-word .ensures)))
+    (then (put-run-at .put-run .ensures) (puts (word (start .args .status .parts)) 2 (length-littleEndian 2 _) (put-word-at .put-word .ensures)))
     (c .before .before .put-run2 .ensures)
 
 pub put-file-status-spec : {M : Type 1} → statement M

@@ -1,4 +1,4 @@
-use Rattle.write_bodies.proofs.Laws.{then}
+use Rattle.write_items.proofs.Puts.{then}
 use borrow.Author.Needs.{needs}
 use Rattle.write_bodies.proofs.put_hash_text.Statement.{statement}
 use Rattle.write_bodies.proofs.put_hash_text.Tie as tie
@@ -25,7 +25,9 @@ same-length : tie.Need-same-length
 same-length c = search needs
 
 returns : tie.Need-returns
-returns c = then (c .before .before .before .before .before .before .put-run .ensures) (c .before .before .put-text .ensures)
+returns c =
+    let put-run-at = c .before .before .before .before .before .before in
+    then (put-run-at .put-run .ensures) (c .before .before .put-text .ensures)
 
 pub put-hash-text-spec : {M : Type 1} → statement M
 put-hash-text-spec =

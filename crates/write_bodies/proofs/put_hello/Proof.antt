@@ -1,4 +1,4 @@
-use Rattle.write_bodies.proofs.Laws.{puts, then}
+use Rattle.write_items.proofs.Puts.{puts, then}
 use Rattle.format.proofs.Codec.{length-littleEndian}
 use Rattle.format.specs.Layout.{byte}
 use borrow.Author.Needs.{needs}
@@ -27,7 +27,9 @@ same-length : tie.Need-same-length
 same-length c = search needs
 
 returns : tie.Need-returns
-returns c = then (puts (byte 0x10) 1 (length-littleEndian 1 _) (c .before .before .before .before .before .before .put-byte .ensures)) (c .before .before .put-record-address .ensures)
+returns c =
+    let put-byte-at = c .before .before .before .before .before .before in
+    then (puts (byte 0x10) 1 (length-littleEndian 1 _) (put-byte-at .put-byte .ensures)) (c .before .before .put-record-address .ensures)
 
 pub put-hello-spec : {M : Type 1} → statement M
 put-hello-spec =

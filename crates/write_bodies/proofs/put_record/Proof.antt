@@ -1,4 +1,4 @@
-use Rattle.write_bodies.proofs.Laws.{regrouped}
+use Rattle.write_items.proofs.Puts.{regrouped}
 use mathlib.Core.List.{append-assoc}
 use native.Mathlib.Omega.{arith}
 use Rattle.format.specs.Layout.{encodeAddress}

@@ -1,4 +1,4 @@
-use Rattle.write_bodies.proofs.Laws.{then}
+use Rattle.write_items.proofs.Puts.{then}
 use borrow.Author.Needs.{needs}
 use Rattle.write_bodies.proofs.put_record_address.Statement.{statement}
 use Rattle.write_bodies.proofs.put_record_address.Tie as tie
@@ -25,7 +25,9 @@ same-length : tie.Need-same-length
 same-length c = search needs
 
 returns : tie.Need-returns
-returns c = then (c .before .before .before .before .before .before .put-record .ensures) (c .before .before .put-address .ensures)
+returns c =
+    let put-record-at = c .before .before .before .before .before .before in
+    then (put-record-at .put-record .ensures) (c .before .before .put-address .ensures)
 
 pub put-record-address-spec : {M : Type 1} → statement M
 put-record-address-spec =

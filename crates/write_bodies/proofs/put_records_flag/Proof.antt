@@ -1,4 +1,4 @@
-use Rattle.write_bodies.proofs.Laws.{puts, then}
+use Rattle.write_items.proofs.Puts.{puts, then}
 use Rattle.format.proofs.Codec.{length-littleEndian}
 use Rattle.format.specs.Layout.{byte}
 use borrow.Author.Needs.{needs}
@@ -27,7 +27,10 @@ same-length : tie.Need-same-length
 same-length c = search needs
 
 returns : tie.Need-returns
-returns c = then (c .before .before .before .before .before .before .put-dword-list .ensures) (puts (byte (c .before .before .before .before .before .before .before .before .before .before .args .flag)) 1 (length-littleEndian 1 _) (c .before .before .put-byte .ensures))
+returns c =
+    let put-dword-list-at = c .before .before .before .before .before .before in
+    let start = put-dword-list-at .before .before .before .before in
+    then (put-dword-list-at .put-dword-list .ensures) (puts (byte (start .args .flag)) 1 (length-littleEndian 1 _) (c .before .before .put-byte .ensures))
 
 pub put-records-flag-spec : {M : Type 1} → statement M
 put-records-flag-spec =

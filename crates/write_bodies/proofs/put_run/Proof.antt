@@ -1,4 +1,4 @@
-use Rattle.write_bodies.proofs.Laws.{puts}
+use Rattle.write_items.proofs.Puts.{puts}
 use borrow.Author.Needs.{needs}
 use Rattle.write_bodies.proofs.put_run.Statement.{statement}
 use Rattle.write_bodies.proofs.put_run.Tie as tie
@@ -13,7 +13,9 @@ same-length : tie.Need-same-length
 same-length c = search needs
 
 returns : tie.Need-returns
-returns c = puts _ _ (c .before .before .before .before .before .before .before .pre .0) (rw (c .before .before .before .before .bytes-at .ensures) at (c .before .before .copy .ensures))
+returns c =
+    let start = c .before .before .before .before .before .before .before in
+    puts _ _ (start .pre .0) (rw (c .before .before .before .before .bytes-at .ensures) at (c .before .before .copy .ensures))
 
 pub put-run-spec : {M : Type 1} → statement M
 put-run-spec = tie.close (tie.spec bytes-at-requires copy-requires same-length returns)

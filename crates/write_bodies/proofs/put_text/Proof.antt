@@ -1,4 +1,4 @@
-use Rattle.write_bodies.proofs.Laws.{string-puts}
+use Rattle.write_items.proofs.Puts.{string-puts}
 use borrow.Author.Needs.{needs}
 use Rattle.write_bodies.proofs.put_text.Statement.{statement}
 use Rattle.write_bodies.proofs.put_text.Tie as tie
@@ -13,7 +13,9 @@ same-length : tie.Need-same-length
 same-length c = search needs
 
 returns : tie.Need-returns
-returns c = string-puts (c .before .before .before .before .bytes-at .ensures) (c .before .before .before .before .before .before .before .pre .0) (c .before .before .put-string .ensures .0) (c .before .before .put-string .ensures .1)
+returns c =
+    let start = c .before .before .before .before .before .before .before in
+    string-puts (c .before .before .before .before .bytes-at .ensures) (start .pre .0) (c .before .before .put-string .ensures .0) (c .before .before .put-string .ensures .1)
 
 pub put-text-spec : {M : Type 1} → statement M
 put-text-spec = tie.close (tie.spec bytes-at-requires put-string-requires same-length returns)

@@ -1,4 +1,4 @@
-use Rattle.write_bodies.proofs.Laws.{puts, then}
+use Rattle.write_items.proofs.Puts.{puts, then}
 use Rattle.format.proofs.Codec.{length-littleEndian}
 use Rattle.format.specs.Layout.{dword}
 use borrow.Author.Needs.{needs}
@@ -27,7 +27,10 @@ same-length : tie.Need-same-length
 same-length c = search needs
 
 returns : tie.Need-returns
-returns c = then (puts (dword (c .before .before .before .before .before .before .before .before .before .args .t .first)) 4 (length-littleEndian 4 _) (c .before .before .before .before .before .before .put-dword .ensures)) (c .before .before .put-two-dwords .ensures)
+returns c =
+    let put-dword-at = c .before .before .before .before .before .before in
+    let start = put-dword-at .before .before .before in
+    then (puts (dword (start .args .triple .first)) 4 (length-littleEndian 4 _) (put-dword-at .put-dword .ensures)) (c .before .before .put-two-dwords .ensures)
 
 pub put-triple-spec : {M : Type 1} → statement M
 put-triple-spec =

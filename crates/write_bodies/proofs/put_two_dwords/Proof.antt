@@ -1,4 +1,4 @@
-use Rattle.write_bodies.proofs.Laws.{puts, then}
+use Rattle.write_items.proofs.Puts.{puts, then}
 use Rattle.format.proofs.Codec.{length-littleEndian}
 use Rattle.format.specs.Layout.{dword}
 use borrow.Author.Needs.{needs}
@@ -25,8 +25,10 @@ same-length c = search needs
 
 returns : tie.Need-returns
 returns c =
-    then (puts (dword (c .before .before .before .before .before .before .before .before .before .args .a)) 4 (length-littleEndian 4 _) (c .before .before .before .before .before .before .put-dword .ensures))
-    (puts (dword (c .before .before .before .before .before .before .before .before .before .args .b)) 4 (length-littleEndian 4 _) (c .before .before .put-dword2 .ensures))
+    let put-dword-at = c .before .before .before .before .before .before in
+    let start = put-dword-at .before .before .before in
+    then (puts (dword (start .args .first)) 4 (length-littleEndian 4 _) (put-dword-at .put-dword .ensures))
+    (puts (dword (start .args .second)) 4 (length-littleEndian 4 _) (c .before .before .put-dword2 .ensures))
 
 pub put-two-dwords-spec : {M : Type 1} → statement M
 put-two-dwords-spec =

@@ -1,4 +1,4 @@
-use Rattle.write_bodies.proofs.Laws.{then}
+use Rattle.write_items.proofs.Puts.{then}
 use borrow.Author.Needs.{needs}
 use Rattle.write_bodies.proofs.put_two_texts.Statement.{statement}
 use Rattle.write_bodies.proofs.put_two_texts.Tie as tie
@@ -25,7 +25,9 @@ same-length : tie.Need-same-length
 same-length c = search needs
 
 returns : tie.Need-returns
-returns c = then (c .before .before .before .before .before .before .put-text .ensures) (c .before .before .put-text2 .ensures)
+returns c =
+    let put-text-at = c .before .before .before .before .before .before in
+    then (put-text-at .put-text .ensures) (c .before .before .put-text2 .ensures)
 
 pub put-two-texts-spec : {M : Type 1} → statement M
 put-two-texts-spec =

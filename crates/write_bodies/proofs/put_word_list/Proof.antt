@@ -1,12 +1,13 @@
-use Rattle.write_bodies.proofs.Laws.{puts, then}
+-- The count and the run of the items: `then` of Puts.
+use Rattle.write_items.proofs.Puts.{puts, then}
 use Rattle.format.proofs.Codec.{length-littleEndian}
 use Rattle.format.specs.Layout.{word}
 use borrow.Author.Needs.{needs}
 use Rattle.write_bodies.proofs.put_word_list.Statement.{statement}
 use Rattle.write_bodies.proofs.put_word_list.Tie as tie
 
-sub-n : tie.Need-sub-n
-sub-n c = search needs
+sub-size : tie.Need-sub-size
+sub-size c = search needs
 
 word-count-requires : tie.Need-word-count-requires
 word-count-requires c κs = search needs
@@ -34,14 +35,17 @@ same-length c = search needs
 
 returns : tie.Need-returns
 returns c =
-    let counted = rw (c .before .before .before .before .before .before .before .before .word-count .ensures) at (c .before .before .before .before .before .before .put-word .ensures) in
-    then (puts (word (c .before .before .before .before .before .before .before .before .before .before .before .args .l .count)) 2 (length-littleEndian 2 _) counted) (c .before .before .put-run .ensures)
+    let put-word-at = c .before .before .before .before .before .before in
+    let word-count-at = put-word-at .before .before in
+    let start = word-count-at .before .before .before in
+    let counted = rw (word-count-at .word-count .ensures) at (put-word-at .put-word .ensures) in
+    then (puts (word (start .args .list .count)) 2 (length-littleEndian 2 _) counted) (c .before .before .put-run .ensures)
 
 pub put-word-list-spec : {M : Type 1} → statement M
 put-word-list-spec =
     tie.close
     (tie.spec
-    sub-n
+    sub-size
     word-count-requires
     put-word-requires
     sub-put-run

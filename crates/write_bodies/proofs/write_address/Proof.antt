@@ -9,7 +9,7 @@ refused-requires : tie.Need-refused-requires
 refused-requires c κs = search needs
 
 returns : tie.Need-returns
-returns c = rw (c .refused .ensures) (address-roomless (addressOf (c .before .before .before .args .a)) (now (c .before .before .before .args .out)) (c .before .if1 .taken))
+returns c = rw (c .refused .ensures) (address-roomless (addressOf (c .before .before .before .args .address)) (now (c .before .before .before .args .out)) (c .before .if1 .taken))
 
 put-address-requires : tie.Need-put-address-requires
 put-address-requires c κs = search needs
@@ -18,7 +18,9 @@ same-length : tie.Need-same-length
 same-length c = search needs
 
 returns-2 : tie.Need-returns-2
-returns-2 c = address-writes (addressOf (c .before .before .before .before .before .before .args .a)) (now (c .before .before .before .before .before .before .args .out)) (c .before .before .before .before .if1 .left) (c .before .before .put-address .ensures)
+returns-2 c =
+    let start = c .before .before .before .before .before .before in
+    address-writes (addressOf (start .args .address)) (now (start .args .out)) (c .before .before .before .before .if1 .left) (c .before .before .put-address .ensures)
 
 pub write-address-spec : {M : Type 1} → statement M
 write-address-spec =

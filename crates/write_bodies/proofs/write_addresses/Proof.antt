@@ -13,8 +13,10 @@ same-length c = search needs
 
 returns : tie.Need-returns
 returns c =
-    let s = now (c .before .before .before .before .before .before .args .src) in
-    addresses-writes s (slice-bytes s (c .before .before .before .before .before .shared-slice-known .given)) (now (c .before .before .before .before .before .before .args .out)) (c .before .before .before .before .before .before .args .l) (c .before .before .write-bare .ensures)
+    let known-at = c .before .before .before .before .before in
+    let start = known-at .before in
+    let s = now (start .args .src) in
+    addresses-writes s (slice-bytes s (known-at .shared-slice-known .given)) (now (start .args .out)) (start .args .list) (c .before .before .write-bare .ensures)
 
 pub write-addresses-spec : {M : Type 1} → statement M
 write-addresses-spec = tie.close (tie.spec write-bare-requires same-length returns)

@@ -14,8 +14,10 @@ same-length c = search needs
 
 returns : tie.Need-returns
 returns c =
-    let s = now (c .before .before .before .before .before .before .args .src) in
-    record-writes s (slice-bytes s (c .before .before .before .before .before .shared-slice-known .given)) (now (c .before .before .before .before .before .before .args .out)) (c .before .before .before .before .before .before .args .r) (omega (arith, c .before .before .before .before .before .before .good .1)) (c .before .before .write-bare .ensures)
+    let known-at = c .before .before .before .before .before in
+    let start = known-at .before in
+    let s = now (start .args .src) in
+    record-writes s (slice-bytes s (known-at .shared-slice-known .given)) (now (start .args .out)) (start .args .file) (omega (arith, start .good .1)) (c .before .before .write-bare .ensures)
 
 pub write-record-spec : {M : Type 1} → statement M
 write-record-spec = tie.close (tie.spec write-bare-requires same-length returns)

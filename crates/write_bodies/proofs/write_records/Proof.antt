@@ -14,8 +14,10 @@ same-length c = search needs
 
 returns : tie.Need-returns
 returns c =
-    let s = now (c .before .before .before .before .before .before .args .src) in
-    records-writes s (slice-bytes s (c .before .before .before .before .before .shared-slice-known .given)) (now (c .before .before .before .before .before .before .args .out)) (c .before .before .before .before .before .before .args .l) (omega (arith, c .before .before .before .before .before .before .good .1)) (c .before .before .write-bare .ensures)
+    let known-at = c .before .before .before .before .before in
+    let start = known-at .before in
+    let s = now (start .args .src) in
+    records-writes s (slice-bytes s (known-at .shared-slice-known .given)) (now (start .args .out)) (start .args .list) (omega (arith, start .good .1)) (c .before .before .write-bare .ensures)
 
 pub write-records-spec : {M : Type 1} → statement M
 write-records-spec = tie.close (tie.spec write-bare-requires same-length returns)
