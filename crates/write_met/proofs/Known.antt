@@ -18,17 +18,18 @@ use Rattle.format.specs.Rules.{Byte, Bytes, Dword, ValidFileEntry, metCeiling, 
 use Rattle.format.specs.Decoding.{Rule, bytesAt, fault, got, refused}
 use Rattle.format.specs.PacketOrder.{decodeOpening}
 use Rattle.format.specs.MetOrder.{decode, decodeKnownMet}
-use Rattle.format.specs.Writing.{CountsFit, FileEntryFits, Judged, Written, refusedFor}
+use Rattle.format.specs.Writing.{CountsFit, FileEntryFits, Judged, refusedFor}
 use Rattle.format.proofs.Codec.{anywhere, bytes-append, bytes-littleEndian, codec-byte, length-littleEndian}
 use Rattle.format.proofs.MetFiles.{codec-entry}
 use Rattle.format.proofs.Writing.{all-map, ceiling-judged, entry-needed, tags-fit, valid-judged}
 use Rattle.met.specs.declared.KnownMet.{KnownMet}
 use Rattle.met.specs.MetAnswers.{knownMetIn}
-use Rattle.format.specs.RoundTrip.{RoundTrip, WritesAt}
 use Rattle.write_met.specs.MetWrites.{knownThere}
 use Rattle.write_met.specs.Lengths.{openingNumber}
-use Rattle.write_items.proofs.Answers.{Ready, promised, writes-ready}
-use Rattle.write_met.proofs.Lists.{Here, list-bytes, list-here}
+use Rattle.wire.proofs.Replies.{slice-bytes}
+use Rattle.write_items.proofs.Listed.{items-bytes}
+use Rattle.write_items.proofs.Answers.{Promised, Ready, message-ready}
+use Rattle.write_met.proofs.Lists.{Here, list-here}
 
 file-fits : (e : messages.FileEntry) → ValidFileEntry e → FileEntryFits e
 file-fits e h = (h .parts .0, tags-fit (e .tags) (h .tags))
@@ -39,9 +40,20 @@ pub wrong-opening : (opening : ℕ) → Byte opening → eqb opening 0x0E ≡ fa
 unfolding decodeOpening
 wrong-opening opening h e rest = rw (codec-byte {p = anywhere} .complete (byte opening ++ rest) 0 opening rest h refl (omega arith) tt, e) refl
 
+-- What the writer owes, once the entries are found to have n bytes and the number is known.
+abbrev pub KnownReady : List ℕ → KnownMet → (n number : ℕ) → Type 0
+KnownReady s m n number =
+    Ready (Promised knownMet (knownThere s m) (knownMetIn s m)) number (byte (m .opening) ++ (dword (m .entries .count) ++ bytesAt s (m .entries .at) n)) (5 + n)
+
 module _ (s : List ℕ) (known : (i : ℕ) → Fits w8 (getD s i 0)) (m : KnownMet) where
   abbrev file : messages.KnownMet
   file = knownMetIn s m
+
+  known-encoding : Bytes (encodeKnownMet file)
+  unfolding encodeKnownMet
+  known-encoding =
+      bytes-append (byte (m .opening)) _ (bytes-littleEndian 1 (m .opening))
+      (bytes-append (dword (length (file .entries))) _ (bytes-littleEndian 4 (length (file .entries))) (items-bytes codec-entry entry-needed s (slice-bytes s known) (m .entries)))
 
   module _ (n : ℕ) (there : got tt (m .entries .at + n) ≡ knownThere s m) where
     known-here : Here encodeFileEntry ValidFileEntry s (m .entries) (file .entries) n
@@ -77,21 +89,9 @@ module _ (s : List ℕ) (known : (i : ℕ) → Fits w8 (getD s i 0)) (m : KnownM
             refusedFor fit (fault Rule.opening 0 1)
             (rw (le-leb (length (encodeKnownMet file)) metCeiling within, wrong-opening (m .opening) small e (dword (length (file .entries)) ++ encodeAll encodeFileEntry (file .entries))) refl)
 
-    pub known-ready : {number : ℕ} → number ≡ openingNumber (m .opening) (5 + n) → Byte (m .opening) → Dword (m .entries .count) →
-        Ready (WritesAt knownMet (knownThere s m) file) number (byte (m .opening) ++ (dword (m .entries .count) ++ bytesAt s (m .entries .at) n)) (5 + n)
+    pub known-ready : {number : ℕ} → number ≡ openingNumber (m .opening) (5 + n) → Byte (m .opening) → Dword (m .entries .count) → KnownReady s m n number
     known-ready e small few =
-        writes-ready there (subst (Judged knownMet file) (sym e) (known-judged small few)) known-bytes (ap length known-bytes ∙ known-size)
-
-  known-encoding : Bytes (encodeKnownMet file)
-  unfolding encodeKnownMet
-  known-encoding =
-      bytes-append (byte (m .opening)) _ (bytes-littleEndian 1 (m .opening))
-      (bytes-append (dword (length (file .entries))) _ (bytes-littleEndian 4 (length (file .entries))) (list-bytes codec-entry entry-needed s known (m .entries)))
-
-  -- both promises of the writer
-  pub known-promises : {output : List ℕ} {w : Written} → WritesAt knownMet (knownThere s m) file output w →
-      WritesAt knownMet (knownThere s m) file output w × RoundTrip knownMet (knownThere s m) file output w
-  known-promises = promised (λ _. known-encoding)
+        message-ready there (subst (Judged knownMet file) (sym e) (known-judged small few)) known-bytes (subst Bytes (sym known-bytes) known-encoding) (ap length known-bytes ∙ known-size)
 
 -- A file with no fault is within the ceiling.
 pub opening-fits : (opening size : ℕ) → openingNumber opening size ≡ 0 → size ≤ metCeiling

@@ -8,18 +8,18 @@ use mir.Syntax.{w8}
 use mir.Val.{Fits}
 use Rattle.format.specs.Layout.{encodeAll, encodeHash}
 use Rattle.format.specs.Rules.{All, Bytes, ValidHash}
-use Rattle.format.specs.Decoding.{Decoder, Outcome, bytesAt, decodeMany, ends, got, itemsOf, refused}
+use Rattle.format.specs.Decoding.{Decoder, bytesAt, decodeMany, ends, got}
 use Rattle.format.specs.Order.{decodeHash}
-use Rattle.format.proofs.Codec.{Codec, anywhere, bytes-part}
-use Rattle.format.proofs.Many.{ends-items}
+use Rattle.format.proofs.Codec.{Codec, anywhere}
 use Rattle.format.proofs.There.{run-was}
-use Rattle.format.proofs.Writing.{NeedsByte, many-lies}
+use Rattle.format.proofs.Writing.{NeedsByte}
 use Rattle.wire.specs.declared.Items.{Items}
 use Rattle.wire.specs.declared.ItemsStep.{ItemsStep}
 use Rattle.wire.specs.WireAnswers.{hashAt, itemsIn, itemsMeaning}
 use Rattle.wire.proofs.Replies.{slice-bytes}
 use Rattle.write_items.specs.There.{hashThere, itemsThere}
-use Rattle.write_items.proofs.There.{is-there, valid-hash}
+use Rattle.write_items.proofs.There.{ends-got, is-there, valid-hash}
+use Rattle.write_items.proofs.Listed.{listed}
 use Rattle.write_met.specs.Lengths.{EndsBehind, itemsEnd}
 
 -- The items of a list lie in n bytes from its place on.
@@ -35,29 +35,16 @@ module _ {A : Type 0} {d : Decoder A} {encode : A → List ℕ} {Valid : A → T
 
   pub list-here : {n : ℕ} → got tt (l .at + n) ≡ itemsThere d s l → Here encode Valid s l (itemsIn d s l) n
   list-here {n} e =
-      let items = ends-items (decodeMany (l .count) d s (l .at)) (l .at + n) (sym e) in
-      let h = many-lies L needed s hb (l .at) (l .count) (sym items) in
+      let h = listed L needed s hb l (sym e) in
       let k : l .at + n - l .at ≡ n = omega arith in
-      record { count = h .valid .0; all = h .valid .1; bytes = rw k at (h .bytes); size = omega (arith, h .end) }
-
-  -- The bytes of a list are bytes; where no such items lie, there are none.
-  pub list-bytes : Bytes (encodeAll encode (itemsIn d s l))
-  list-bytes = go (decodeMany (l .count) d s (l .at)) refl
-    where
-      go : (o : Outcome (List A)) → decodeMany (l .count) d s (l .at) ≡ o → Bytes (encodeAll encode (itemsOf o))
-      go (refused f) e = tt
-      go (got k next) e =
-          let h = many-lies L needed s hb (l .at) (l .count) e in
-          rw (h .bytes) at (bytes-part s hb (l .at) (next - l .at))
+      record { count = h .count; all = h .valid; bytes = rw k at (h .bytes); size = h .size ∙ k }
 
   -- What code knows of the end of a list.
   pub end-behind : {next : ℕ} → got tt next ≡ itemsThere d s l → l .at ≤ next
-  end-behind {next} e =
-      let items = ends-items (decodeMany (l .count) d s (l .at)) next (sym e) in
-      omega (arith, many-lies L needed s hb (l .at) (l .count) (sym items) .end)
+  end-behind e = listed L needed s hb l (sym e) .order
 
   pub list-behind : (r : ItemsStep) → itemsMeaning d s r ≡ decodeMany (l .count) d s (l .at) → EndsBehind (l .at) r
-  list-behind (ItemsStep.Got k c) e = omega (arith, many-lies L needed s hb (l .at) (l .count) (sym e) .end)
+  list-behind (ItemsStep.Got k c) e = end-behind (ends-got e)
   list-behind (ItemsStep.Refused f) e = tt
 
   pub list-ends : (r : ItemsStep) → itemsMeaning d s r ≡ decodeMany (l .count) d s (l .at) → itemsEnd r ≡ itemsThere d s l

@@ -17,7 +17,7 @@ use Rattle.format.specs.Layout.{byte, dword, encodeAll, encodeServerEntry, enco
 use Rattle.format.specs.Rules.{Byte, Bytes, Dword, ValidServerEntry, metCeiling}
 use Rattle.format.specs.Decoding.{Rule, bytesAt, decodeRun, fault, got}
 use Rattle.format.specs.MetOrder.{decode, decodeServerEntry, decodeServerMet}
-use Rattle.format.specs.Writing.{CountsFit, ServerEntryFits, Judged, Written, refusedFor}
+use Rattle.format.specs.Writing.{CountsFit, ServerEntryFits, Judged, refusedFor}
 use Rattle.format.proofs.Codec.{bytes-append, bytes-littleEndian, bytes-part, length-littleEndian}
 use Rattle.format.proofs.Writing.{all-map, ceiling-judged, server-needed, tags-fit, valid-judged}
 use Rattle.wire.proofs.Replies.{slice-bytes}
@@ -25,17 +25,23 @@ use Rattle.met.specs.declared.ServerMet.{ServerMet}
 use Rattle.met.specs.MetAnswers.{serverMetIn}
 use Rattle.format.proofs.There.{run-length}
 use Rattle.write_items.specs.There.{itemsThere}
-use Rattle.format.specs.RoundTrip.{RoundTrip, WritesAt}
 use Rattle.format.proofs.MetFiles.{codec-server}
 use Rattle.write_met.specs.MetWrites.{serverThere}
 use Rattle.write_met.specs.Lengths.{openingNumber}
 use Rattle.write_items.proofs.There.{ends-got, then-there}
-use Rattle.write_items.proofs.Answers.{Ready, promised, writes-ready}
-use Rattle.write_met.proofs.Lists.{Here, list-bytes, list-here}
+use Rattle.write_items.proofs.Listed.{items-bytes}
+use Rattle.write_items.proofs.Answers.{Promised, Ready, message-ready}
+use Rattle.write_met.proofs.Lists.{Here, list-here}
 use Rattle.write_met.proofs.Known.{wrong-opening}
 
 server-fits : (e : messages.ServerEntry) → ValidServerEntry e → ServerEntryFits e
 server-fits e h = tags-fit (e .tags) (h .tags)
+
+-- What the writer owes, once the entries are found to have n bytes and the number is known.
+abbrev pub ServerReady : List ℕ → ServerMet → (n number : ℕ) → Type 0
+ServerReady s m n number =
+    Ready (Promised serverMet (serverThere s m) (serverMetIn s m)) number
+    ((byte (m .opening) ++ (dword (m .entries .count) ++ bytesAt s (m .entries .at) n)) ++ bytesAt s (m .tail .at) (m .tail .len)) (5 + (n + m .tail .len))
 
 module _ (s : List ℕ) (known : (i : ℕ) → Fits w8 (getD s i 0)) (m : ServerMet) where
   abbrev file : messages.ServerMet
@@ -43,6 +49,14 @@ module _ (s : List ℕ) (known : (i : ℕ) → Fits w8 (getD s i 0)) (m : Server
 
   abbrev tail : ℕ
   tail = m .tail .len
+
+  server-encoding : Bytes (encodeServerMet file)
+  unfolding encodeServerMet
+  server-encoding =
+      bytes-append (byte (m .opening)) _ (bytes-littleEndian 1 (m .opening))
+      (bytes-append (dword (length (file .entries)) ++ encodeAll encodeServerEntry (file .entries)) _
+      (bytes-append (dword (length (file .entries))) _ (bytes-littleEndian 4 (length (file .entries))) (items-bytes codec-server server-needed s (slice-bytes s known) (m .entries)))
+      (bytes-part s (slice-bytes s known) (m .tail .at) tail))
 
   module _ (n : ℕ) (there : got tt (m .entries .at + n) ≡ itemsThere decodeServerEntry s (m .entries)) {l : List ℕ} {next : ℕ} (run : got l next ≡ decodeRun tail s (m .tail .at)) where
     server-here : Here encodeServerEntry ValidServerEntry s (m .entries) (file .entries) n
@@ -90,21 +104,7 @@ module _ (s : List ℕ) (known : (i : ℕ) → Fits w8 (getD s i 0)) (m : Server
             )
             refl)
 
-    pub server-ready : {number : ℕ} → number ≡ openingNumber (m .opening) (5 + (n + tail)) → Byte (m .opening) → Dword (m .entries .count) →
-        Ready (WritesAt serverMet (serverThere s m) file) number
-        ((byte (m .opening) ++ (dword (m .entries .count) ++ bytesAt s (m .entries .at) n)) ++ bytesAt s (m .tail .at) tail) (5 + (n + tail))
+    pub server-ready : {number : ℕ} → number ≡ openingNumber (m .opening) (5 + (n + tail)) → Byte (m .opening) → Dword (m .entries .count) → ServerReady s m n number
     server-ready e small few =
-        writes-ready (then-there there (ends-got run)) (subst (Judged serverMet file) (sym e) (server-judged small few)) server-bytes (ap length server-bytes ∙ server-size)
-
-  server-encoding : Bytes (encodeServerMet file)
-  unfolding encodeServerMet
-  server-encoding =
-      bytes-append (byte (m .opening)) _ (bytes-littleEndian 1 (m .opening))
-      (bytes-append (dword (length (file .entries)) ++ encodeAll encodeServerEntry (file .entries)) _
-      (bytes-append (dword (length (file .entries))) _ (bytes-littleEndian 4 (length (file .entries))) (list-bytes codec-server server-needed s known (m .entries)))
-      (bytes-part s (slice-bytes s known) (m .tail .at) tail))
-
-  -- both promises of the writer
-  pub server-promises : {output : List ℕ} {w : Written} → WritesAt serverMet (serverThere s m) file output w →
-      WritesAt serverMet (serverThere s m) file output w × RoundTrip serverMet (serverThere s m) file output w
-  server-promises = promised (λ _. server-encoding)
+        message-ready (then-there there (ends-got run)) (subst (Judged serverMet file) (sym e) (server-judged small few)) server-bytes
+        (subst Bytes (sym server-bytes) server-encoding) (ap length server-bytes ∙ server-size)

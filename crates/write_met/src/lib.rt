@@ -1,11 +1,11 @@
 // The writers of known.met and server.met, and of single entries.
 //
-// A file is given by its places in the lent bytes `src`, as the readers hand it out. Its lists are read again from their first
-// item on, and their bytes are copied as they lie there; the end that a list gives is not read. Everything is checked and
+// A file is given by its offsets in the lent bytes `src`, as the readers return it. Its lists are read again from their first
+// item on, and their bytes are copied; the end that a list gives is not read. Everything is checked and
 // the size is known before the first store, so a refusal leaves the output as it was.
 //
-// specs/MetWrites.antt says what must lie at the places of a file. The functions that measure and put pieces of a file are also for the
-// writer of part.met; those that put require that their caller has checked the room before.
+// specs/MetWrites.antt says what must be encoded at the offsets of a file. The functions that measure and put pieces of a file are
+// also for the writer of part.met; those that put require that their caller has checked the room before.
 ghost use mathlib.Core.Path.{_≡_};
 ghost use mathlib.Core.List.{_++_};
 ghost use Prim.Native.Nat.{_+_, _≤_};
@@ -25,10 +25,14 @@ ghost use Rattle.write_met.specs.Lengths.{lengthMeaning, lengthFault, it
 ghost use Rattle.write_met.specs.MetEntries.{writeFileEntry, writeServerEntry};
 use met::FileEntry;
 use met::KnownMet;
+use met::MET_CEILING;
 use met::ServerEntry;
 use met::ServerMet;
 use met::file_entries_from;
 use met::server_entries_from;
+use output::LIMIT;
+use output::OPENING;
+use output::ROOM;
 use output::WriteAnswer;
 use output::copy;
 use output::put_byte;
@@ -45,7 +49,19 @@ use wire::ItemsStep;
 use wire::PlaceStep;
 use wire::bytes_at;
 use wire::no_fault;
+use write_items::put_list;
 use write_items::tags_end;
+
+// The byte that opens known.met and server.met.
+const MET_OPENING: u8 = 0x0E;
+
+// The most part hashes that their count field, a WORD, holds.
+pub const PARTS_MOST: u32 = 65535;
+
+// What the byte ceiling leaves after the opening byte and the count of the entries.
+const ENTRIES_CEILING: usize = MET_CEILING - 5;
+
+const HASH_BYTES: usize = 16;
 
 // How many bytes a list has, or the fault that reading it finds.
 pub enum LengthStep {
@@ -65,59 +81,47 @@ impl LengthStep {
 }
 
 // The length of a list that was read from `at` on.
-pub fn length_from(at: usize, e: ItemsStep) -> LengthStep
-    requires { ⌜ EndsBehind at e ⌝ }
-    ensures { λ r. ⌜ lengthMeaning at r ≡ itemsEnd e ⌝ }
+pub fn length_from(at: usize, read: ItemsStep) -> LengthStep
+    requires { ⌜ EndsBehind at read ⌝ }
+    ensures { λ r. ⌜ lengthMeaning at r ≡ itemsEnd read ⌝ }
 {
-    match e {
+    match read {
         ItemsStep::Got(_, next) => LengthStep::Got(next.at - at),
         ItemsStep::Refused(f) => LengthStep::Refused(f),
     }
 }
 
-fn file_entries_length(s: &[u8], l: Items) -> LengthStep
-    ensures { λ r. ⌜ lengthMeaning (l .at) r ≡ itemsThere decodeFileEntry (now (s .entry)) l ⌝ }
+fn file_entries_length(s: &[u8], list: Items) -> LengthStep
+    ensures { λ r. ⌜ lengthMeaning (list .at) r ≡ itemsThere decodeFileEntry (now (s .entry)) list ⌝ }
 {
-    let at = l.at;
-    length_from(at, file_entries_from(s, Cursor { at }, l.count))
+    let at = list.at;
+    length_from(at, file_entries_from(s, Cursor { at }, list.count))
 }
 
-fn server_entries_length(s: &[u8], l: Items) -> LengthStep
-    ensures { λ r. ⌜ lengthMeaning (l .at) r ≡ itemsThere decodeServerEntry (now (s .entry)) l ⌝ }
+fn server_entries_length(s: &[u8], list: Items) -> LengthStep
+    ensures { λ r. ⌜ lengthMeaning (list .at) r ≡ itemsThere decodeServerEntry (now (s .entry)) list ⌝ }
 {
-    let at = l.at;
-    length_from(at, server_entries_from(s, Cursor { at }, l.count))
+    let at = list.at;
+    length_from(at, server_entries_from(s, Cursor { at }, list.count))
 }
 
-pub fn hashes_length(s: &[u8], l: Items) -> LengthStep
-    ensures { λ r. ⌜ lengthMeaning (l .at) r ≡ itemsThere decodeHash (now (s .entry)) l ⌝ }
+pub fn hashes_length(s: &[u8], list: Items) -> LengthStep
+    ensures { λ r. ⌜ lengthMeaning (list .at) r ≡ itemsThere decodeHash (now (s .entry)) list ⌝ }
 {
-    let at = l.at;
-    length_from(at, hashes_from(s, Cursor { at }, l.count))
+    let at = list.at;
+    length_from(at, hashes_from(s, Cursor { at }, list.count))
 }
 
-pub fn tags_length(s: &[u8], l: Items) -> LengthStep
-    ensures { λ r. ⌜ lengthMeaning (l .at) r ≡ itemsThere decodeTag (now (s .entry)) l ⌝ }
+pub fn tags_length(s: &[u8], list: Items) -> LengthStep
+    ensures { λ r. ⌜ lengthMeaning (list .at) r ≡ itemsThere decodeTag (now (s .entry)) list ⌝ }
 {
-    let at = l.at;
-    let e = tags_end(s, Cursor { at }, l.count);
-    let DoneStep::Got(next) = e else {
-        return LengthStep::Refused(e.fault());
+    let at = list.at;
+    let step = tags_end(s, Cursor { at }, list.count);
+    let DoneStep::Got(next) = step else {
+        return LengthStep::Refused(step.fault());
     };
     let end = next.at;
     LengthStep::Got(end - at)
-}
-
-// A DWORD count, and after it the bytes of that many items. The answer is how many bytes were written.
-pub fn put_items(out: &mut [u8], count: u32, items: &[u8]) -> usize
-    requires { ⌜ 4 + length (now items) ≤ length (now out) ⌝ }
-    ensures written { λ r. ⌜ r ≡ 4 + length (now (items .entry)) ⌝ }
-    ensures output { λ _. ⌜ now (out .exit) ≡ overwritten (dword count ++ now (items .entry)) (now (out .entry)) ⌝ }
-{
-    let n = items.len();
-    put_dword(out, count);
-    copy(&mut out[4..], items);
-    4 + n
 }
 
 // A WORD count, and after it the bytes of that many hashes.
@@ -126,15 +130,15 @@ fn put_hashes(out: &mut [u8], count: u16, hashes: &[u8]) -> usize
     ensures written { λ r. ⌜ r ≡ 2 + length (now (hashes .entry)) ⌝ }
     ensures output { λ _. ⌜ now (out .exit) ≡ overwritten (word count ++ now (hashes .entry)) (now (out .entry)) ⌝ }
 {
-    let n = hashes.len();
     put_word(out, count);
     copy(&mut out[2..], hashes);
-    2 + n
+    2 + hashes.len()
 }
 
 // Entries
 
-// How many bytes the part hashes and the tags of an entry have, or the fault of the first place that does not hold what it should.
+// How many bytes the part hashes and the tags of an entry have, or the fault of the first offset at which
+// they are not encoded.
 pub enum EntryStep {
     Got(usize, usize),
     Refused(Fault),
@@ -151,108 +155,114 @@ impl EntryStep {
     }
 }
 
-pub fn file_entry_lengths(s: &[u8], e: FileEntry) -> EntryStep
-    ensures { λ r. ⌜ EntryMeaning (now (s .entry)) e r ⌝ }
+pub fn file_entry_lengths(s: &[u8], file: FileEntry) -> EntryStep
+    ensures { λ r. ⌜ EntryMeaning (now (s .entry)) file r ⌝ }
 {
-    let from = Cursor { at: e.hash };
-    let h = from.hash(s);
-    let HashStep::Got(_, _) = h else {
-        return EntryStep::Refused(h.fault());
+    let cursor = Cursor { at: file.hash };
+    let step = cursor.hash(s);
+    let HashStep::Got(_, _) = step else {
+        return EntryStep::Refused(step.fault());
     };
-    let p = hashes_length(s, e.parts);
-    let LengthStep::Got(parts) = p else {
-        return EntryStep::Refused(p.fault());
+    let parts = hashes_length(s, file.parts);
+    let LengthStep::Got(parts_len) = parts else {
+        return EntryStep::Refused(parts.fault());
     };
-    let t = tags_length(s, e.tags);
-    let LengthStep::Got(tags) = t else {
-        return EntryStep::Refused(t.fault());
+    let tags = tags_length(s, file.tags);
+    let LengthStep::Got(tags_len) = tags else {
+        return EntryStep::Refused(tags.fault());
     };
-    EntryStep::Got(parts, tags)
+    EntryStep::Got(parts_len, tags_len)
 }
 
-// The date, the hash and the part hashes of an entry; these have `p` bytes.
-fn put_entry_head(out: &mut [u8], src: &[u8], e: FileEntry, p: usize) -> usize
-    requires { ⌜ (got tt (e .hash + 16) ≡ hashThere (now src) (e .hash)) × (got tt (e .parts .at + p) ≡ itemsThere decodeHash (now src) (e .parts))
-        × (e .parts .count ≤ 65535) × (22 + p ≤ length (now out)) ⌝ }
-    ensures written { λ r. ⌜ r ≡ 22 + p ⌝ }
-    ensures output { λ _. ⌜ now (out .exit) ≡ overwritten (entryHead (now (src .entry)) e p) (now (out .entry)) ⌝ }
+// The date, the hash and the part hashes of an entry; these have `parts_len` bytes.
+fn put_entry_head(out: &mut [u8], src: &[u8], file: FileEntry, parts_len: usize) -> usize
+    requires { ⌜ (got tt (file .hash + 16) ≡ hashThere (now src) (file .hash)) × (got tt (file .parts .at + «parts_len») ≡ itemsThere decodeHash (now src) (file .parts))
+        × (file .parts .count ≤ 65535) × (22 + «parts_len» ≤ length (now out)) ⌝ }
+    ensures written { λ r. ⌜ r ≡ 22 + «parts_len» ⌝ }
+    ensures output { λ _. ⌜ now (out .exit) ≡ overwritten (entryHead (now (src .entry)) file «parts_len») (now (out .entry)) ⌝ }
 {
-    let parts = e.parts;
-    put_dword(out, e.date);
-    copy(&mut out[4..], bytes_at(src, e.hash, 16));
+    let parts = file.parts;
+    put_dword(out, file.date);
+    copy(&mut out[4..], bytes_at(src, file.hash, HASH_BYTES));
     let wrote = put_hashes(
         &mut out[20..],
         parts.count as u16,
-        bytes_at(src, parts.at, p),
+        bytes_at(src, parts.at, parts_len),
     );
     20 + wrote
 }
 
-// An entry of known.met, whose part hashes have `p` bytes and whose tags have `t`.
-pub fn put_file_entry(out: &mut [u8], src: &[u8], e: FileEntry, p: usize, t: usize) -> usize
-    requires { ⌜ EntryMeaning (now src) e (EntryStep.Got p t) × (e .parts .count ≤ 65535) × (26 + p + t ≤ length (now out)) ⌝ }
-    ensures written { λ r. ⌜ r ≡ 26 + p + t ⌝ }
-    ensures output { λ _. ⌜ now (out .exit) ≡ overwritten (encodeFileEntry (fileEntryIn (now (src .entry)) e)) (now (out .entry)) ⌝ }
+// An entry of known.met, whose part hashes have `parts_len` bytes and whose tags have `tags_len`.
+pub fn put_file_entry(
+    out: &mut [u8],
+    src: &[u8],
+    file: FileEntry,
+    parts_len: usize,
+    tags_len: usize,
+) -> usize
+    requires { ⌜ EntryMeaning (now src) file (EntryStep.Got «parts_len» «tags_len») × (file .parts .count ≤ 65535) × (26 + «parts_len» + «tags_len» ≤ length (now out)) ⌝ }
+    ensures written { λ r. ⌜ r ≡ 26 + «parts_len» + «tags_len» ⌝ }
+    ensures output { λ _. ⌜ now (out .exit) ≡ overwritten (encodeFileEntry (fileEntryIn (now (src .entry)) file)) (now (out .entry)) ⌝ }
 {
-    let tags = e.tags;
-    let at = put_entry_head(out, src, e, p);
-    let wrote = put_items(&mut out[at..], tags.count, bytes_at(src, tags.at, t));
+    let tags = file.tags;
+    let at = put_entry_head(out, src, file, parts_len);
+    let wrote = put_list(&mut out[at..], tags.count, bytes_at(src, tags.at, tags_len));
     at + wrote
 }
 
 // One entry of known.met, for files that a caller composes. An entry alone has no byte ceiling.
-pub fn write_file_entry(src: &[u8], e: FileEntry, out: &mut [u8]) -> WriteAnswer
-    ensures { λ r. ⌜ answered r (now (out .exit)) ≡ writeFileEntry (now (src .entry)) e (now (out .entry)) ⌝ }
+pub fn write_file_entry(src: &[u8], file: FileEntry, out: &mut [u8]) -> WriteAnswer
+    ensures { λ r. ⌜ answered r (now (out .exit)) ≡ writeFileEntry (now (src .entry)) file (now (out .entry)) ⌝ }
 {
-    let l = file_entry_lengths(src, e);
-    let EntryStep::Got(p, t) = l else {
-        return refused(l.fault().number());
+    let step = file_entry_lengths(src, file);
+    let EntryStep::Got(parts_len, tags_len) = step else {
+        return refused(step.fault().number());
     };
-    let parts = e.parts;
-    if 65535 < parts.count {
-        return refused(6);
+    let parts = file.parts;
+    if PARTS_MOST < parts.count {
+        return refused(LIMIT);
     }
-    if out.len() < 26 + p {
-        return refused(10);
+    if out.len() < 26 + parts_len {
+        return refused(ROOM);
     }
-    if out.len() - (26 + p) < t {
-        return refused(10);
+    if out.len() - (26 + parts_len) < tags_len {
+        return refused(ROOM);
     }
-    let wrote = put_file_entry(out, src, e, p, t);
+    let wrote = put_file_entry(out, src, file, parts_len, tags_len);
     WriteAnswer {
         number: 0,
         length: wrote,
     }
 }
 
-// An entry of server.met, whose tags have `t` bytes.
-fn put_server_entry(out: &mut [u8], src: &[u8], e: ServerEntry, t: usize) -> usize
-    requires { ⌜ (got tt (e .tags .at + t) ≡ serverEntryThere (now src) e) × (10 + t ≤ length (now out)) ⌝ }
-    ensures written { λ r. ⌜ r ≡ 10 + t ⌝ }
-    ensures output { λ _. ⌜ now (out .exit) ≡ overwritten (encodeServerEntry (serverEntryIn (now (src .entry)) e)) (now (out .entry)) ⌝ }
+// An entry of server.met, whose tags have `tags_len` bytes.
+fn put_server_entry(out: &mut [u8], src: &[u8], server: ServerEntry, tags_len: usize) -> usize
+    requires { ⌜ (got tt (server .tags .at + «tags_len») ≡ serverEntryThere (now src) server) × (10 + «tags_len» ≤ length (now out)) ⌝ }
+    ensures written { λ r. ⌜ r ≡ 10 + «tags_len» ⌝ }
+    ensures output { λ _. ⌜ now (out .exit) ≡ overwritten (encodeServerEntry (serverEntryIn (now (src .entry)) server)) (now (out .entry)) ⌝ }
 {
-    let tags = e.tags;
-    put_dword(out, e.ip);
-    put_word(&mut out[4..], e.port);
-    let wrote = put_items(&mut out[6..], tags.count, bytes_at(src, tags.at, t));
+    let tags = server.tags;
+    put_dword(out, server.ip);
+    put_word(&mut out[4..], server.port);
+    let wrote = put_list(&mut out[6..], tags.count, bytes_at(src, tags.at, tags_len));
     6 + wrote
 }
 
 // One entry of server.met.
-pub fn write_server_entry(src: &[u8], e: ServerEntry, out: &mut [u8]) -> WriteAnswer
-    ensures { λ r. ⌜ answered r (now (out .exit)) ≡ writeServerEntry (now (src .entry)) e (now (out .entry)) ⌝ }
+pub fn write_server_entry(src: &[u8], server: ServerEntry, out: &mut [u8]) -> WriteAnswer
+    ensures { λ r. ⌜ answered r (now (out .exit)) ≡ writeServerEntry (now (src .entry)) server (now (out .entry)) ⌝ }
 {
-    let l = tags_length(src, e.tags);
-    let LengthStep::Got(t) = l else {
-        return refused(l.fault().number());
+    let step = tags_length(src, server.tags);
+    let LengthStep::Got(tags_len) = step else {
+        return refused(step.fault().number());
     };
     if out.len() < 10 {
-        return refused(10);
+        return refused(ROOM);
     }
-    if out.len() - 10 < t {
-        return refused(10);
+    if out.len() - 10 < tags_len {
+        return refused(ROOM);
     }
-    let wrote = put_server_entry(out, src, e, t);
+    let wrote = put_server_entry(out, src, server, tags_len);
     WriteAnswer {
         number: 0,
         length: wrote,
@@ -261,27 +271,27 @@ pub fn write_server_entry(src: &[u8], e: ServerEntry, out: &mut [u8]) -> WriteAn
 
 // known.met and server.met
 
-// The number for a file of `5 + n` bytes, apart from the room.
-fn opening_number(opening: u8, n: usize) -> u8
-    ensures { λ r. ⌜ r ≡ openingNumber opening (5 + n) ⌝ }
+// The number for a file of `5 + size` bytes, apart from the room.
+fn opening_number(opening: u8, size: usize) -> u8
+    ensures { λ r. ⌜ r ≡ openingNumber opening (5 + size) ⌝ }
 {
-    if 1048571 < n {
-        return 6;
+    if ENTRIES_CEILING < size {
+        return LIMIT;
     }
-    if opening == 0x0E { 0 } else { 2 }
+    if opening == MET_OPENING { 0 } else { OPENING }
 }
 
-// The same, where `n` bytes of entries and a tail stand after the first five bytes.
-fn tailed_number(opening: u8, n: usize, tail: usize) -> u8
-    ensures { λ r. ⌜ r ≡ openingNumber opening (5 + (n + tail)) ⌝ }
+// The same, where `size` bytes of entries and a tail come after the first five bytes.
+fn tailed_number(opening: u8, size: usize, tail: usize) -> u8
+    ensures { λ r. ⌜ r ≡ openingNumber opening (5 + (size + tail)) ⌝ }
 {
-    if 1048571 < n {
-        return 6;
+    if ENTRIES_CEILING < size {
+        return LIMIT;
     }
-    if 1048571 - n < tail {
-        return 6;
+    if ENTRIES_CEILING - size < tail {
+        return LIMIT;
     }
-    opening_number(opening, n + tail)
+    opening_number(opening, size + tail)
 }
 
 // The opening byte and the entries.
@@ -291,31 +301,31 @@ fn put_entries(out: &mut [u8], opening: u8, count: u32, entries: &[u8]) -> usize
     ensures output { λ _. ⌜ now (out .exit) ≡ overwritten (byte opening ++ (dword count ++ now (entries .entry))) (now (out .entry)) ⌝ }
 {
     put_byte(out, opening);
-    let wrote = put_items(&mut out[1..], count, entries);
+    let wrote = put_list(&mut out[1..], count, entries);
     1 + wrote
 }
 
-// The known.met whose entries lie at a place of `src`.
-pub fn write_known_met(src: &[u8], m: KnownMet, out: &mut [u8]) -> WriteAnswer
-    ensures writes { λ r. ⌜ WritesAt knownMet (knownThere (now (src .entry)) m) (knownMetIn (now (src .entry)) m) (now (out .entry))
+// The known.met whose entries are encoded at an offset of `src`.
+pub fn write_known_met(src: &[u8], known: KnownMet, out: &mut [u8]) -> WriteAnswer
+    ensures writes { λ r. ⌜ WritesAt knownMet (knownThere (now (src .entry)) known) (knownMetIn (now (src .entry)) known) (now (out .entry))
         (answered r (now (out .exit))) ⌝ }
-    ensures round { λ r. ⌜ RoundTrip knownMet (knownThere (now (src .entry)) m) (knownMetIn (now (src .entry)) m) (now (out .entry))
+    ensures round { λ r. ⌜ RoundTrip knownMet (knownThere (now (src .entry)) known) (knownMetIn (now (src .entry)) known) (now (out .entry))
         (answered r (now (out .exit))) ⌝ }
 {
-    let entries = m.entries;
-    let e = file_entries_length(src, entries);
-    let LengthStep::Got(n) = e else {
-        return refused(e.fault().number());
+    let entries = known.entries;
+    let step = file_entries_length(src, entries);
+    let LengthStep::Got(size) = step else {
+        return refused(step.fault().number());
     };
-    let number = opening_number(m.opening, n);
+    let number = opening_number(known.opening, size);
     if number != 0 {
         return refused(number);
     }
-    if out.len() < 5 + n {
-        return refused(10);
+    if out.len() < 5 + size {
+        return refused(ROOM);
     }
-    let items = bytes_at(src, entries.at, n);
-    let wrote = put_entries(out, m.opening, entries.count, items);
+    let items = bytes_at(src, entries.at, size);
+    let wrote = put_entries(out, known.opening, entries.count, items);
     WriteAnswer {
         number: 0,
         length: wrote,
@@ -333,34 +343,34 @@ fn put_server_met(out: &mut [u8], opening: u8, count: u32, entries: &[u8], tail:
     at + tail.len()
 }
 
-// The server.met whose entries and tail lie at places of `src`.
-pub fn write_server_met(src: &[u8], m: ServerMet, out: &mut [u8]) -> WriteAnswer
-    ensures writes { λ r. ⌜ WritesAt serverMet (serverThere (now (src .entry)) m) (serverMetIn (now (src .entry)) m) (now (out .entry))
+// The server.met whose entries and tail are encoded at offsets of `src`.
+pub fn write_server_met(src: &[u8], server: ServerMet, out: &mut [u8]) -> WriteAnswer
+    ensures writes { λ r. ⌜ WritesAt serverMet (serverThere (now (src .entry)) server) (serverMetIn (now (src .entry)) server) (now (out .entry))
         (answered r (now (out .exit))) ⌝ }
-    ensures round { λ r. ⌜ RoundTrip serverMet (serverThere (now (src .entry)) m) (serverMetIn (now (src .entry)) m) (now (out .entry))
+    ensures round { λ r. ⌜ RoundTrip serverMet (serverThere (now (src .entry)) server) (serverMetIn (now (src .entry)) server) (now (out .entry))
         (answered r (now (out .exit))) ⌝ }
 {
-    let entries = m.entries;
-    let e = server_entries_length(src, entries);
-    let LengthStep::Got(n) = e else {
-        return refused(e.fault().number());
+    let entries = server.entries;
+    let step = server_entries_length(src, entries);
+    let LengthStep::Got(size) = step else {
+        return refused(step.fault().number());
     };
-    let tail = m.tail;
-    let from = Cursor { at: tail.at };
-    let t = from.run(src, tail.len);
-    let PlaceStep::Got(_, _) = t else {
-        return refused(t.fault().number());
+    let tail = server.tail;
+    let cursor = Cursor { at: tail.at };
+    let tail_step = cursor.run(src, tail.len);
+    let PlaceStep::Got(_, _) = tail_step else {
+        return refused(tail_step.fault().number());
     };
-    let number = tailed_number(m.opening, n, tail.len);
+    let number = tailed_number(server.opening, size, tail.len);
     if number != 0 {
         return refused(number);
     }
-    if out.len() < 5 + (n + tail.len) {
-        return refused(10);
+    if out.len() < 5 + (size + tail.len) {
+        return refused(ROOM);
     }
-    let items = bytes_at(src, entries.at, n);
+    let items = bytes_at(src, entries.at, size);
     let rest = bytes_at(src, tail.at, tail.len);
-    let wrote = put_server_met(out, m.opening, entries.count, items, rest);
+    let wrote = put_server_met(out, server.opening, entries.count, items, rest);
     WriteAnswer {
         number: 0,
         length: wrote,

@@ -110,6 +110,10 @@ pub verdict-judged : (tags : List Tag) (v : TagsVerdict) → verdictMeaning tags
 verdict-judged tags (TagsVerdict.Passes size) e = rw (← e) refl
 verdict-judged tags (TagsVerdict.Violates rule) e = rw (← e) refl
 
+-- What the writer owes, once the number is known.
+abbrev pub E0Ready : List ℕ → met.FileEntry → (number size : ℕ) → Type 0
+E0Ready s e number size = Ready (WritesAt partMet (fileEntryThere s e) (e0 (fileEntryIn s e))) number (encodePartMet (e0 (fileEntryIn s e))) size
+
 module _ (s : List ℕ) (known : (i : ℕ) → Fits w8 (getD s i 0)) (e : met.FileEntry) where
   module _ (p t : ℕ) (h : EntryMeaning s e (EntryStep.Got p t)) where
     e0-size : length (encodePartMet (e0 (fileEntryIn s e))) ≡ 27 + p + t
@@ -118,8 +122,7 @@ module _ (s : List ℕ) (known : (i : ℕ) → Fits w8 (getD s i 0)) (e : met.Fi
         length-append (byte 0xE0) (encodeFileEntry (fileEntryIn s e))
         ∙ omega (arith, length-littleEndian 1 0xE0, entry-size s known e p t h)
 
-    pub e0-ready : {number : ℕ} → number ≡ e0Number (e .parts .count) (27 + p + t) (itemsIn decodeTag s (e .tags)) → Dword (e .date) → Dword (e .tags .count) →
-        Ready (WritesAt partMet (fileEntryThere s e) (e0 (fileEntryIn s e))) number (encodePartMet (e0 (fileEntryIn s e))) (27 + p + t)
+    pub e0-ready : {number : ℕ} → number ≡ e0Number (e .parts .count) (27 + p + t) (itemsIn decodeTag s (e .tags)) → Dword (e .date) → Dword (e .tags .count) → E0Ready s e number (27 + p + t)
     e0-ready q hd ht =
         let ps = parts-here s known e p t h in
         let ts = tags-here s known e p t h in

@@ -36,7 +36,8 @@ use Rattle.write_items.specs.There.{bothThere, itemsThere}
 use Rattle.format.specs.RoundTrip.{RoundTrip, WritesAt}
 use Rattle.write_items.proofs.There.{then-there}
 use Rattle.write_items.proofs.Answers.{Ready, promised, writes-ready}
-use Rattle.write_met.proofs.Lists.{Here, hash-valid, list-bytes, list-here}
+use Rattle.write_items.proofs.Listed.{items-bytes}
+use Rattle.write_met.proofs.Lists.{Here, hash-valid, list-here}
 use Rattle.write_part.specs.declared.Area.{Area}
 use Rattle.write_part.specs.declared.E1Step.{E1Step}
 use Rattle.write_part.specs.PartWrites.{blocksThere, partE1There, partThere}
@@ -48,6 +49,10 @@ use Rattle.write_part.proofs.E1.{e1-judged}
 both-there : (first second : Outcome (Unit {0})) {next : ℕ} → got tt next ≡ bothThere first second → (n : ℕ) × ((got tt n ≡ first) × (got tt next ≡ second))
 both-there (refused f) second e = absurd (never (sym e))
 both-there (got u n) second e = (n, (refl, e))
+
+-- What the writer owes, once the tags are found to have t bytes, the blocks to have this area, and the number is known.
+abbrev pub E1Ready : List ℕ → PartE1 → (t : ℕ) → Area → (number : ℕ) → Type 0
+E1Ready s m t a number = Ready (WritesAt partMet (partE1There s m) (e1 (partE1In s m))) number (e1Bytes s m t a) (26 + t + areaSize a)
 
 module _ (s : List ℕ) (known : (i : ℕ) → Fits w8 (getD s i 0)) where
   items-valid : {A : Type 0} {d : Decoder A} {encode : A → List ℕ} {Valid : A → Type 0} → Codec anywhere d encode Valid → NeedsByte d → (l : Items) {next : ℕ} →
@@ -97,21 +102,21 @@ module _ (s : List ℕ) (known : (i : ℕ) → Fits w8 (getD s i 0)) where
   blocks-bytes HashBlocks.Nothing = bytes-littleEndian 1 0
   blocks-bytes (HashBlocks.Parts l) =
       let parts = encodeAll encodeHash (itemsIn decodeHash s l) in
-      bytes-append (byte 1) (parts ++ byte 0) (bytes-littleEndian 1 1) (bytes-append parts (byte 0) (list-bytes codec-hash hash-needed s known l) (bytes-littleEndian 1 0))
+      bytes-append (byte 1) (parts ++ byte 0) (bytes-littleEndian 1 1) (bytes-append parts (byte 0) (items-bytes codec-hash hash-needed s (slice-bytes s known) l) (bytes-littleEndian 1 0))
   blocks-bytes (HashBlocks.Blocks k) =
       let blocks = encodeAll encodeHash (itemsIn (decodeRun 8) s k) in
-      bytes-append (byte 1) (blocks ++ byte 0) (bytes-littleEndian 1 1) (bytes-append blocks (byte 0) (list-bytes (codec-run 8) (run-needed 8) s known k) (bytes-littleEndian 1 0))
+      bytes-append (byte 1) (blocks ++ byte 0) (bytes-littleEndian 1 1) (bytes-append blocks (byte 0) (items-bytes (codec-run 8) (run-needed 8) s (slice-bytes s known) k) (bytes-littleEndian 1 0))
   blocks-bytes (HashBlocks.Both l k) =
       let parts = encodeAll encodeHash (itemsIn decodeHash s l) in
       let blocks = encodeAll encodeHash (itemsIn (decodeRun 8) s k) in
       bytes-append (byte 1) (parts ++ (byte 1 ++ (blocks ++ byte 0))) (bytes-littleEndian 1 1)
-      (bytes-append parts (byte 1 ++ (blocks ++ byte 0)) (list-bytes codec-hash hash-needed s known l)
-      (bytes-append (byte 1) (blocks ++ byte 0) (bytes-littleEndian 1 1) (bytes-append blocks (byte 0) (list-bytes (codec-run 8) (run-needed 8) s known k) (bytes-littleEndian 1 0))))
+      (bytes-append parts (byte 1 ++ (blocks ++ byte 0)) (items-bytes codec-hash hash-needed s (slice-bytes s known) l)
+      (bytes-append (byte 1) (blocks ++ byte 0) (bytes-littleEndian 1 1) (bytes-append blocks (byte 0) (items-bytes (codec-run 8) (run-needed 8) s (slice-bytes s known) k) (bytes-littleEndian 1 0))))
 
   tags-bytes : (l : Items) → Bytes (encodeTags (itemsIn decodeTag s l))
   unfolding encodeTags
   tags-bytes l =
-      bytes-append (dword (length (itemsIn decodeTag s l))) _ (bytes-littleEndian 4 (length (itemsIn decodeTag s l))) (list-bytes codec-tag tag-needed s known l)
+      bytes-append (dword (length (itemsIn decodeTag s l))) _ (bytes-littleEndian 4 (length (itemsIn decodeTag s l))) (items-bytes codec-tag tag-needed s (slice-bytes s known) l)
 
   part-encoding : (m : PartMet) → Bytes (encodePartMet (partMetIn s m))
   unfolding encodePartMet encodePartE1 encodeFileEntry
@@ -120,7 +125,7 @@ module _ (s : List ℕ) (known : (i : ℕ) → Fits w8 (getD s i 0)) where
       (bytes-append (dword (e .date)) _ (bytes-littleEndian 4 (e .date))
       (bytes-append (hashAt s (e .hash)) _ (bytes-part s (slice-bytes s known) (e .hash) 16)
       (bytes-append (counted word encodeHash (itemsIn decodeHash s (e .parts))) _
-      (bytes-append (word (length (itemsIn decodeHash s (e .parts)))) _ (bytes-littleEndian 2 (length (itemsIn decodeHash s (e .parts)))) (list-bytes codec-hash hash-needed s known (e .parts)))
+      (bytes-append (word (length (itemsIn decodeHash s (e .parts)))) _ (bytes-littleEndian 2 (length (itemsIn decodeHash s (e .parts)))) (items-bytes codec-hash hash-needed s (slice-bytes s known) (e .parts)))
       (tags-bytes (e .tags)))))
   part-encoding (PartMet.E1 m) =
       bytes-append (byte 0xE1) _ (bytes-littleEndian 1 0xE1)
@@ -181,7 +186,7 @@ module _ (s : List ℕ) (known : (i : ℕ) → Fits w8 (getD s i 0)) where
     right size v = rw (valid-allowed size (m .blocks) (h .1 .1 .here) v) refl
 
     pub e1-ready : {number : ℕ} → number ≡ e1Number (26 + t + areaSize a) (checkPartTags (itemsIn decodeTag s (m .tags))) (blocksNumber s (m .blocks) a) →
-        Dword (m .date) → Dword (m .tags .count) → Ready (WritesAt partMet (partE1There s m) (e1 (partE1In s m))) number (e1Bytes s m t a) (26 + t + areaSize a)
+        Dword (m .date) → Dword (m .tags .count) → E1Ready s m t a number
     e1-ready q hd ht =
         let judged = e1-judged (partE1In s m) hd (hash-valid s known (m .hash) (h .0)) (rw (tags-here .count) ht, tags-here .all) (part-encoding (PartMet.E1 m))
         (blocksNumber s (m .blocks) a) right (λ size. decided size (allowed size (m .blocks)) refl) e1-size in

@@ -13,13 +13,13 @@ file-entries-from-requires c κs = search needs
 length-from-requires : tie.Need-length-from-requires
 length-from-requires c κs =
     let a = c .before .before .args in
-    list-behind codec-entry entry-needed (now (a .s)) (c .before .shared-slice-known .given) (a .l) (c .file-entries-from .result) (c .file-entries-from .ensures .0)
+    list-behind codec-entry entry-needed (now (a .s)) (c .before .shared-slice-known .given) (a .list) (c .file-entries-from .result) (c .file-entries-from .ensures .0)
 
 returns : tie.Need-returns
 returns c =
     let a = c .before .before .before .args in
     c .length-from .ensures
-    ∙ list-ends codec-entry entry-needed (now (a .s)) (c .before .before .shared-slice-known .given) (a .l) (c .before .file-entries-from .result) (c .before .file-entries-from .ensures .0)
+    ∙ list-ends codec-entry entry-needed (now (a .s)) (c .before .before .shared-slice-known .given) (a .list) (c .before .file-entries-from .result) (c .before .file-entries-from .ensures .0)
 
 pub file-entries-length-spec : {M : Type 1} → statement M
 file-entries-length-spec =

@@ -1,9 +1,22 @@
+-- The hash, the part hashes and the tags are read one after the other; the first fault decides.
+use Prim.Native.Nat.{_+_}
+use mathlib.Core.Path.{_≡_}
 use denote.Ref.{now}
-use Rattle.write_items.proofs.There.{ends-got, ends-refused, first-missing, then-there}
+use Rattle.format.specs.Decoding.{got}
+use Rattle.format.specs.Order.{decodeHash}
+use Rattle.write_items.specs.There.{hashThere, itemsThere}
+use Rattle.write_items.proofs.There.{ends-refused, first-missing, then-there}
 use Rattle.write_met.proofs.Lists.{hash-there}
 use borrow.Author.Needs.{needs}
 use Rattle.write_met.proofs.file_entry_lengths.Statement.{statement}
 use Rattle.write_met.proofs.file_entry_lengths.Tie as tie
+
+hash : (c : tie.After-enum-told) → let a = c .before .before .before .before .args in got tt (a .file .hash + 16) ≡ hashThere (now (a .s)) (a .file .hash)
+hash c = let a = c .before .before .before .before .args in hash-there (now (a .s)) (a .file .hash) (rw (c .enum-told .given .1) at (c .before .before .hash .ensures))
+
+parts : (c : tie.After-known-told) →
+    let a = c .before .before .before .before .before .before .before .before .args in got tt (a .file .parts .at + c .before .parts .given .0 .0) ≡ itemsThere decodeHash (now (a .s)) (a .file .parts)
+parts c = rw (c .before .parts .given .1) at (c .before .before .before .hashes-length .ensures)
 
 hash-requires : tie.Need-hash-requires
 hash-requires c κs = search needs
@@ -18,15 +31,13 @@ fault-requires : tie.Need-fault-requires
 fault-requires c κs = search needs
 
 returns : tie.Need-returns
-returns c =
-    let read = rw (c .before .enum-told2 .given .1) at (c .before .before .before .hash .ensures) in
-    rw (c .fault .ensures, c .before .enum-told2 .given .1) (first-missing _ (ends-refused read))
+returns c = let told = c .before .enum-told2 .given .1 in rw (c .fault .ensures, told) (first-missing _ (ends-refused (rw told at (c .before .before .before .hash .ensures))))
 
 hashes-length-requires : tie.Need-hashes-length-requires
 hashes-length-requires c κs = search needs
 
-enum-known-p : tie.Need-enum-known-p
-enum-known-p c = search needs
+enum-known-parts : tie.Need-enum-known-parts
+enum-known-parts c = search needs
 
 enum-told-3 : tie.Need-enum-told-3
 enum-told-3 c = search needs
@@ -36,16 +47,14 @@ fault-requires-2 c κs = search needs
 
 returns-2 : tie.Need-returns-2
 returns-2 c =
-    let b4 = c .before .before .before .before in
-    let hash = rw (b4 .enum-told .given .1) at (b4 .before .before .hash .ensures) in
-    let read = rw (c .before .enum-told3 .given .1) at (c .before .before .before .hashes-length .ensures) in
-    rw (c .fault2 .ensures, c .before .enum-told3 .given .1) (then-there (ends-got hash) (first-missing _ read))
+    let told = c .before .enum-told3 .given .1 in
+    rw (c .fault2 .ensures, told) (then-there (hash (c .before .before .before .before)) (first-missing _ (rw told at (c .before .before .before .hashes-length .ensures))))
 
 tags-length-requires : tie.Need-tags-length-requires
 tags-length-requires c κs = search needs
 
-enum-known-t : tie.Need-enum-known-t
-enum-known-t c = search needs
+enum-known-tags : tie.Need-enum-known-tags
+enum-known-tags c = search needs
 
 enum-told-4 : tie.Need-enum-told-4
 enum-told-4 c = search needs
@@ -55,23 +64,11 @@ fault-requires-3 c κs = search needs
 
 returns-3 : tie.Need-returns-3
 returns-3 c =
-    let b4 = c .before .before .before .before in
-    let b8 = b4 .before .before .before .before in
-    let hash = rw (b8 .enum-told .given .1) at (b8 .before .before .hash .ensures) in
-    let parts = rw (b4 .before .p .given .1) at (b4 .before .before .before .hashes-length .ensures) in
-    let read = rw (c .before .enum-told4 .given .1) at (c .before .before .before .tags-length .ensures) in
-    rw (c .fault3 .ensures, c .before .enum-told4 .given .1) (then-there (ends-got hash) (then-there parts read))
+    let told = c .before .enum-told4 .given .1 in
+    rw (c .fault3 .ensures, told) (then-there (hash (c .before .before .before .before .before .before .before .before)) (then-there (parts (c .before .before .before .before)) (rw told at (c .before .before .before .tags-length .ensures))))
 
 returns-4 : tie.Need-returns-4
-returns-4 c =
-    let b4 = c .before .before .before .before in
-    let b8 = b4 .before .before .before .before in
-    let b12 = b8 .before .before .before .before in
-    let a = b12 .args in
-    let hash = rw (b8 .enum-told .given .1) at (b8 .before .before .hash .ensures) in
-    let parts = rw (b4 .before .p .given .1) at (b4 .before .before .before .hashes-length .ensures) in
-    let tags = rw (c .before .t .given .1) at (c .before .before .before .tags-length .ensures) in
-    (hash-there (now (a .s)) (a .e .hash) hash, (parts, tags))
+returns-4 c = (hash (c .before .before .before .before .before .before .before .before), (parts (c .before .before .before .before), rw (c .before .tags .given .1) at (c .before .before .before .tags-length .ensures)))
 
 pub file-entry-lengths-spec : {M : Type 1} → statement M
 file-entry-lengths-spec =
@@ -83,12 +80,12 @@ file-entry-lengths-spec =
     fault-requires
     returns
     hashes-length-requires
-    enum-known-p
+    enum-known-parts
     enum-told-3
     fault-requires-2
     returns-2
     tags-length-requires
-    enum-known-t
+    enum-known-tags
     enum-told-4
     fault-requires-3
     returns-3

@@ -13,13 +13,13 @@ hashes-from-requires c κs = search needs
 length-from-requires : tie.Need-length-from-requires
 length-from-requires c κs =
     let a = c .before .before .args in
-    list-behind codec-hash hash-needed (now (a .s)) (c .before .shared-slice-known .given) (a .l) (c .hashes-from .result) (c .hashes-from .ensures .0)
+    list-behind codec-hash hash-needed (now (a .s)) (c .before .shared-slice-known .given) (a .list) (c .hashes-from .result) (c .hashes-from .ensures .0)
 
 returns : tie.Need-returns
 returns c =
     let a = c .before .before .before .args in
     c .length-from .ensures
-    ∙ list-ends codec-hash hash-needed (now (a .s)) (c .before .before .shared-slice-known .given) (a .l) (c .before .hashes-from .result) (c .before .hashes-from .ensures .0)
+    ∙ list-ends codec-hash hash-needed (now (a .s)) (c .before .before .shared-slice-known .given) (a .list) (c .before .hashes-from .result) (c .before .hashes-from .ensures .0)
 
 pub hashes-length-spec : {M : Type 1} → statement M
 hashes-length-spec =

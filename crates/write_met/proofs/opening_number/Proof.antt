@@ -8,15 +8,15 @@ use Rattle.write_met.proofs.opening_number.Tie as tie
 
 returns : tie.Need-returns
 unfolding openingNumber
-returns c = rw (lt-leb (5 + c .before .args .n) 1048576 (omega arith)) refl
+returns c = rw (lt-leb (5 + c .before .args .size) 1048576 (omega arith)) refl
 
 returns-2 : tie.Need-returns-2
 unfolding openingNumber
-returns-2 c = rw (le-leb (5 + c .before .before .args .n) 1048576 (omega arith), eq-eqb _ _ (c .if2 .taken)) refl
+returns-2 c = rw (le-leb (5 + c .before .before .args .size) 1048576 (omega arith), eq-eqb _ _ (c .if2 .taken)) refl
 
 returns-3 : tie.Need-returns-3
 unfolding openingNumber
-returns-3 c = rw (le-leb (5 + c .before .before .args .n) 1048576 (omega arith), ne-eqb _ _ (c .if2 .left)) refl
+returns-3 c = rw (le-leb (5 + c .before .before .args .size) 1048576 (omega arith), ne-eqb _ _ (c .if2 .left)) refl
 
 pub opening-number-spec : {M : Type 1} → statement M
 opening-number-spec = tie.close (tie.spec returns returns-2 returns-3)

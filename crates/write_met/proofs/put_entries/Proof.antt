@@ -1,3 +1,4 @@
+-- The opening byte and the counted entries: `after` of the output's laws.
 use native.Mathlib.Omega.{arith}
 use mathlib.Core.List.{_++_}
 use denote.Ref.{now}
@@ -11,17 +12,17 @@ use Rattle.write_met.proofs.put_entries.Tie as tie
 put-byte-requires : tie.Need-put-byte-requires
 put-byte-requires c κs = search needs
 
-sub-put-items : tie.Need-sub-put-items
-sub-put-items c = search needs
+sub-put-list : tie.Need-sub-put-list
+sub-put-list c = search needs
 
-part-put-items-start : tie.Need-part-put-items-start
-part-put-items-start c = search needs
+part-put-list-start : tie.Need-part-put-list-start
+part-put-list-start c = search needs
 
-part-put-items-end : tie.Need-part-put-items-end
-part-put-items-end c = search needs
+part-put-list-end : tie.Need-part-put-list-end
+part-put-list-end c = search needs
 
-put-items-requires : tie.Need-put-items-requires
-put-items-requires c κs = search needs
+put-list-requires : tie.Need-put-list-requires
+put-list-requires c κs = search needs
 
 add-result : tie.Need-add-result
 add-result c = search needs
@@ -31,9 +32,11 @@ same-length c = search needs
 
 returns : tie.Need-returns
 returns c =
-    let a = c .before .before .before .before .before .before .before .before .before .before .args in
-    let put = c .before .before .put-items .ensures in
-    let opened = c .before .before .before .before .before .before .put-byte .ensures in
+    let put-byte-at = c .before .before .before .before .before .before in
+    let start = put-byte-at .before .before .before .before in
+    let a = start .args in
+    let put = c .before .before .put-list .ensures in
+    let opened = put-byte-at .put-byte .ensures in
     (omega (arith, put .0), after (byte (a .opening)) (dword (a .count) ++ now (a .entries)) _ _ _ 1 (length-littleEndian 1 (a .opening)) opened (put .1))
 
 pub put-entries-spec : {M : Type 1} → statement M
@@ -41,10 +44,10 @@ put-entries-spec =
     tie.close
     (tie.spec
     put-byte-requires
-    sub-put-items
-    part-put-items-start
-    part-put-items-end
-    put-items-requires
+    sub-put-list
+    part-put-list-start
+    part-put-list-end
+    put-list-requires
     add-result
     same-length
     returns)

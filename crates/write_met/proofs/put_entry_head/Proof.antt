@@ -1,19 +1,37 @@
-use Prim.Native.Nat.{_+_}
-use mathlib.Core.Path.{_≡_, _∙_, ap}
-use mathlib.Core.List.{_++_, append-assoc}
+-- The parts are put one after the other: `then` of Puts.
+use Prim.Native.Nat.{ℕ}
+use mathlib.Core.Path.{_≡_, refl}
+use mathlib.Core.List.{List, _++_, append-assoc}
 use native.Mathlib.Omega.{arith}
 use lib.ListN.{length, length-append}
 use denote.Ref.{now}
 use Rattle.format.specs.Layout.{dword, word}
 use Rattle.format.specs.Decoding.{bytesAt}
-use Rattle.format.specs.Writing.{overwritten}
 use Rattle.format.proofs.Codec.{length-littleEndian}
 use Rattle.wire.specs.WireAnswers.{hashAt}
-use Rattle.output.proofs.Laws.{after}
+use Rattle.write_items.proofs.Puts.{as-puts, puts, regrouped, then}
+use Rattle.met.specs.declared.FileEntry.{FileEntry}
 use Rattle.write_met.proofs.MetEntries.{hash-size, parts-size}
 use borrow.Author.Needs.{needs}
 use Rattle.write_met.proofs.put_entry_head.Statement.{statement}
 use Rattle.write_met.proofs.put_entry_head.Tie as tie
+
+-- What is copied has the length that was found.
+module _ (c : tie.After-shared-slice-known) where
+  abbrev start : tie.Start
+  start = c .before .before
+
+  abbrev src : List ℕ
+  src = now (start .args .src)
+
+  abbrev file : FileEntry
+  file = start .args .file
+
+  hash : length (hashAt src (file .hash)) ≡ 16
+  hash = hash-size src (c .shared-slice-known .given) (file .hash) (start .pre .0)
+
+  parts : length (bytesAt src (file .parts .at) (start .args .parts-len)) ≡ start .args .parts-len
+  parts = parts-size src (c .shared-slice-known .given) (file .parts) (start .args .parts-len) (start .pre .1)
 
 put-dword-requires : tie.Need-put-dword-requires
 put-dword-requires c κs = search needs
@@ -31,13 +49,7 @@ bytes-at-requires : tie.Need-bytes-at-requires
 bytes-at-requires c κs = search needs
 
 copy-requires : tie.Need-copy-requires
-copy-requires c κs =
-    let b4 = c .before .before .before .before in
-    let b8 = b4 .before .before .before .before in
-    let a = b8 .before .args in
-    let pre = b8 .before .pre in
-    let known = b4 .before .before .before .shared-slice-known .given in
-    rw (c .bytes-at .ensures, hash-size (now (a .src)) known (a .e .hash) (pre .0)) (omega (arith, pre .3))
+copy-requires c κs = let k = c .before .before .before .before .before .before .before in rw (c .bytes-at .ensures, hash k) (omega (arith, start k .pre .3))
 
 sub-put-hashes : tie.Need-sub-put-hashes
 sub-put-hashes c = search needs
@@ -55,14 +67,7 @@ bytes-at-requires-2 : tie.Need-bytes-at-requires-2
 bytes-at-requires-2 c κs = search needs
 
 put-hashes-requires : tie.Need-put-hashes-requires
-put-hashes-requires c κs =
-    let b4 = c .before .before .before .before in
-    let b8 = b4 .before .before .before .before in
-    let b12 = b8 .before .before .before .before in
-    let a = b12 .before .before .before .args in
-    let pre = b12 .before .before .before .pre in
-    let known = b12 .before .shared-slice-known .given in
-    rw (c .bytes-at2 .ensures, parts-size (now (a .src)) known (a .e .parts) (a .p) (pre .1)) (omega (arith, pre .3))
+put-hashes-requires c κs = let k = c .before .before .before .before .before .before .before .before .before .before .before .before .before in rw (c .bytes-at2 .ensures, parts k) (omega (arith, start k .pre .3))
 
 add-result : tie.Need-add-result
 add-result c = search needs
@@ -72,24 +77,16 @@ same-length c = search needs
 
 returns : tie.Need-returns
 returns c =
-    let b4 = c .before .before .before .before in
-    let b8 = b4 .before .before .before .before in
-    let b12 = b8 .before .before .before .before in
-    let b16 = b12 .before .before .before .before in
-    let a = b16 .before .before .args in
-    let pre = b16 .before .before .pre in
-    let known = b16 .shared-slice-known .given in
-    let s = now (a .src) in
-    let date = dword (a .e .date) in
-    let hash = hashAt s (a .e .hash) in
-    let parts = word (a .e .parts .count) ++ bytesAt s (a .e .parts .at) (a .p) in
+    let copied = c .before .before .before .before .before .before .before .before in
+    let dated = copied .before .before .before .before .before in
+    let k = dated .before .before .before in
     let put = rw (c .before .before .before .bytes-at2 .ensures) at (c .before .before .put-hashes .ensures) in
-    let p = put .0 ∙ ap (λ n. 2 + n) (parts-size (now (a .src)) known (a .e .parts) (a .p) (pre .1)) in
-    let copied = rw (b8 .before .bytes-at .ensures) at (b8 .copy .ensures) in
-    let one = after date hash _ _ _ 4 (length-littleEndian 4 (a .e .date)) (b12 .before .put-dword .ensures) copied in
-    let twenty : length (date ++ hash) ≡ 20 = simp (length-append, length-littleEndian) (omega (arith, hash-size (now (a .src)) known (a .e .hash) (pre .0))) in
-    let all = after (date ++ hash) parts _ _ _ 20 twenty one (put .1) in
-    (omega (arith, p), all ∙ ap (λ bytes. overwritten bytes (now (a .out))) (append-assoc date hash parts))
+    let date = puts (dword (file k .date)) 4 (length-littleEndian 4 (file k .date)) (dated .put-dword .ensures) in
+    let head = then date (puts (hashAt (src k) (file k .hash)) 16 (hash k) (rw (copied .before .bytes-at .ensures) at (copied .copy .ensures))) in
+    let parts-bytes = word (file k .parts .count) ++ bytesAt (src k) (file k .parts .at) (start k .args .parts-len) in
+    let all = then head (as-puts parts-bytes (put .0) (simp (length-append, length-littleEndian)) (put .1)) in
+    let grouped = append-assoc (dword (file k .date)) (hashAt (src k) (file k .hash)) parts-bytes in
+    (omega (arith, all .written, parts k), regrouped grouped refl all .output)
 
 pub put-entry-head-spec : {M : Type 1} → statement M
 put-entry-head-spec =

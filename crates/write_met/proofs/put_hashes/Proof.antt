@@ -1,3 +1,4 @@
+-- The count and the hashes: `after` of the output's laws.
 use mathlib.Core.Path.{refl}
 use denote.Ref.{now}
 use Rattle.format.specs.Layout.{word}
@@ -30,8 +31,10 @@ same-length c = search needs
 
 returns : tie.Need-returns
 returns c =
-    let a = c .before .before .before .before .before .before .before .before .before .before .args in
-    let counted = c .before .before .before .before .before .before .put-word .ensures in
+    let put-word-at = c .before .before .before .before .before .before in
+    let start = put-word-at .before .before .before .before in
+    let a = start .args in
+    let counted = put-word-at .put-word .ensures in
     (refl, after (word (a .count)) (now (a .hashes)) _ _ _ 2 (length-littleEndian 2 (a .count)) counted (c .before .before .copy .ensures))
 
 pub put-hashes-spec : {M : Type 1} → statement M

@@ -1,17 +1,33 @@
-use mathlib.Core.Path.{_≡_, _∙_, ap}
-use mathlib.Core.List.{_++_, append-assoc}
+-- The parts are put one after the other: `then` of Puts.
+use Prim.Native.Nat.{ℕ}
+use mathlib.Core.Path.{_≡_, refl, _∙_}
+use mathlib.Core.List.{List, _++_, append-assoc}
 use native.Mathlib.Omega.{arith}
 use lib.ListN.{length, length-append}
 use denote.Ref.{now}
 use Rattle.format.specs.Layout.{dword, word}
 use Rattle.format.specs.Decoding.{bytesAt}
-use Rattle.format.specs.Writing.{overwritten}
 use Rattle.format.proofs.Codec.{length-littleEndian}
-use Rattle.output.proofs.Laws.{after}
+use Rattle.write_items.proofs.Puts.{as-puts, puts, regrouped, then}
+use Rattle.met.specs.declared.ServerEntry.{ServerEntry}
 use Rattle.write_met.proofs.MetEntries.{server-bytes, server-tags-size}
 use borrow.Author.Needs.{needs}
 use Rattle.write_met.proofs.put_server_entry.Statement.{statement}
 use Rattle.write_met.proofs.put_server_entry.Tie as tie
+
+-- The tags have the length that was found.
+module _ (c : tie.After-shared-slice-known) where
+  abbrev start : tie.Start
+  start = c .before .before
+
+  abbrev src : List ℕ
+  src = now (start .args .src)
+
+  abbrev server : ServerEntry
+  server = start .args .server
+
+  tags : length (bytesAt src (server .tags .at) (start .args .tags-len)) ≡ start .args .tags-len
+  tags = server-tags-size src (c .shared-slice-known .given) server (start .args .tags-len) (start .pre .0)
 
 put-dword-requires : tie.Need-put-dword-requires
 put-dword-requires c κs = search needs
@@ -28,27 +44,20 @@ part-put-word-end c = search needs
 put-word-requires : tie.Need-put-word-requires
 put-word-requires c κs = search needs
 
-sub-put-items : tie.Need-sub-put-items
-sub-put-items c = search needs
+sub-put-list : tie.Need-sub-put-list
+sub-put-list c = search needs
 
-part-put-items-start : tie.Need-part-put-items-start
-part-put-items-start c = search needs
+part-put-list-start : tie.Need-part-put-list-start
+part-put-list-start c = search needs
 
-part-put-items-end : tie.Need-part-put-items-end
-part-put-items-end c = search needs
+part-put-list-end : tie.Need-part-put-list-end
+part-put-list-end c = search needs
 
 bytes-at-requires : tie.Need-bytes-at-requires
 bytes-at-requires c κs = search needs
 
-put-items-requires : tie.Need-put-items-requires
-put-items-requires c κs =
-    let b4 = c .before .before .before .before in
-    let b8 = b4 .before .before .before .before in
-    let b12 = b8 .before .before .before .before in
-    let a = b12 .before .args in
-    let pre = b12 .before .pre in
-    let size = server-tags-size (now (a .src)) (b8 .before .before .before .shared-slice-known .given) (a .e) (a .t) (pre .0) in
-    rw (c .bytes-at .ensures, size) (omega (arith, pre .1))
+put-list-requires : tie.Need-put-list-requires
+put-list-requires c κs = let k = c .before .before .before .before .before .before .before .before .before .before .before in rw (c .bytes-at .ensures, tags k) (omega (arith, start k .pre .1))
 
 add-result : tie.Need-add-result
 add-result c = search needs
@@ -58,24 +67,16 @@ same-length c = search needs
 
 returns : tie.Need-returns
 returns c =
-    let b4 = c .before .before .before .before in
-    let b8 = b4 .before .before .before .before in
-    let b12 = b8 .before .before .before .before in
-    let b16 = b12 .before .before .before .before in
-    let a = b16 .args in
-    let pre = b16 .pre in
-    let known = b12 .before .before .shared-slice-known .given in
-    let size = server-tags-size (now (a .src)) known (a .e) (a .t) (pre .0) in
-    let ip = dword (a .e .ip) in
-    let port = word (a .e .port) in
-    let items = dword (a .e .tags .count) ++ bytesAt (now (a .src)) (a .e .tags .at) (a .t) in
-    let put = rw (c .before .before .before .bytes-at .ensures) at (c .before .before .put-items .ensures) in
-    let first = after ip port _ _ _ 4 (length-littleEndian 4 (a .e .ip)) (b8 .before .before .before .put-dword .ensures) (b4 .before .before .before .put-word .ensures) in
-    let six : length (ip ++ port) ≡ 6 = simp (length-append, length-littleEndian) (omega arith) in
-    let all = after (ip ++ port) items _ _ _ 6 six first (put .1) in (
-      omega (arith, put .0, size),
-      all ∙ ap (λ bytes. overwritten bytes (now (a .out))) (append-assoc ip port items ∙ server-bytes (now (a .src)) known (a .e) (a .t) (pre .0)),
-    )
+    let ported = c .before .before .before .before .before .before .before in
+    let addressed = ported .before .before .before .before in
+    let k = addressed .before .before .before in
+    let put = rw (c .before .before .before .bytes-at .ensures) at (c .before .before .put-list .ensures) in
+    let ip = puts (dword (server k .ip)) 4 (length-littleEndian 4 (server k .ip)) (addressed .put-dword .ensures) in
+    let head = then ip (puts (word (server k .port)) 2 (length-littleEndian 2 (server k .port)) (ported .put-word .ensures)) in
+    let items = dword (server k .tags .count) ++ bytesAt (src k) (server k .tags .at) (start k .args .tags-len) in
+    let all = then head (as-puts items (put .0) (simp (length-append, length-littleEndian)) (put .1)) in
+    let grouped = append-assoc (dword (server k .ip)) (word (server k .port)) items ∙ server-bytes (src k) (k .shared-slice-known .given) (server k) (start k .args .tags-len) (start k .pre .0) in
+    (omega (arith, all .written, tags k), regrouped grouped refl all .output)
 
 pub put-server-entry-spec : {M : Type 1} → statement M
 put-server-entry-spec =
@@ -86,11 +87,11 @@ put-server-entry-spec =
     part-put-word-start
     part-put-word-end
     put-word-requires
-    sub-put-items
-    part-put-items-start
-    part-put-items-end
+    sub-put-list
+    part-put-list-start
+    part-put-list-end
     bytes-at-requires
-    put-items-requires
+    put-list-requires
     add-result
     same-length
     returns)

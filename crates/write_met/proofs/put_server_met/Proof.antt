@@ -1,3 +1,4 @@
+-- The entries and the tail: `after` of the output's laws.
 use mathlib.Core.Path.{sym, _∙_}
 use mathlib.Core.List.{_++_}
 use native.Mathlib.Omega.{arith}
@@ -32,10 +33,10 @@ same-length c = search needs
 
 returns : tie.Need-returns
 returns c =
-    let b4 = c .before .before .before .before in
-    let b8 = b4 .before .before .before .before in
-    let a = b8 .before .before .before .args in
-    let head = b4 .before .before .put-entries .ensures in
+    let put-entries-at = c .before .before .before .before .before .before in
+    let start = put-entries-at .before .before .before .before .before in
+    let a = start .args in
+    let head = put-entries-at .put-entries .ensures in
     let own = byte (a .opening) ++ (dword (a .count) ++ now (a .entries)) in
     (omega (arith, head .0), after own (now (a .tail)) _ _ _ _ (entries-size (a .opening) (a .count) (now (a .entries)) ∙ sym (head .0)) (head .1) (c .before .before .copy .ensures))
 

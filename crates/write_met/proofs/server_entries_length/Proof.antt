@@ -13,13 +13,13 @@ server-entries-from-requires c κs = search needs
 length-from-requires : tie.Need-length-from-requires
 length-from-requires c κs =
     let a = c .before .before .args in
-    list-behind codec-server server-needed (now (a .s)) (c .before .shared-slice-known .given) (a .l) (c .server-entries-from .result) (c .server-entries-from .ensures .0)
+    list-behind codec-server server-needed (now (a .s)) (c .before .shared-slice-known .given) (a .list) (c .server-entries-from .result) (c .server-entries-from .ensures .0)
 
 returns : tie.Need-returns
 returns c =
     let a = c .before .before .before .args in
     c .length-from .ensures
-    ∙ list-ends codec-server server-needed (now (a .s)) (c .before .before .shared-slice-known .given) (a .l) (c .before .server-entries-from .result) (c .before .server-entries-from .ensures .0)
+    ∙ list-ends codec-server server-needed (now (a .s)) (c .before .before .shared-slice-known .given) (a .list) (c .before .server-entries-from .result) (c .before .server-entries-from .ensures .0)
 
 pub server-entries-length-spec : {M : Type 1} → statement M
 server-entries-length-spec =

@@ -1,3 +1,4 @@
+-- The tags end after their offset: `end-behind` of Lists.
 use Prim.Native.Nat.{ℕ}
 use mathlib.Core.Path.{ap, _∙_}
 use native.Mathlib.Omega.{arith}
@@ -13,8 +14,8 @@ use Rattle.write_met.proofs.tags_length.Tie as tie
 tags-end-requires : tie.Need-tags-end-requires
 tags-end-requires c κs = search needs
 
-enum-known-e : tie.Need-enum-known-e
-enum-known-e c = search needs
+enum-known-step : tie.Need-enum-known-step
+enum-known-step c = search needs
 
 enum-told : tie.Need-enum-told
 enum-told c = search needs
@@ -29,19 +30,19 @@ returns c =
 
 sub-t9 : tie.Need-sub-t9
 sub-t9 c =
-    let b4 = c .before .before .before .before in
-    let a = b4 .before .args in
-    end-behind codec-tag tag-needed (now (a .s)) (b4 .shared-slice-known .given) (a .l) (rw (c .before .e .given .1) at (c .before .before .before .tags-end .ensures))
+    let start = c .before .before .before .before .before in
+    let a = start .args in
+    end-behind codec-tag tag-needed (now (a .s)) (c .before .before .before .before .shared-slice-known .given) (a .list) (rw (c .before .step .given .1) at (c .before .before .before .tags-end .ensures))
 
 returns-2 : tie.Need-returns-2
 returns-2 c =
-    let b4 = c .before .before .before .before in
-    let a = b4 .before .args in
-    let read = rw (c .before .e .given .1) at (c .before .before .before .tags-end .ensures) in
-    let behind = end-behind codec-tag tag-needed (now (a .s)) (b4 .shared-slice-known .given) (a .l) read in
+    let start = c .before .before .before .before .before in
+    let a = start .args in
+    let read = rw (c .before .step .given .1) at (c .before .before .before .tags-end .ensures) in
+    let behind = end-behind codec-tag tag-needed (now (a .s)) (c .before .before .before .before .shared-slice-known .given) (a .list) read in
     ap (λ (n : ℕ). got tt n) (omega (arith, behind)) ∙ read
 
 pub tags-length-spec : {M : Type 1} → statement M
 tags-length-spec =
     tie.close
-    (tie.spec tags-end-requires enum-known-e enum-told fault-requires returns sub-t9 returns-2)
+    (tie.spec tags-end-requires enum-known-step enum-told fault-requires returns sub-t9 returns-2)

@@ -11,13 +11,13 @@ returns : tie.Need-returns
 unfolding openingNumber
 returns c =
     let a = c .before .args in
-    rw (lt-leb (5 + (a .n + a .tail)) 1048576 (omega arith)) refl
+    rw (lt-leb (5 + (a .size + a .tail)) 1048576 (omega arith)) refl
 
 returns-2 : tie.Need-returns-2
 unfolding openingNumber
 returns-2 c =
     let a = c .before .before .args in
-    rw (lt-leb (5 + (a .n + a .tail)) 1048576 (omega arith)) refl
+    rw (lt-leb (5 + (a .size + a .tail)) 1048576 (omega arith)) refl
 
 add-opening-number : tie.Need-add-opening-number
 add-opening-number c = search needs

@@ -11,7 +11,7 @@ use Rattle.write_part.proofs.check_tags.Tie as tie
 add-end : tie.Need-add-end
 add-end c =
     let a = c .before .args in
-    omega (arith, list-inside codec-tag tag-needed (now (a .src)) (c .shared-slice-known .given) (a .tags) (a .t) (c .before .pre))
+    omega (arith, list-inside codec-tag tag-needed (now (a .src)) (c .shared-slice-known .given) (a .tags) (a .tags-len) (c .before .pre))
 
 check-part-tags-requires : tie.Need-check-part-tags-requires
 check-part-tags-requires c κs = sym (c .before .pre)
