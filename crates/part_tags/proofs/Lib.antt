@@ -1,4 +1,7 @@
 pub mod Rest
-pub mod Names
+pub mod TagLaws
 pub mod SizeTags
+pub mod Ranges
 pub mod GapTags
+pub mod Turns
+pub mod Checks

@@ -1,13 +1,14 @@
 -- The laws of a loop over the items of a list that was decoded before. They are decoded again one by one: with i of n items
 -- passed, the others stand at the cursor.
 use Prim.Native.Nat.{ℕ, suc, _+_, _-_, _≤_, _<_}
-use mathlib.Core.Path.{_≡_, refl, sym, _∙_}
+use mathlib.Core.Path.{_≡_, refl, sym, ap, _∙_}
 use mathlib.Core.List.{List, [], _∷_}
 use native.Mathlib.Nat.{sub-zero}
 use native.Mathlib.Omega.{arith}
 use Rattle.format.specs.Decoding.{Decoder, Fault, Outcome, refused, got, andThen, pure, decodeMany, itemsOf, ends}
 use Rattle.format.proofs.Differ.{differ}
 use Rattle.format.proofs.Many.{loop-step, loop-stop}
+use Rattle.tags.specs.Skips.{placeBehind}
 
 items-cons : {A : Type 0} (s : List ℕ) (a : A) (o : Outcome (List A)) {end : ℕ} → ends o ≡ got tt end
     → itemsOf (andThen s o (λ l. pure (a ∷ l))) ≡ a ∷ itemsOf o
@@ -15,7 +16,7 @@ unfolding ends
 items-cons s a (refused f) e = cc
 items-cons s a (got l p) e = refl
 
-never-refused : {A : Type 0} (o : Outcome A) {f : Fault} {end : ℕ} → ends o ≡ got tt end → refused f ≡ o → ⊥
+pub never-refused : {A : Type 0} (o : Outcome A) {f : Fault} {end : ℕ} → ends o ≡ got tt end → refused f ≡ o → ⊥
 unfolding ends
 never-refused (refused g) e q = differ cc
 never-refused (got a p) e q = differ cc
@@ -54,3 +55,18 @@ module _ {A : Type 0} (d : Decoder A) (s : List ℕ) (n : ℕ) where
           reached = record { passed = omega arith; same-end = same };
           next = rw (m, ← e) (items-cons s a (decodeMany (n - (i + 1)) d s p) (sym same ∙ placed));
         }
+
+    -- the item that is there
+    pub next-there : (a : A) × ((p : ℕ) × (d s at ≡ got a p))
+    next-there = go (d s at) refl
+      where
+        go : (o : Outcome A) → d s at ≡ o → (a : A) × ((p : ℕ) × (d s at ≡ got a p))
+        go (refused f) q = absurd (rest-there (sym q))
+        go (got a p) q = (a, (p, q))
+
+    -- the next item, by the offset after it alone
+    pub turn-after : {p : ℕ} → p ≡ placeBehind (d s at) → (a : A) × ((d s at ≡ got a p) × Turn first i at a p)
+    turn-after {p} e =
+        let t = next-there in
+        let read : d s at ≡ got (t .0) p = t .1 .1 ∙ ap (got (t .0)) (sym (e ∙ ap placeBehind (t .1 .1))) in
+        (t .0, (read, next-turn (sym read)))

@@ -1,34 +1,59 @@
 -- The size tags, one after the other.
-use Prim.Native.Nat.{ℕ}
-use mathlib.Core.Path.{_≡_, refl}
-use mathlib.Core.Bool.{true, false}
+use Prim.Native.Nat.{ℕ, _+_, _-_, _≤_}
+use mathlib.Core.Path.{_≡_, refl, sym, ap, _∙_}
+use mathlib.Core.Bool.{Bool, true, false}
 use mathlib.Core.Option.{Option, none, some}
-use mathlib.Core.List.{List, [], _∷_, _++_}
+use mathlib.Core.List.{List, [], _∷_, _++_, append-assoc}
+use native.Mathlib.Omega.{arith}
+use lib.ListN.{length, getD, drop, length-drop}
+use lib.Dec.{eqb}
+use lib.Seq.{length-take-le}
+use borrow.Author.Tests.{eq-eqb, ne-eqb}
+use Rattle.format.specs.Tables.{pick, same}
 use Rattle.format.specs.Messages.{Tag}
-use Rattle.format.specs.GapTags.{numberOf}
-use Rattle.format.specs.Tables.{same}
+use Rattle.format.specs.Decoding as decoding
+use Rattle.format.specs.Decoding.{bytesAt, passes, violates}
+use Rattle.format.specs.Order.{decodeTag}
 use Rattle.format.specs.PartTagOrder.{sizeIn, sizes}
-use Rattle.tags.specs.declared.TagValue.{TagValue}
-use Rattle.tags.specs.TagAnswers.{valueOf}
+use Rattle.format.proofs.Differ.{differ}
+use Rattle.format.proofs.PartTags.{same-lengths, same-refl}
 use Rattle.part_tags.specs.declared.Number.{Number}
 use Rattle.part_tags.specs.declared.Sizes.{Sizes}
-use Rattle.part_tags.specs.PartTagSteps.{numberMeaning, numberIn, listOf, sizesIn, joined, soleAfter}
+use Rattle.part_tags.specs.TagBytes.{TagThere, nameLength, digitsAt, numberAt, dwordAt}
+use Rattle.part_tags.specs.Survey.{listOf, sizesIn, sizesAt, joined, onlySize, soleAfter, Sized}
+use Rattle.part_tags.proofs.TagLaws.{bytes-of}
 
--- The number of a tag
-pub number-of : (s : List ℕ) (v : TagValue) → numberOf (valueOf s v .0) (valueOf s v .1) ≡ numberMeaning (numberIn v)
-number-of s (TagValue.Hash at) = refl
-number-of s (TagValue.Text p) = refl
-number-of s (TagValue.Dword n) = refl
-number-of s (TagValue.Float n) = refl
-
--- A tag with another name is no size tag; one with the name is one if it has a number.
-pub other-name : (name : List ℕ) (v : Option ℕ) → same name (0x02 ∷ []) ≡ false → sizeIn name v ≡ []
+other-name : (name : List ℕ) (v : Option ℕ) → same name (0x02 ∷ []) ≡ false → sizeIn name v ≡ []
 other-name name none e = refl
 other-name name (some n) e = rw e refl
 
-pub size-name : (name : List ℕ) (n : Number) → same name (0x02 ∷ []) ≡ true → sizeIn name (numberMeaning n) ≡ listOf n
-size-name name Number.None e = refl
-size-name name (Number.Some n) e = rw e refl
+module _ (s : List ℕ) (at : ℕ) (there : TagThere s at) where
+  abbrev number : Option ℕ
+  number = pick (eqb (getD s at 0) 3) (some (numberAt s at)) none
+
+  sizes-is : sizesAt (decodeTag s at) ≡ sizeIn (getD s (at + 3) 0 ∷ digitsAt s at) number
+  sizes-is = let b = bytes-of s at there in rw (there .1 .1, b .name, b .number) refl
+
+  -- A tag is no size tag by the first byte of its name, its length, or its type.
+  pub size-byte : (getD s (at + 3) 0 ≡ 2 → ⊥) → [] ≡ sizesAt (decodeTag s at)
+  unfolding same
+  size-byte h = sym (sizes-is ∙ other-name _ number (rw (ne-eqb (getD s (at + 3) 0) 0x02 h) refl))
+
+  pub size-length : (nameLength s at ≡ 1 → ⊥) → [] ≡ sizesAt (decodeTag s at)
+  size-length h =
+      let b = bytes-of s at there in
+      let long : length (digitsAt s at) ≡ nameLength s at - 1 =
+      length-take-le (nameLength s at - 1) (drop (at + 4) s) (omega (arith, length-drop (at + 4) s, b .inside, b .some-name)) in
+      sym (sizes-is ∙ other-name _ number (same-lengths _ (0x02 ∷ []) (λ e. h (omega (arith, long, b .some-name)))))
+
+  pub size-type : (getD s at 0 ≡ 3 → ⊥) → [] ≡ sizesAt (decodeTag s at)
+  size-type h = sym (sizes-is ∙ rw (ne-eqb (getD s at 0) 3 h) refl)
+
+  pub size-there : getD s (at + 3) 0 ≡ 2 → nameLength s at ≡ 1 → getD s at 0 ≡ 3 → dwordAt s (at + 4) ∷ [] ≡ sizesAt (decodeTag s at)
+  size-there a b c =
+      let name : getD s (at + 3) 0 ∷ digitsAt s at ≡ 0x02 ∷ [] = ap (λ x. x ∷ digitsAt s at) a ∙ ap (λ n. 0x02 ∷ bytesAt s (at + 4) (n - 1)) b in
+      let place : at + 3 + nameLength s at ≡ at + 4 = omega (arith, b) in
+      sym (sizes-is ∙ rw (eq-eqb (getD s at 0) 3 c, name, same-refl (0x02 ∷ []), place) refl)
 
 joined-sole : (found : Sizes) (n : Number) (l : List ℕ) → soleAfter found (listOf n ++ l) ≡ soleAfter (joined found n) l
 joined-sole Sizes.None Number.None l = refl
@@ -38,8 +63,37 @@ joined-sole Sizes.None (Number.Some n) l = refl
 joined-sole (Sizes.One m) (Number.Some n) l = refl
 joined-sole Sizes.Many (Number.Some n) l = refl
 
--- a turn of the loop
-pub sizes-next : (found : Sizes) (n : Number) (t : Tag) (l : List Tag) → listOf n ≡ sizesIn t
-    → soleAfter found (sizes (t ∷ l)) ≡ soleAfter (joined found n) (sizes l)
+sizes-append : (k l : List Tag) → sizes (k ++ l) ≡ sizes k ++ sizes l
 unfolding sizes
-sizes-next found n t l e = rw (← e) (joined-sole found n (sizes l))
+sizes-append [] l = refl
+sizes-append (t ∷ k) l = ap (λ r. sizesIn t ++ r) (sizes-append k l) ∙ sym (append-assoc (sizesIn t) (sizes k) (sizes l))
+
+-- The sizes seen before some tags, after them, and after a next tag or next tags.
+pub sized-none : (found : Sizes) → Sized found [] found
+unfolding sizes
+sized-none found l = refl
+
+pub sized-append : (a b c : Sizes) (k l : List Tag) → Sized a k b → Sized b l c → Sized a (k ++ l) c
+sized-append a b c k l p q r =
+    ap (λ x. soleAfter a (x ++ r)) (sizes-append k l) ∙ ap (soleAfter a) (append-assoc (sizes k) (sizes l) r) ∙ p (sizes l ++ r) ∙ q r
+
+sized-one : (found : Sizes) (n : Number) (t : Tag) → listOf n ≡ sizesIn t → Sized found (t ∷ []) (joined found n)
+unfolding sizes
+sized-one found n t e l = rw (← e, append-assoc) (joined-sole found n l)
+
+pub sized-next : (before found : Sizes) (n : Number) (l : List Tag) (t : Tag) → Sized before l found → listOf n ≡ sizesIn t → Sized before (l ++ (t ∷ [])) (joined found n)
+sized-next before found n l t h e = sized-append before found (joined found n) l (t ∷ []) h (sized-one found n t e)
+
+-- The check of the sizes, when all are seen.
+pub only-none : (found : Sizes) → Number.None ≡ onlySize found → soleAfter found [] ≡ violates decoding.sizeTag
+only-none Sizes.None e = refl
+only-none (Sizes.One n) e = differ cc
+only-none Sizes.Many e = refl
+
+pub only-some : (found : Sizes) {n : ℕ} → Number.Some n ≡ onlySize found → soleAfter found [] ≡ passes n
+only-some Sizes.None e = differ cc
+only-some (Sizes.One m) e = ap passes (number-same (sym e))
+  where
+    number-same : {a b : ℕ} → Number.Some a ≡ Number.Some b → a ≡ b
+    number-same e = cc
+only-some Sizes.Many e = differ cc

@@ -1,2 +1,4 @@
 pub mod PartTagAnswers
-pub mod PartTagSteps
+pub mod TagBytes
+pub mod Survey
+pub mod Pairs

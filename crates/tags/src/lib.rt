@@ -304,6 +304,21 @@ pub fn whole_tag_end(s: &[u8], at: usize) -> usize
     named_tag_end(s, at, name_len)
 }
 
+// The offset after a tag; 0 for one that is refused.
+pub fn tag_after(s: &[u8], at: usize) -> usize
+    ensures { λ r. ⌜ r ≡ placeBehind (decodeTag (now (s .entry)) at) ⌝ }
+{
+    let end = tag_end(s, at);
+    if end != 0 {
+        return end;
+    }
+    let tag_step = read_tag(s, Cursor { at });
+    let TagStep::Got(_, next) = tag_step else {
+        return 0;
+    };
+    next.at
+}
+
 // Tags one after the other, as many as counted.
 fn tags_end(s: &[u8], at: usize, count: u32) -> usize
     ensures { λ r. ⌜ EndsThere (ends (decodeMany count decodeTag (now (s .entry)) at)) r ⌝ }

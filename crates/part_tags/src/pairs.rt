@@ -1,0 +1,236 @@
+// The second pass: the pairs of gap tags in their byte range, once the size is known. A pair is kept as the offset of its start tag;
+// its end tag comes right after it, so that both are read in one turn.
+ghost use mathlib.Core.Path.{_≡_};
+ghost use mathlib.Core.List.{List};
+ghost use Prim.Native.Nat.{_+_, _≤_, _<_};
+ghost use lib.ListN.{length};
+ghost use mathlib.Core.Bool.{false};
+ghost use Rattle.format.specs.Gaps.{gapLimit};
+ghost use Rattle.format.specs.Order.{decodeTag};
+ghost use Rattle.format.specs.PartTagOrder.{used};
+ghost use Rattle.format.specs.PutGaps.{isPlain};
+ghost use Rattle.wire.specs.WireAnswers.{ItemsPlaced};
+ghost use Rattle.part_tags.specs.TagBytes.{TagThere, digitsAt, roleAt};
+ghost use Rattle.part_tags.specs.Pairs.{keyFound, keyOf, firstPairs, PairsInside, Keeps, StartFound, EndFound, PairFound, Scans};
+use crate::EndStep;
+use crate::Key;
+use crate::PairStep;
+use crate::Progress;
+use crate::Scanned;
+use crate::StartStep;
+use crate::Verdict;
+use crate::dword_at;
+use crate::name_length;
+use crate::survey::is_plain;
+use output::same;
+use tags::tag_after;
+use wire::Items;
+use wire::Rule;
+use wire::bytes_at;
+
+fn wide(b: u8) -> u64
+    ensures { λ r. ⌜ r ≡ b ⌝ }
+{
+    b as u64
+}
+
+// The key of 1 to 10 decimal digits.
+fn digits_key(digits: &[u8]) -> Key
+    ensures { λ r. ⌜ r ≡ keyFound (now (digits .entry)) ⌝ }
+{
+    let n = digits.len();
+    if n < 1 {
+        return Key::None;
+    }
+    if 10 < n {
+        return Key::None;
+    }
+    let mut key = 0;
+    let mut i = 0;
+    while i < n {
+        let b = digits[i];
+        if b < 48 {
+            return Key::None;
+        }
+        if 57 < b {
+            return Key::None;
+        }
+        key = key % 1099511627776 * 16 + wide(b);
+        i += 1;
+    }
+    Key::Some(key)
+}
+
+// The digits of the gap tag that lies there.
+fn digits_at(s: &[u8], at: usize) -> &[u8]
+    requires { ⌜ at + 4 ≤ length (now s) ⌝ }
+    ensures { λ r. ⌜ now r ≡ digitsAt (now (s .entry)) at ⌝ }
+{
+    let length = name_length(s, at);
+    if length == 0 {
+        return bytes_at(s, at + 4, 0);
+    }
+    bytes_at(s, at + 4, length - 1)
+}
+
+// Whether one of the pairs has these digits.
+fn is_used(s: &[u8], digits: &[u8], starts: &[usize; 64], count: usize) -> bool
+    requires { ⌜ (count ≤ gapLimit) × PairsInside (now s) count (now starts) ⌝ }
+    ensures { λ r. ⌜ r ≡ used (now (digits .entry)) (firstPairs (now (s .entry)) count (now (starts .entry))) ⌝ }
+{
+    let mut i = count;
+    while 0 < i {
+        i -= 1;
+        let at = starts[i];
+        if same(digits, digits_at(s, at)) {
+            return true;
+        }
+    }
+    false
+}
+
+// The same for digits of this key: above the highest key they are new.
+fn is_taken(s: &[u8], digits: &[u8], key: u64, starts: &[usize; 64], progress: Progress) -> bool
+    requires { ⌜ Keeps (now s) (now starts) progress × (key ≡ keyOf (now digits)) ⌝ }
+    ensures { λ r. ⌜ r ≡ used (now (digits .entry)) (firstPairs (now (s .entry)) (progress .count) (now (starts .entry))) ⌝ }
+{
+    if progress.highest < key {
+        return false;
+    }
+    is_used(s, digits, starts, progress.count)
+}
+
+// A gap tag between two pairs must be the start tag of the next one.
+fn start_tag(s: &[u8], at: usize, starts: &[usize; 64], progress: Progress) -> StartStep
+    requires { ⌜ TagThere (now s) at × (isPlain (roleAt (decodeTag (now s) at)) ≡ false) × Keeps (now s) (now starts) progress ⌝ }
+    ensures { λ r. ⌜ StartFound (now (s .entry)) (firstPairs (now (s .entry)) (progress .count) (now (starts .entry))) at r ⌝ }
+{
+    if 64 <= progress.count {
+        return StartStep::Violates(Rule::GapCeiling);
+    }
+    let first = s[at + 3];
+    if first != 9 {
+        return StartStep::Violates(Rule::Order);
+    }
+    let code = s[at];
+    if code != 3 {
+        return StartStep::Violates(Rule::Order);
+    }
+    let digits = digits_at(s, at);
+    let k = digits_key(digits);
+    let Key::Some(key) = k else {
+        return StartStep::Violates(Rule::Order);
+    };
+    if is_taken(s, digits, key, starts, progress) {
+        return StartStep::Violates(Rule::Order);
+    }
+    let length = name_length(s, at);
+    let start = dword_at(s, at + 3 + length);
+    if (start as u64) < progress.low {
+        return StartStep::Violates(Rule::Order);
+    }
+    StartStep::Takes(key, start, at + 7 + length)
+}
+
+// The tag after the start tag of a pair must be its end tag, with the same digits.
+fn end_tag(s: &[u8], size: u32, digits: &[u8], start: u32, at: usize) -> EndStep
+    requires { ⌜ TagThere (now s) at ⌝ }
+    ensures { λ r. ⌜ EndFound (now (s .entry)) size (now (digits .entry)) start at r ⌝ }
+{
+    let first = s[at + 3];
+    if first != 10 {
+        return EndStep::Violates;
+    }
+    let code = s[at];
+    if code != 3 {
+        return EndStep::Violates;
+    }
+    if !same(digits, digits_at(s, at)) {
+        return EndStep::Violates;
+    }
+    let length = name_length(s, at);
+    let end = dword_at(s, at + 3 + length);
+    if end <= start {
+        return EndStep::Violates;
+    }
+    if size < end {
+        return EndStep::Violates;
+    }
+    EndStep::Takes(end, at + 7 + length)
+}
+
+// A gap tag between two pairs and the tag after it.
+fn take_pair(s: &[u8], left: Items, size: u32, starts: &[usize; 64], progress: Progress) -> PairStep
+    requires { ⌜ ItemsPlaced decodeTag (now s) left × (0 < left .count) × (isPlain (roleAt (decodeTag (now s) (left .at))) ≡ false)
+        × Keeps (now s) (now starts) progress ⌝ }
+    ensures { λ r. ⌜ PairFound (now (s .entry)) size (firstPairs (now (s .entry)) (progress .count) (now (starts .entry))) left r ⌝ }
+{
+    let at = left.at;
+    let a = start_tag(s, at, starts, progress);
+    let StartStep::Takes(key, start, second) = a else {
+        return PairStep::Violates(a.rule());
+    };
+    if left.count < 2 {
+        return PairStep::Violates(Rule::Order);
+    }
+    let b = end_tag(s, size, digits_at(s, at), start, second);
+    let EndStep::Takes(end, after) = b else {
+        return PairStep::Violates(Rule::Order);
+    };
+    PairStep::Takes(key, end, after)
+}
+
+fn higher(a: u64, b: u64) -> u64
+    ensures { λ r. ⌜ (a ≤ r) × (b ≤ r) ⌝ }
+{
+    if a < b { b } else { a }
+}
+
+// All pairs of the range. The offsets of their start tags are left in the array.
+pub fn scan_gaps(s: &[u8], range: Items, size: u32, starts: &mut [usize; 64]) -> Scanned
+    requires { ⌜ ItemsPlaced decodeTag (now s) range × (length (now starts) ≡ 64) ⌝ }
+    ensures { λ r. ⌜ Scans (now (s .entry)) size range (now (starts .exit)) r ⌝ }
+{
+    let count = range.count;
+    let range_end = range.end;
+    let mut progress = Progress {
+        count: 0,
+        low: 0,
+        highest: 0,
+    };
+    let mut next = range.at;
+    let mut i: u32 = 0;
+    while i < count {
+        let here = next;
+        if is_plain(s, here) {
+            next = tag_after(s, here);
+            i += 1;
+        } else {
+            let left = Items {
+                at: here,
+                end: range_end,
+                count: count - i,
+            };
+            let p = take_pair(s, left, size, starts, progress);
+            let PairStep::Takes(key, end, after) = p else {
+                return Scanned {
+                    verdict: Verdict::Violates(p.rule()),
+                    count: 0,
+                };
+            };
+            let pairs = progress.count;
+            starts[pairs] = here;
+            progress = Progress {
+                count: pairs + 1,
+                low: end as u64 + 1,
+                highest: higher(progress.highest, key),
+            };
+            next = after;
+            i += 2;
+        }
+    }
+    Scanned {
+        verdict: Verdict::Passes,
+        count: progress.count,
+    }
+}
