@@ -1,31 +1,40 @@
 -- The clauses of the part.met reader, and what follows for the gaps from the tags that it found.
-use Prim.Native.Nat.{ℕ}
-use mathlib.Core.Path.{_≡_, refl, ap, _∙_}
+use Prim.Native.Nat.{ℕ, _-_}
+use mathlib.Core.Path.{_≡_, refl, sym, ap, subst, _∙_}
 use mathlib.Core.Logic.{_↔_}
 use mathlib.Core.List.{List}
 use lib.ListN.{getD}
+use native.Mathlib.Omega.{arith}
 use mir.Syntax.{w8}
 use mir.Val.{Fits}
-use Rattle.format.specs.Messages.{Kind, Message, Tag}
+use Rattle.format.specs.Messages.{Kind, Message}
 use Rattle.format.specs.Layout.{encode}
 use Rattle.format.specs.Rules.{Valid}
-use Rattle.format.specs.Decoding.{Reply, message, reply}
-use Rattle.format.specs.Order.{decodeTag}
+use Rattle.format.specs.Decoding.{Fault, Reply, decodeMany, ends, fault, got, message, passes, refused, reply}
+use Rattle.format.specs.Order.{decodeCounted, decodeDword, decodeTag, decodeTags}
 use Rattle.format.specs.GapTags.{gapsOf}
 use Rattle.format.specs.PartTagOrder.{checkPartTags}
-use Rattle.format.specs.MetOrder.{decode}
+use Rattle.format.specs.MetOrder.{decode, decodePartTags}
 use Rattle.wire.specs.declared.Items.{Items}
-use Rattle.wire.specs.WireAnswers.{itemsIn, ItemsPlaced}
-use Rattle.format.proofs.Differ.{differ}
+use Rattle.wire.specs.declared.ItemsStep.{ItemsStep}
+use Rattle.wire.specs.declared.Rule.{Rule}
+use Rattle.wire.specs.WireAnswers.{itemsIn, ItemsInside, ItemsPlaced, ruleMeaning}
+use Rattle.format.proofs.Items.{codec-tag}
+use Rattle.format.proofs.Many.{ends-items}
+use Rattle.format.proofs.There.{dword-ends}
+use Rattle.wire.proofs.Inside.{items-inside}
 use Rattle.wire.proofs.Replies.{exact}
+use Rattle.gaps.specs.declared.GapRecord.{GapRecord}
 use Rattle.gaps.specs.GapRecords.{recordOf}
+use Rattle.part_tags.specs.declared.CheckedTags.{CheckedTags}
 use Rattle.part_tags.specs.declared.TagsVerdict.{TagsVerdict}
-use Rattle.part_tags.specs.declared.PartTags.{PartTags}
-use Rattle.part_tags.specs.PartTagAnswers.{verdictMeaning, gapsMeaning}
+use Rattle.part_tags.specs.PartTagAnswers.{tagsAt, GapsHeld, TagsChecked}
+use Rattle.part_tags.specs.Pairs.{firstGaps}
+use Rattle.part_tags.specs.Survey.{GapTagsIn}
 use Rattle.met.specs.declared.PartMet.{PartMet}
-use Rattle.met.specs.declared.PartAnswer.{PartAnswer}
-use Rattle.met.specs.MetAnswers.{TagsSized, partMetIn, PartMetPlaced, tagsOf, tagsPlace}
-use Rattle.met.specs.MetAnswers.{partReply, PartAnswerPlaced, PartAnswerSized, sizeFound, gapsAnswer}
+use Rattle.met.specs.declared.PartRead.{PartRead}
+use Rattle.met.specs.MetAnswers.{TagsSized, partMetIn, PartMetSized, tagsOf, tagsPlace}
+use Rattle.met.specs.MetAnswers.{PartAnswerSized, sizeFound, gapsAnswer, partIn, PartReadSized}
 
 -- the four clauses of a reader of whole inputs that also answers a size
 module _ (k : Kind) (s : List ℕ) (known : (i : ℕ) → Fits w8 (getD s i 0)) {r : Reply (Message k)} where
@@ -33,30 +42,60 @@ module _ (k : Kind) (s : List ℕ) (known : (i : ℕ) → Fits w8 (getD s i 0)) 
       (r ≡ reply (decode k s)) × (Placed × (Sized × ((m : Message k) → (r ≡ message m) ↔ ((s ≡ encode k m) × Valid k m))))
   exact-sized e p z = (e, (p, (z, exact k s known e)))
 
+-- the answer without the byte range of the gap tags
+pub part-sized : (s : List ℕ) (r : PartRead) → PartReadSized s r → PartAnswerSized s (partIn r)
+part-sized s (PartRead.Accepted m size range) h = h .0
+part-sized s (PartRead.Refused n) h = tt
+
+-- A counted tag list whose tags were checked: refused, or there whole.
+module _ (s : List ℕ) (at count first : ℕ) (counted : got count first ≡ decodeDword s at) where
+  pub tags-refused : {f : Fault} → refused f ≡ decodeMany count decodeTag s first → refused f ≡ decodePartTags s at
+  unfolding decodePartTags decodeTags decodeCounted
+  tags-refused e = rw (← counted, ← e) refl
+
+  module _ (starts : List ℕ) (r : CheckedTags) (h : TagsChecked s first count starts r) where
+    abbrev tags : Items
+    tags = tagsAt first count r
+
+    there : got (itemsIn decodeTag s tags) (r .end) ≡ decodeMany count decodeTag s first
+    there = ends-items (decodeMany count decodeTag s first) (r .end) (h .placed)
+
+    pub tags-violate : (rule : Rule) (size : ℕ) → r .verdict ≡ TagsVerdict.Violates rule → size ≡ r .end - at
+        → refused (fault (ruleMeaning rule) at size) ≡ decodePartTags s at
+    unfolding decodePartTags decodeTags decodeCounted
+    tags-violate rule size e z = rw (z, ← counted, ← there, ← rw e at (h .verdict)) refl
+
+    pub tags-pass : ((i : ℕ) → Fits w8 (getD s i 0)) → (size : ℕ) → r .verdict ≡ TagsVerdict.Passes size
+        → (got (size, itemsIn decodeTag s tags) (r .end) ≡ decodePartTags s at)
+        × (ItemsInside decodeTag s tags × (TagsSized (itemsIn decodeTag s tags) size × GapTagsIn s tags (r .range)))
+    unfolding decodePartTags decodeTags decodeCounted
+    tags-pass known size e =
+        let passed = rw e at (h .verdict) in
+        let from = dword-ends s at (sym counted) in (
+          rw (← counted, ← there, ← passed) refl,
+          (
+            items-inside codec-tag s known (ItemsStep.Got tags (record { at = r .end })) count first (omega (arith, from)) there (h .placed, refl),
+            (sym passed, h .range),
+          ),
+        )
+
 tags-in : (s : List ℕ) (file : PartMet) → itemsIn decodeTag s (tagsPlace file) ≡ tagsOf (partMetIn s file)
 tags-in s (PartMet.E0 e) = refl
 tags-in s (PartMet.E1 m) = refl
 
--- tags that pass have passed with the size that was found
-passed : (tags : List Tag) (size : ℕ) (v : TagsVerdict) → TagsSized tags size → verdictMeaning tags v ≡ checkPartTags tags →
-    gapsMeaning tags v ≡ recordOf (sizeFound (checkPartTags tags)) (gapsOf tags)
-passed tags size (TagsVerdict.Passes n) sized e = rw (← e) refl
-passed tags size (TagsVerdict.Violates rule) sized e = differ cc
+-- An accepted part.met, by its tags and the byte range of its gap tags.
+module _ (s : List ℕ) (file : PartMet) (size : ℕ) (range : Items) (h : PartMetSized s file size × GapTagsIn s (tagsPlace file) range) where
+  pub range-placed : ItemsPlaced decodeTag s range
+  unfolding ends
+  range-placed = ap ends (h .1 .mid-read)
 
-file-placed : (s : List ℕ) (file : PartMet) → PartMetPlaced s file → ItemsPlaced decodeTag s (tagsPlace file)
-file-placed s (PartMet.E0 e) p = p .1 .1 .0
-file-placed s (PartMet.E1 m) p = p .1 .0 .0
+  pub file-passes : checkPartTags (itemsIn decodeTag s (tagsPlace file)) ≡ passes (size, itemsIn decodeTag s (tagsPlace file))
+  file-passes = subst (λ l. TagsSized l size) (sym (tags-in s file)) (h .0)
 
-module _ (s : List ℕ) {a : PartAnswer} {file : PartMet} {size : ℕ} (accepted : a ≡ PartAnswer.Accepted file size) where
-  -- the tags of an accepted part.met lie where its answer says
-  pub tags-placed : PartAnswerPlaced s a → ItemsPlaced decodeTag s (tagsPlace file)
-  tags-placed p = file-placed s file (rw accepted at p)
-
-  -- the gaps that a second check of its tags finds are those that a caller is to be told
-  pub gaps-found : PartAnswerSized s a → {tags : Items} → tags ≡ tagsPlace file → (p : PartTags) →
-      verdictMeaning (itemsIn decodeTag s tags) (p .verdict) ≡ checkPartTags (itemsIn decodeTag s tags) →
-      p .gaps ≡ gapsMeaning (itemsIn decodeTag s tags) (p .verdict) → record { number = 0; gaps = p .gaps } ≡ gapsAnswer (partReply s a)
-  gaps-found sized {tags} place p verdict gaps =
-      let same : itemsIn decodeTag s tags ≡ tagsOf (partMetIn s file) = ap (itemsIn decodeTag s) place ∙ tags-in s file in
-      let found = passed (tagsOf (partMetIn s file)) size (p .verdict) (rw accepted at sized) (rw same at verdict) in
-      rw accepted (ap (λ g. record { number = 0; gaps = g }) (gaps ∙ rw same found))
+  -- the gaps that the range holds are those that a caller is to be told
+  pub gaps-told : (starts : List ℕ) (n : ℕ) {g : GapRecord} → GapsHeld s starts n (itemsIn decodeTag s (tagsPlace file)) → g ≡ recordOf size (firstGaps s n starts)
+      → record { number = 0; gaps = g } ≡ gapsAnswer (message (partMetIn s file))
+  gaps-told starts n held e =
+      let gaps = held .gaps ∙ ap gapsOf (tags-in s file) in
+      let found : size ≡ sizeFound (checkPartTags (tagsOf (partMetIn s file))) = sym (ap sizeFound (h .0)) in
+      ap (λ g. record { number = 0; gaps = g }) (e ∙ ap (recordOf size) gaps ∙ ap (λ n. recordOf n (gapsOf (tagsOf (partMetIn s file)))) found)

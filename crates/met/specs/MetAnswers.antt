@@ -15,6 +15,7 @@ use Rattle.wire.specs.declared.Fault.{Fault}
 use Rattle.wire.specs.declared.Items.{Items}
 use Rattle.wire.specs.WireAnswers.{faultMeaning, hashAt, HashInside, placeBytes, PlaceInside, itemsIn, ItemsInside, noFault}
 use Rattle.gaps.specs.GapRecords.{recordOf, noneMissing}
+use Rattle.part_tags.specs.Survey.{GapTagsIn}
 use Rattle.met.specs.declared.FileEntry.{FileEntry}
 use Rattle.met.specs.declared.FileEntryStep.{FileEntryStep}
 use Rattle.met.specs.declared.KnownMet.{KnownMet}
@@ -36,6 +37,7 @@ use Rattle.met.specs.declared.PartE1.{PartE1}
 use Rattle.met.specs.declared.PartMet.{PartMet}
 use Rattle.met.specs.declared.PartMetStep.{PartMetStep}
 use Rattle.met.specs.declared.PartAnswer.{PartAnswer}
+use Rattle.met.specs.declared.PartRead.{PartRead}
 use Rattle.met.specs.declared.GapsAnswer.{GapsAnswer}
 
 -- known.met
@@ -157,15 +159,16 @@ abbrev pub TagsSized : List messages.Tag → ℕ → Type 0
 TagsSized tags size = checkPartTags tags ≡ passes (size, tags)
 
 abbrev pub partTagsMeaning : List ℕ → PartTagsStep → Outcome (ℕ × List messages.Tag)
-partTagsMeaning s (PartTagsStep.Got l size c) = got (size, itemsIn decodeTag s l) (c .at)
+partTagsMeaning s (PartTagsStep.Got l size range c) = got (size, itemsIn decodeTag s l) (c .at)
 partTagsMeaning s (PartTagsStep.Refused f) = refused (faultMeaning f)
 
 abbrev pub PartTagsStepPlaced : List ℕ → PartTagsStep → Type 0
-PartTagsStepPlaced s (PartTagsStep.Got l size c) = ItemsInside decodeTag s l
+PartTagsStepPlaced s (PartTagsStep.Got l size range c) = ItemsInside decodeTag s l
 PartTagsStepPlaced s (PartTagsStep.Refused f) = Unit {0}
 
+-- its size, and where its gap tags lie
 abbrev pub PartTagsStepSized : List ℕ → PartTagsStep → Type 0
-PartTagsStepSized s (PartTagsStep.Got l size c) = TagsSized (itemsIn decodeTag s l) size
+PartTagsStepSized s (PartTagsStep.Got l size range c) = TagsSized (itemsIn decodeTag s l) size × GapTagsIn s l range
 PartTagsStepSized s (PartTagsStep.Refused f) = Unit {0}
 
 abbrev pub partE1In : List ℕ → PartE1 → messages.PartE1
@@ -193,15 +196,15 @@ abbrev pub PartMetSized : List ℕ → PartMet → ℕ → Type 0
 PartMetSized s m size = TagsSized (tagsOf (partMetIn s m)) size
 
 abbrev pub partMetMeaning : List ℕ → PartMetStep → Outcome messages.PartMet
-partMetMeaning s (PartMetStep.Got m size c) = got (partMetIn s m) (c .at)
+partMetMeaning s (PartMetStep.Got m size range c) = got (partMetIn s m) (c .at)
 partMetMeaning s (PartMetStep.Refused f) = refused (faultMeaning f)
 
 abbrev pub PartMetStepPlaced : List ℕ → PartMetStep → Type 0
-PartMetStepPlaced s (PartMetStep.Got m size c) = PartMetPlaced s m
+PartMetStepPlaced s (PartMetStep.Got m size range c) = PartMetPlaced s m
 PartMetStepPlaced s (PartMetStep.Refused f) = Unit {0}
 
 abbrev pub PartMetStepSized : List ℕ → PartMetStep → Type 0
-PartMetStepSized s (PartMetStep.Got m size c) = PartMetSized s m size
+PartMetStepSized s (PartMetStep.Got m size range c) = PartMetSized s m size × GapTagsIn s (tagsPlace m) range
 PartMetStepSized s (PartMetStep.Refused f) = Unit {0}
 
 abbrev pub partReply : List ℕ → PartAnswer → Reply messages.PartMet
@@ -215,6 +218,15 @@ PartAnswerPlaced s (PartAnswer.Refused n) = Unit {0}
 abbrev pub PartAnswerSized : List ℕ → PartAnswer → Type 0
 PartAnswerSized s (PartAnswer.Accepted m size) = PartMetSized s m size
 PartAnswerSized s (PartAnswer.Refused n) = Unit {0}
+
+-- The answer with the byte range of the gap tags, and without it.
+abbrev pub partIn : PartRead → PartAnswer
+partIn (PartRead.Accepted m size range) = PartAnswer.Accepted m size
+partIn (PartRead.Refused n) = PartAnswer.Refused n
+
+abbrev pub PartReadSized : List ℕ → PartRead → Type 0
+PartReadSized s (PartRead.Accepted m size range) = PartMetSized s m size × GapTagsIn s (tagsPlace m) range
+PartReadSized s (PartRead.Refused n) = Unit {0}
 
 -- The gaps
 
@@ -257,9 +269,9 @@ editionFault (EditionStep.Got e c) = noFault
 editionFault (EditionStep.Refused f) = f
 
 abbrev pub partTagsFault : PartTagsStep → Fault
-partTagsFault (PartTagsStep.Got l size c) = noFault
+partTagsFault (PartTagsStep.Got l size range c) = noFault
 partTagsFault (PartTagsStep.Refused f) = f
 
 abbrev pub partMetFault : PartMetStep → Fault
-partMetFault (PartMetStep.Got m size c) = noFault
+partMetFault (PartMetStep.Got m size range c) = noFault
 partMetFault (PartMetStep.Refused f) = f

@@ -17,7 +17,7 @@ ghost use Rattle.met.specs.MetAnswers.{serverEntryFault};
 ghost use Rattle.met.specs.MetAnswers.{serverMetFault};
 ghost use Rattle.met.specs.MetAnswers.{markFault, blocksFault, editionFault};
 ghost use Rattle.met.specs.MetAnswers.{partTagsFault, tagsPlace};
-ghost use Rattle.met.specs.MetAnswers.{partMetFault};
+ghost use Rattle.met.specs.MetAnswers.{partMetFault, partIn};
 use gaps::GapRecord;
 use wire::ByteStep;
 use wire::Cursor;
@@ -37,6 +37,7 @@ pub use known::read_file_entry;
 pub use known::read_known_met;
 pub use part::block_hashes_from;
 pub use part::read_gaps;
+pub use part::read_part;
 pub use part::read_part_met;
 pub use server::read_server_entry;
 pub use server::read_server_met;
@@ -260,9 +261,9 @@ impl EditionStep {
     }
 }
 
-// A tag list that passes the check of a part.met, with its size, which the check finds.
+// A tag list that passes the check of a part.met, with its size and the byte range of its gap tags, which the check finds.
 enum PartTagsStep {
-    Got(Items, u32, Cursor),
+    Got(Items, u32, Items, Cursor),
     Refused(Fault),
 }
 
@@ -271,7 +272,7 @@ impl PartTagsStep {
         ensures { λ r. ⌜ r ≡ partTagsFault self ⌝ }
     {
         match self {
-            PartTagsStep::Got(_, _, _) => no_fault(),
+            PartTagsStep::Got(_, _, _, _) => no_fault(),
             PartTagsStep::Refused(f) => f,
         }
     }
@@ -302,9 +303,9 @@ impl PartMet {
     }
 }
 
-// A part.met and the size of its file.
+// A part.met, the size of its file, and the byte range of its gap tags.
 enum PartMetStep {
-    Got(PartMet, u32, Cursor),
+    Got(PartMet, u32, Items, Cursor),
     Refused(Fault),
 }
 
@@ -313,7 +314,7 @@ impl PartMetStep {
         ensures { λ r. ⌜ r ≡ partMetFault self ⌝ }
     {
         match self {
-            PartMetStep::Got(_, _, _) => no_fault(),
+            PartMetStep::Got(_, _, _, _) => no_fault(),
             PartMetStep::Refused(f) => f,
         }
     }
@@ -323,6 +324,24 @@ impl PartMetStep {
 pub enum PartAnswer {
     Accepted(PartMet, u32),
     Refused(u8),
+}
+
+// The same, with the byte range of the gap tags: the tags of the list before it and after it are no gap tags.
+pub enum PartRead {
+    Accepted(PartMet, u32, Items),
+    Refused(u8),
+}
+
+impl PartRead {
+    // The answer without the range.
+    pub fn part(self) -> PartAnswer
+        ensures { λ r. ⌜ r ≡ partIn self ⌝ }
+    {
+        match self {
+            PartRead::Accepted(file, size, _) => PartAnswer::Accepted(file, size),
+            PartRead::Refused(n) => PartAnswer::Refused(n),
+        }
+    }
 }
 
 // 0 and the gaps of a part.met; or the number of its refusal, and no gaps of an empty file.

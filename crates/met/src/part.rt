@@ -15,6 +15,7 @@ ghost use Rattle.met.specs.MetAnswers.{markMeaning, blocksMeaning, Block
 ghost use Rattle.met.specs.MetAnswers.{partTagsMeaning, PartTagsStepPlaced, PartTagsStepSized};
 ghost use Rattle.met.specs.MetAnswers.{partMetMeaning, PartMetStepPlaced, PartMetStepSized};
 ghost use Rattle.met.specs.MetAnswers.{partReply, PartAnswerPlaced, PartAnswerSized, gapsAnswer};
+ghost use Rattle.met.specs.MetAnswers.{partIn, PartReadSized};
 use crate::BlocksStep;
 use crate::Edition;
 use crate::EditionStep;
@@ -28,16 +29,19 @@ use crate::PartAnswer;
 use crate::PartE1;
 use crate::PartMet;
 use crate::PartMetStep;
+use crate::PartRead;
 use crate::PartTagsStep;
 use crate::block_count;
 use crate::length_between;
 use crate::part_count;
 use gaps::none_missing;
+use part_tags::CheckedStep;
 use part_tags::TagsVerdict;
-use part_tags::check_part_tags;
+use part_tags::gap_starts;
+use part_tags::part_tags_from;
+use part_tags::record_of;
 use records::hashes_from;
 use records::read_hashes;
-use tags::read_tags;
 use wire::ByteStep;
 use wire::Cursor;
 use wire::DoneStep;
@@ -181,18 +185,27 @@ fn read_part_tags(s: &[u8], c: Cursor) -> PartTagsStep
     ensures placed { λ r. ⌜ PartTagsStepPlaced (now (s .entry)) r ⌝ }
     ensures sized { λ r. ⌜ PartTagsStepSized (now (s .entry)) r ⌝ }
 {
-    let t = read_tags(s, c);
-    let ItemsStep::Got(tags, next) = t else {
+    let d = c.dword(s);
+    let DwordStep::Got(count, first) = d else {
+        return PartTagsStep::Refused(d.fault());
+    };
+    let at = first.at;
+    let mut starts: [usize; 64] = [0; 64];
+    let t = part_tags_from(s, at, count, &mut starts);
+    let CheckedStep::Got(checked) = t else {
         return PartTagsStep::Refused(t.fault());
     };
-    let checked = check_part_tags(s, tags);
+    let end = checked.end;
+    let range = checked.range;
     let verdict = checked.verdict;
     match verdict {
-        TagsVerdict::Passes(size) => PartTagsStep::Got(tags, size, next),
+        TagsVerdict::Passes(size) => {
+            PartTagsStep::Got(Items { at, end, count }, size, range, Cursor { at: end })
+        }
         TagsVerdict::Violates(rule) => PartTagsStep::Refused(Fault {
             rule,
             at: c.at,
-            size: length_between(c.at, next.at),
+            size: length_between(c.at, end),
         }),
     }
 }
@@ -216,7 +229,7 @@ fn read_part_e0(s: &[u8], c: Cursor) -> PartMetStep
         return PartMetStep::Refused(p.fault());
     };
     let t = read_part_tags(s, after_parts);
-    let PartTagsStep::Got(tags, size, next) = t else {
+    let PartTagsStep::Got(tags, size, range, next) = t else {
         return PartMetStep::Refused(t.fault());
     };
     let entry = FileEntry {
@@ -225,7 +238,7 @@ fn read_part_e0(s: &[u8], c: Cursor) -> PartMetStep
         parts,
         tags,
     };
-    PartMetStep::Got(PartMet::E0(entry), size, next)
+    PartMetStep::Got(PartMet::E0(entry), size, range, next)
 }
 
 // The tags are checked before the blocks are read, and their size says how many hashes a block has.
@@ -247,7 +260,7 @@ fn read_part_e1(s: &[u8], c: Cursor) -> PartMetStep
         return PartMetStep::Refused(h.fault());
     };
     let t = read_part_tags(s, after_hash);
-    let PartTagsStep::Got(tags, size, after_tags) = t else {
+    let PartTagsStep::Got(tags, size, range, after_tags) = t else {
         return PartMetStep::Refused(t.fault());
     };
     let b = read_blocks(s, after_tags, size);
@@ -260,7 +273,7 @@ fn read_part_e1(s: &[u8], c: Cursor) -> PartMetStep
         tags,
         blocks,
     };
-    PartMetStep::Got(PartMet::E1(file), size, next)
+    PartMetStep::Got(PartMet::E1(file), size, range, next)
 }
 
 fn read_part_met_at(s: &[u8], c: Cursor) -> PartMetStep
@@ -278,6 +291,30 @@ fn read_part_met_at(s: &[u8], c: Cursor) -> PartMetStep
     }
 }
 
+// A part.met, its size, and the byte range of its gap tags.
+pub fn read_part(s: &[u8]) -> PartRead
+    ensures meaning { λ r. ⌜ partReply (now (s .entry)) (partIn r) ≡ reply (decode partMet (now (s .entry))) ⌝ }
+    ensures placed { λ r. ⌜ PartAnswerPlaced (now (s .entry)) (partIn r) ⌝ }
+    ensures sized { λ r. ⌜ PartReadSized (now (s .entry)) r ⌝ }
+    ensures exact { λ r. ⌜ ((m : messages.PartMet) →
+        (partReply (now (s .entry)) (partIn r) ≡ message m) ↔ ((now (s .entry) ≡ encode partMet m) × Valid partMet m)) ⌝ }
+{
+    if MET_CEILING < s.len() {
+        return PartRead::Refused(number(Rule::BytesCeiling));
+    }
+    let m = read_part_met_at(s, Cursor { at: 0 });
+    let PartMetStep::Got(file, size, range, next) = m else {
+        let f = m.fault();
+        let rule = f.rule;
+        return PartRead::Refused(number(rule));
+    };
+    let end = next.at;
+    if end == s.len() {
+        return PartRead::Accepted(file, size, range);
+    }
+    PartRead::Refused(number(Rule::Rest))
+}
+
 pub fn read_part_met(s: &[u8]) -> PartAnswer
     ensures meaning { λ r. ⌜ partReply (now (s .entry)) r ≡ reply (decode partMet (now (s .entry))) ⌝ }
     ensures placed { λ r. ⌜ PartAnswerPlaced (now (s .entry)) r ⌝ }
@@ -285,35 +322,25 @@ pub fn read_part_met(s: &[u8]) -> PartAnswer
     ensures exact { λ r. ⌜ ((m : messages.PartMet) →
         (partReply (now (s .entry)) r ≡ message m) ↔ ((now (s .entry) ≡ encode partMet m) × Valid partMet m)) ⌝ }
 {
-    if MET_CEILING < s.len() {
-        return PartAnswer::Refused(number(Rule::BytesCeiling));
-    }
-    let m = read_part_met_at(s, Cursor { at: 0 });
-    let PartMetStep::Got(file, size, next) = m else {
-        let f = m.fault();
-        let rule = f.rule;
-        return PartAnswer::Refused(number(rule));
-    };
-    let end = next.at;
-    if end == s.len() {
-        return PartAnswer::Accepted(file, size);
-    }
-    PartAnswer::Refused(number(Rule::Rest))
+    let read = read_part(s);
+    read.part()
 }
 
-// An answer that is an enum holds no array, so the gaps have a reader of their own: it checks the tags once more.
+// An answer that is an enum holds no array, so the gaps have a reader of their own: once the tags have passed, it reads
+// the byte range of the gap tags alone.
 pub fn read_gaps(s: &[u8]) -> GapsAnswer
     ensures { λ r. ⌜ r ≡ gapsAnswer (reply (decode partMet (now (s .entry)))) ⌝ }
 {
-    let a = read_part_met(s);
+    let a = read_part(s);
     match a {
-        PartAnswer::Refused(n) => GapsAnswer {
+        PartRead::Refused(n) => GapsAnswer {
             number: n,
             gaps: none_missing(0),
         },
-        PartAnswer::Accepted(file, _) => {
-            let checked = check_part_tags(s, file.tags());
-            let gaps = checked.gaps;
+        PartRead::Accepted(_, size, range) => {
+            let mut starts: [usize; 64] = [0; 64];
+            let count = gap_starts(s, range, size, &mut starts);
+            let gaps = record_of(s, &starts, count, size);
             GapsAnswer { number: 0, gaps }
         }
     }

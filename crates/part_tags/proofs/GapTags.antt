@@ -16,7 +16,7 @@ use Rattle.format.specs.Rules as rules
 use Rattle.format.specs.Rules.{All, GapPair}
 use Rattle.format.specs.Gaps.{gapLimit}
 use Rattle.format.specs.Decoding as decoding
-use Rattle.format.specs.Decoding.{Check, Outcome, refused, got, decodeMany, ends, itemsOf, passes, violates, andCheck}
+use Rattle.format.specs.Decoding.{Check, ends, passes, violates, andCheck}
 use Rattle.format.specs.GapTags.{Role, plain, odd, start, end, starting, ending, role}
 use Rattle.format.specs.Order.{decodeTag}
 use Rattle.format.specs.PartTagOrder.{Progress, between, within, checkStart, checkEnd, decimal, nextStart, numbered, used, step, scan}

@@ -7,13 +7,12 @@ use native.Mathlib.Omega.{arith}
 use lib.ListN.{length, length-append}
 use Rattle.format.specs.Messages.{Tag}
 use Rattle.format.specs.Rules.{All}
-use Rattle.format.specs.Decoding.{Decoder, Fault, Outcome, refused, got, andThen, pure, decodeMany, ends, itemsOf}
+use Rattle.format.specs.Decoding.{Decoder, Fault, refused, got, decodeMany, ends, itemsOf}
 use Rattle.format.specs.GapTags.{Role, plain, odd, start, end, role}
 use Rattle.format.specs.Order.{decodeTag}
 use Rattle.format.specs.PutGaps.{isPlain}
 use Rattle.format.proofs.Differ.{differ}
-use Rattle.format.proofs.Codec.{never, same-place, same-value, went}
-use Rattle.wire.specs.WireAnswers.{faultMeaning}
+use Rattle.format.proofs.Codec.{same-place, same-value, went}
 use Rattle.wire.proofs.Loops.{ReadUpTo, begins, goes-on, refuses, ended-refused}
 use Rattle.tags.specs.Skips.{placeBehind}
 use Rattle.part_tags.specs.declared.Leading.{Leading}
@@ -22,7 +21,7 @@ use Rattle.part_tags.specs.declared.Sizes.{Sizes}
 use Rattle.part_tags.specs.declared.Surveyed.{Surveyed}
 use Rattle.part_tags.specs.declared.SurveyStep.{SurveyStep}
 use Rattle.part_tags.specs.TagBytes.{roleAt}
-use Rattle.part_tags.specs.Survey.{listOf, sizesIn, sizesAt, joined, Sized, Plain, GapTagsIn, LeadingTags, RangeTags, RangeFound, listAt, SurveyedTags, SurveyFound}
+use Rattle.part_tags.specs.Survey.{listOf, sizesIn, sizesAt, joined, Sized, Plain, LeadingTags, RangeTags, RangeFound, SurveyedTags, SurveyFound}
 use Rattle.part_tags.proofs.TagLaws.{tag-there}
 use Rattle.part_tags.proofs.SizeTags.{sized-none, sized-append, sized-next}
 

@@ -1,9 +1,9 @@
 -- What the bytes of a tag that was decoded say of it: its name, its number, where it ends; and so what it is to the gaps.
-use Prim.Native.Nat.{ℕ, suc, _+_, _-_, _*_, _≤_, _<_}
+use Prim.Native.Nat.{ℕ, suc, _+_, _-_, _*_, _≤_}
 use mathlib.Core.Path.{_≡_, refl, sym, ap, _∙_}
 use mathlib.Core.Bool.{Bool, true, false}
 use mathlib.Core.Option.{Option, none, some}
-use mathlib.Core.List.{List, [], _∷_}
+use mathlib.Core.List.{List, _∷_}
 use native.Mathlib.Omega.{arith}
 use lib.ListN.{length, getD}
 use lib.Dec.{leb, ltb, eqb}
@@ -11,7 +11,7 @@ use borrow.Author.Tests.{eqb-true, eqb-false, leb-true, ltb-true, ltb-false, eq-
 use Rattle.format.specs.Tables.{lookup, pick}
 use Rattle.format.specs.Messages.{Tag, TagType, TagValue, dwordType, floatType, hashType, stringType}
 use Rattle.format.specs.Decoding.{Outcome, refused, got, bytesAt, checked, choice, found, nameCeiling, passes, settled, violates}
-use Rattle.format.specs.GapTags.{Role, plain, start, end, odd, starting, ending, numberOf, role}
+use Rattle.format.specs.GapTags.{plain, end, starting, ending, numberOf, role}
 use Rattle.format.specs.Order.{checkNameLength, decodeByte, decodeCode, decodeDword, decodeHash, decodeName, decodeString, decodeTag, decodeType, decodeValue, decodeWord, tagTypes}
 use Rattle.format.specs.PutGaps.{isPlain}
 use Rattle.format.proofs.Differ.{differ}

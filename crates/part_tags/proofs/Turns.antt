@@ -1,7 +1,7 @@
 -- The turns of the second pass: a tag that is no gap tag, or a gap tag and the tag after it.
 use Prim.Native.Nat.{ℕ, _+_, _-_, _≤_, _<_}
 use mathlib.Core.Path.{_≡_, refl, sym, ap, subst, _∙_}
-use mathlib.Core.Bool.{true, false}
+use mathlib.Core.Bool.{true}
 use mathlib.Core.List.{List, [], _∷_}
 use native.Mathlib.Nat.{sub-zero}
 use native.Mathlib.Omega.{arith}
@@ -18,8 +18,8 @@ use Rattle.wire.specs.declared.Items.{Items}
 use Rattle.wire.specs.WireAnswers.{itemsIn, ItemsPlaced}
 use Rattle.tags.specs.Skips.{placeBehind}
 use Rattle.part_tags.specs.declared.Progress.{Progress as Reached}
-use Rattle.part_tags.specs.TagBytes.{TagThere, afterAt, digitsAt, nameLength, numberAt, roleAt}
-use Rattle.part_tags.specs.Pairs.{keyOf, startOf, endOf, pairOf, PairInside, PairsInside, firstPairs, KeysBelow, Keeps, StartTakes, EndTakes, PairTakes}
+use Rattle.part_tags.specs.TagBytes.{TagThere, afterAt, digitsAt, numberAt, roleAt}
+use Rattle.part_tags.specs.Pairs.{startOf, pairOf, PairsInside, firstPairs, KeysBelow, Keeps, StartTakes, EndTakes, PairTakes}
 use Rattle.part_tags.proofs.Rest.{rest, Turn, reached-first, next-there, turn-after, rest-none}
 use Rattle.part_tags.proofs.Rest as rests
 use Rattle.part_tags.proofs.Ranges.{plain-is}

@@ -8,9 +8,8 @@ use Rattle.format.specs.Gaps.{gapLimit}
 use Rattle.format.specs.Rules.{GapPair}
 use Rattle.format.specs.Tables.{pick}
 use Rattle.format.specs.Decoding.{Check, passes, violates, decodeMany, ends, itemsOf}
-use Rattle.format.specs.GapTags.{Role}
 use Rattle.format.specs.Order.{decodeTag}
-use Rattle.format.specs.PartTagOrder.{Progress, between, within, nextStart, numbered, scan, step}
+use Rattle.format.specs.PartTagOrder.{between, within, nextStart, numbered, scan, step}
 use Rattle.tags.specs.Skips.{placeBehind}
 use Rattle.wire.specs.declared.Items.{Items}
 use Rattle.wire.specs.declared.Rule.{Rule}

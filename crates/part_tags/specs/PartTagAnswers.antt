@@ -8,8 +8,9 @@ use Rattle.format.specs.Decoding.{Check, passes, violates, refused, decodeMany}
 use Rattle.format.specs.GapTags.{gapsOf}
 use Rattle.format.specs.Order.{decodeTag}
 use Rattle.format.specs.PartTagOrder.{checkPartTags}
+use Rattle.wire.specs.declared.Fault.{Fault}
 use Rattle.wire.specs.declared.Items.{Items}
-use Rattle.wire.specs.WireAnswers.{ruleMeaning, faultMeaning, itemsIn, ItemsPlaced}
+use Rattle.wire.specs.WireAnswers.{ruleMeaning, faultMeaning, itemsIn, ItemsPlaced, noFault}
 use Rattle.gaps.specs.declared.GapRecord.{GapRecord}
 use Rattle.gaps.specs.GapRecords.{recordOf, noneMissing}
 use Rattle.part_tags.specs.declared.TagsVerdict.{TagsVerdict}
@@ -47,3 +48,14 @@ pub record TagsChecked (s : List ℕ) (at count : ℕ) (starts : List ℕ) (r : 
 abbrev pub CheckedFound : List ℕ → (at count : ℕ) → (starts : List ℕ) → CheckedStep → Type 0
 CheckedFound s at count starts (CheckedStep.Got r) = TagsChecked s at count starts r
 CheckedFound s at count starts (CheckedStep.Refused f) = refused (faultMeaning f) ≡ decodeMany count decodeTag s at
+
+-- An array of offsets holds the gaps of some tags.
+pub record GapsHeld (s starts : List ℕ) (n : ℕ) (tags : List Tag) : Type 0 where
+  pub few : n ≤ gapLimit
+  pub inside : PairsInside s n starts
+  pub gaps : firstGaps s n starts ≡ gapsOf tags
+
+-- What the method `fault` propagates.
+abbrev pub checkedFault : CheckedStep → Fault
+checkedFault (CheckedStep.Got r) = noFault
+checkedFault (CheckedStep.Refused f) = f

@@ -7,17 +7,18 @@
 //
 // specs/PartTagAnswers.antt says what the answers stand for, specs/Survey.antt and specs/Pairs.antt what the private steps answer.
 ghost use mathlib.Core.Path.{_≡_};
-ghost use mathlib.Core.List.{List};
 ghost use Prim.Native.Nat.{_+_, _≤_};
 ghost use lib.ListN.{length};
+ghost use Rattle.format.specs.Decoding.{passes};
 ghost use Rattle.format.specs.Gaps.{gapLimit};
 ghost use Rattle.format.specs.Order.{decodeTag};
 ghost use Rattle.format.specs.PartTagOrder.{checkPartTags};
 ghost use Rattle.wire.specs.WireAnswers.{itemsIn, ItemsPlaced};
 ghost use Rattle.gaps.specs.GapRecords.{placeOf, recordOf};
-ghost use Rattle.part_tags.specs.PartTagAnswers.{verdictMeaning, gapsMeaning, CheckedFound};
+ghost use Rattle.part_tags.specs.PartTagAnswers.{verdictMeaning, gapsMeaning, CheckedFound, checkedFault, GapsHeld};
 ghost use Rattle.part_tags.specs.TagBytes.{dwordAt, nameLength};
-ghost use Rattle.part_tags.specs.Survey.{joined, onlySize, leadingFault, surveyFault};
+ghost use Rattle.wire.specs.declared.Items.{Items};
+ghost use Rattle.part_tags.specs.Survey.{GapTagsIn, joined, onlySize, leadingFault, surveyFault};
 ghost use Rattle.part_tags.specs.Pairs.{startRule, pairRule, gapIn, firstGaps, PairInside, PairsInside};
 use gaps::Gap;
 use gaps::GapRecord;
@@ -31,6 +32,19 @@ use wire::no_fault;
 
 mod pairs;
 mod survey;
+
+// The most pairs of gap tags: `gapLimit` in the format's specs/Gaps.antt.
+const GAP_CEILING: usize = 64;
+
+// The type of a DWORD tag.
+const DWORD_TYPE: u8 = 3;
+
+// The name of the size tag, and the first byte of the names of start tags and of end tags.
+const SIZE_NAME: u8 = 2;
+
+const START_NAME: u8 = 9;
+
+const END_NAME: u8 = 10;
 
 // The size of a tag list that passes, or the rule that it breaks: SizeTag, Order or GapCeiling.
 pub enum TagsVerdict {
@@ -55,6 +69,18 @@ pub struct CheckedTags {
 pub enum CheckedStep {
     Got(CheckedTags),
     Refused(Fault),
+}
+
+impl CheckedStep {
+    // The fault of a refusal.
+    pub fn fault(self) -> Fault
+        ensures { λ r. ⌜ r ≡ checkedFault self ⌝ }
+    {
+        match self {
+            CheckedStep::Got(_) => no_fault(),
+            CheckedStep::Refused(f) => f,
+        }
+    }
 }
 
 // The number of a DWORD tag.
@@ -265,6 +291,16 @@ pub fn part_tags_from(s: &[u8], at: usize, count: u32, starts: &mut [usize; 64])
     }
 }
 
+// How many gaps a list that passes has, by the byte range of its gap tags. The offsets of the start tags are left in the array.
+pub fn gap_starts(s: &[u8], range: Items, size: u32, starts: &mut [usize; 64]) -> usize
+    requires { ⌜ ItemsPlaced decodeTag (now s) range × (length (now starts) ≡ 64) ⌝ }
+    ensures { λ r. ⌜ ((tags : Items) → GapTagsIn (now (s .entry)) tags range → checkPartTags (itemsIn decodeTag (now (s .entry)) tags)
+        ≡ passes (size, itemsIn decodeTag (now (s .entry)) tags) → GapsHeld (now (s .entry)) (now (starts .exit)) r (itemsIn decodeTag (now (s .entry)) tags)) ⌝ }
+{
+    let scanned = pairs::scan_gaps(s, range, size, starts);
+    scanned.count
+}
+
 // The gap of the pair whose start tag lies there.
 fn gap_at(s: &[u8], at: usize) -> Gap
     requires { ⌜ PairInside (now s) at ⌝ }
@@ -282,7 +318,7 @@ fn gap_at(s: &[u8], at: usize) -> Gap
 }
 
 // The gap record of the pairs. Its other slots hold 0.
-fn record_of(s: &[u8], starts: &[usize; 64], count: usize, size: u32) -> GapRecord
+pub fn record_of(s: &[u8], starts: &[usize; 64], count: usize, size: u32) -> GapRecord
     requires { ⌜ (count ≤ gapLimit) × PairsInside (now s) count (now starts) ⌝ }
     ensures { λ r. ⌜ r ≡ recordOf size (firstGaps (now (s .entry)) count (now (starts .entry))) ⌝ }
 {

@@ -1,7 +1,6 @@
 // The second pass: the pairs of gap tags in their byte range, once the size is known. A pair is kept as the offset of its start tag;
 // its end tag comes right after it, so that both are read in one turn.
 ghost use mathlib.Core.Path.{_≡_};
-ghost use mathlib.Core.List.{List};
 ghost use Prim.Native.Nat.{_+_, _≤_, _<_};
 ghost use lib.ListN.{length};
 ghost use mathlib.Core.Bool.{false};
@@ -12,10 +11,14 @@ ghost use Rattle.format.specs.PutGaps.{isPlain};
 ghost use Rattle.wire.specs.WireAnswers.{ItemsPlaced};
 ghost use Rattle.part_tags.specs.TagBytes.{TagThere, digitsAt, roleAt};
 ghost use Rattle.part_tags.specs.Pairs.{keyFound, keyOf, firstPairs, PairsInside, Keeps, StartFound, EndFound, PairFound, Scans};
+use crate::DWORD_TYPE;
+use crate::END_NAME;
 use crate::EndStep;
+use crate::GAP_CEILING;
 use crate::Key;
 use crate::PairStep;
 use crate::Progress;
+use crate::START_NAME;
 use crate::Scanned;
 use crate::StartStep;
 use crate::Verdict;
@@ -27,6 +30,12 @@ use tags::tag_after;
 use wire::Items;
 use wire::Rule;
 use wire::bytes_at;
+
+// The most digits of a pair's number.
+const MOST_DIGITS: usize = 10;
+
+// A key of so many digits is below this; the remainder by it keeps the next key within 64 bits.
+const KEY_ROOM: u64 = 1099511627776;
 
 fn wide(b: u8) -> u64
     ensures { λ r. ⌜ r ≡ b ⌝ }
@@ -42,20 +51,20 @@ fn digits_key(digits: &[u8]) -> Key
     if n < 1 {
         return Key::None;
     }
-    if 10 < n {
+    if MOST_DIGITS < n {
         return Key::None;
     }
     let mut key = 0;
     let mut i = 0;
     while i < n {
         let b = digits[i];
-        if b < 48 {
+        if b < b'0' {
             return Key::None;
         }
-        if 57 < b {
+        if b'9' < b {
             return Key::None;
         }
-        key = key % 1099511627776 * 16 + wide(b);
+        key = key % KEY_ROOM * 16 + wide(b);
         i += 1;
     }
     Key::Some(key)
@@ -105,15 +114,15 @@ fn start_tag(s: &[u8], at: usize, starts: &[usize; 64], progress: Progress) -> S
     requires { ⌜ TagThere (now s) at × (isPlain (roleAt (decodeTag (now s) at)) ≡ false) × Keeps (now s) (now starts) progress ⌝ }
     ensures { λ r. ⌜ StartFound (now (s .entry)) (firstPairs (now (s .entry)) (progress .count) (now (starts .entry))) at r ⌝ }
 {
-    if 64 <= progress.count {
+    if GAP_CEILING <= progress.count {
         return StartStep::Violates(Rule::GapCeiling);
     }
     let first = s[at + 3];
-    if first != 9 {
+    if first != START_NAME {
         return StartStep::Violates(Rule::Order);
     }
     let code = s[at];
-    if code != 3 {
+    if code != DWORD_TYPE {
         return StartStep::Violates(Rule::Order);
     }
     let digits = digits_at(s, at);
@@ -138,11 +147,11 @@ fn end_tag(s: &[u8], size: u32, digits: &[u8], start: u32, at: usize) -> EndStep
     ensures { λ r. ⌜ EndFound (now (s .entry)) size (now (digits .entry)) start at r ⌝ }
 {
     let first = s[at + 3];
-    if first != 10 {
+    if first != END_NAME {
         return EndStep::Violates;
     }
     let code = s[at];
-    if code != 3 {
+    if code != DWORD_TYPE {
         return EndStep::Violates;
     }
     if !same(digits, digits_at(s, at)) {

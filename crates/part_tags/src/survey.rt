@@ -1,16 +1,19 @@
 // The first pass over the tags: each is skipped, the size tags are counted, and the byte range of the gap tags is found.
 ghost use mathlib.Core.Path.{_≡_};
-ghost use mathlib.Core.List.{List};
 ghost use Rattle.format.specs.Decoding.{refused};
 ghost use Rattle.format.specs.Order.{decodeTag};
 ghost use Rattle.format.specs.PutGaps.{isPlain};
 ghost use Rattle.wire.specs.WireAnswers.{faultMeaning};
 ghost use Rattle.tags.specs.Skips.{placeBehind};
-ghost use Rattle.part_tags.specs.TagBytes.{TagThere, dwordAt, roleAt};
+ghost use Rattle.part_tags.specs.TagBytes.{TagThere, roleAt};
 ghost use Rattle.part_tags.specs.Survey.{listOf, sizesAt, LeadingFound, RangeFound, SurveyFound};
+use crate::DWORD_TYPE;
+use crate::END_NAME;
 use crate::Leading;
 use crate::LeadingStep;
 use crate::Number;
+use crate::SIZE_NAME;
+use crate::START_NAME;
 use crate::Sizes;
 use crate::SurveyStep;
 use crate::Surveyed;
@@ -27,10 +30,10 @@ pub fn is_plain(s: &[u8], at: usize) -> bool
     ensures { λ r. ⌜ r ≡ isPlain (roleAt (decodeTag (now (s .entry)) at)) ⌝ }
 {
     let first = s[at + 3];
-    if first < 9 {
+    if first < START_NAME {
         return true;
     }
-    10 < first
+    END_NAME < first
 }
 
 // The number of a size tag: a DWORD whose name is the one byte 02.
@@ -39,7 +42,7 @@ fn size_at(s: &[u8], at: usize) -> Number
     ensures { λ r. ⌜ listOf r ≡ sizesAt (decodeTag (now (s .entry)) at) ⌝ }
 {
     let first = s[at + 3];
-    if first != 2 {
+    if first != SIZE_NAME {
         return Number::None;
     }
     let length = s[at + 1];
@@ -47,7 +50,7 @@ fn size_at(s: &[u8], at: usize) -> Number
         return Number::None;
     }
     let code = s[at];
-    if code != 3 {
+    if code != DWORD_TYPE {
         return Number::None;
     }
     Number::Some(dword_at(s, at + 4))

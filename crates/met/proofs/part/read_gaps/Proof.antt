@@ -1,12 +1,13 @@
 use mathlib.Core.Path.{refl}
 use denote.Ref.{now}
-use Rattle.met.proofs.PartFile.{tags-placed, gaps-found}
+use Rattle.met.specs.MetAnswers.{tagsPlace}
+use Rattle.met.proofs.PartFile.{file-passes, gaps-told, range-placed}
 use borrow.Author.Needs.{needs}
 use Rattle.met.proofs.part.read_gaps.Statement.{statement}
 use Rattle.met.proofs.part.read_gaps.Tie as tie
 
-read-part-met-requires : tie.Need-read-part-met-requires
-read-part-met-requires c κs = search needs
+read-part-requires : tie.Need-read-part-requires
+read-part-requires c κs = search needs
 
 enum-known-a : tie.Need-enum-known-a
 enum-known-a c = search needs
@@ -17,36 +18,45 @@ none-missing-requires c κs = search needs
 enum-known-a-2 : tie.Need-enum-known-a-2
 enum-known-a-2 c = search needs
 
-tags-requires : tie.Need-tags-requires
-tags-requires c κs = search needs
-
-check-part-tags-requires : tie.Need-check-part-tags-requires
-check-part-tags-requires c κs =
+gap-starts-requires : tie.Need-gap-starts-requires
+gap-starts-requires c κs =
     let a = c .before .before in
+    let f = a .a2 .given in
     let s = now (a .before .before .before .before .args .s) in
-    rw (c .tags .ensures) (tags-placed s (a .a2 .given .1) (a .before .before .read-part-met .ensures .1 .0))
+    let h = rw (f .1) at (a .before .before .read-part .ensures .1 .1 .0) in
+    (range-placed s (f .0 .0) (f .0 .1 .0) (f .0 .1 .1 .0) h, refl)
+
+record-of-requires : tie.Need-record-of-requires
+record-of-requires c κs =
+    let a = c .before .before .before .before in
+    let f = a .a2 .given in
+    let s = now (a .before .before .before .before .args .s) in
+    let h = rw (f .1) at (a .before .before .read-part .ensures .1 .1 .0) in
+    let held = c .before .gap-starts .ensures (tagsPlace (f .0 .0)) (h .1) (file-passes s (f .0 .0) (f .0 .1 .0) (f .0 .1 .1 .0) h) in
+    (held .few, held .inside)
 
 returns : tie.Need-returns
-returns c = rw (c .none-missing .ensures, ← c .before .before .before .before .read-part-met .ensures .0, c .before .before .a .given .1) refl
+returns c = rw (c .none-missing .ensures, ← c .before .before .before .before .read-part .ensures .0, c .before .before .a .given .1) refl
 
 returns-2 : tie.Need-returns-2
 returns-2 c =
-    let a = c .before .before .before .before in
-    let read = a .before .before .read-part-met .ensures in
-    let check = c .before .check-part-tags in
+    let a = c .before .before .before .before .before in
+    let f = a .a2 .given in
     let s = now (a .before .before .before .before .args .s) in
-    let place = c .before .before .tags .ensures in
-    rw (← read .0) (gaps-found s (a .a2 .given .1) (read .1 .1 .0) place (check .result) (check .ensures .0) (check .ensures .1))
+    let h = rw (f .1) at (a .before .before .read-part .ensures .1 .1 .0) in
+    let found = c .before .before .gap-starts in
+    let held = found .ensures (tagsPlace (f .0 .0)) (h .1) (file-passes s (f .0 .0) (f .0 .1 .0) (f .0 .1 .1 .0) h) in
+    rw (← a .before .before .read-part .ensures .0, f .1) (gaps-told s (f .0 .0) (f .0 .1 .0) (f .0 .1 .1 .0) h _ (found .result) held (c .record-of .ensures))
 
 pub read-gaps-spec : {M : Type 1} → statement M
 read-gaps-spec =
     tie.close
     (tie.spec
-    read-part-met-requires
+    read-part-requires
     enum-known-a
     none-missing-requires
     enum-known-a-2
-    tags-requires
-    check-part-tags-requires
+    gap-starts-requires
+    record-of-requires
     returns
     returns-2)

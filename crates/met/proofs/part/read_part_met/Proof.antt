@@ -1,98 +1,20 @@
-use mathlib.Core.Path.{refl}
 use denote.Ref.{now}
-use borrow.Author.Tests.{lt-leb, le-leb, eq-eqb, ne-eqb}
-use Rattle.format.specs.Messages.{partMet}
-use Rattle.format.specs.Rules.{metCeiling}
-use Rattle.format.specs.MetOrder.{decode}
-use Rattle.met.proofs.PartFile.{exact-sized}
+use Rattle.met.proofs.PartFile.{part-sized}
 use borrow.Author.Needs.{needs}
 use Rattle.met.proofs.part.read_part_met.Statement.{statement}
 use Rattle.met.proofs.part.read_part_met.Tie as tie
 
-number-requires : tie.Need-number-requires
-number-requires c κs = search needs
+read-part-requires : tie.Need-read-part-requires
+read-part-requires c κs = search needs
+
+part-requires : tie.Need-part-requires
+part-requires c κs = search needs
 
 returns : tie.Need-returns
-unfolding decode
 returns c =
-    let b = c .before .before in
-    exact-sized partMet (now (b .before .args .s)) (b .shared-slice-known .given)
-    (rw (c .number .ensures, lt-leb _ metCeiling (c .before .if1 .taken)) refl)
-    tt
-    tt
-
-read-part-met-at-requires : tie.Need-read-part-met-at-requires
-read-part-met-at-requires c κs = search needs
-
-enum-known-m : tie.Need-enum-known-m
-enum-known-m c = search needs
-
-enum-told : tie.Need-enum-told
-enum-told c = search needs
-
-fault-requires : tie.Need-fault-requires
-fault-requires c κs = search needs
-
-number-requires-2 : tie.Need-number-requires-2
-number-requires-2 c κs = search needs
-
-returns-2 : tie.Need-returns-2
-unfolding decode
-returns-2 c =
-    let b = c .before .before .before .before in
-    exact-sized partMet (now (b .before .before .before .args .s)) (b .before .before .shared-slice-known .given)
-    (rw (
-      c .number2 .ensures,
-      c .before .fault .ensures,
-      le-leb _ metCeiling (b .before .if1 .left),
-      ← b .read-part-met-at .ensures .0,
-      c .before .before .enum-told .given .1,
-    )
-    refl)
-    tt
-    tt
-
-returns-3 : tie.Need-returns-3
-unfolding decode
-returns-3 c =
-    let b = c .before .before .before .before in
-    let m = c .before .before .m .given .1 in
-    exact-sized partMet (now (b .before .before .before .args .s)) (b .before .before .shared-slice-known .given)
-    (rw (le-leb _ metCeiling (b .before .if1 .left), ← b .read-part-met-at .ensures .0, m, eq-eqb _ _ (c .if2 .taken)) refl)
-    (rw m at (b .read-part-met-at .ensures .1 .0))
-    (rw m at (b .read-part-met-at .ensures .1 .1))
-
-number-requires-3 : tie.Need-number-requires-3
-number-requires-3 c κs = search needs
-
-returns-4 : tie.Need-returns-4
-unfolding decode
-returns-4 c =
-    let b = c .before .before .before .before .before in
-    exact-sized partMet (now (b .before .before .before .args .s)) (b .before .before .shared-slice-known .given)
-    (rw (
-      c .number3 .ensures,
-      le-leb _ metCeiling (b .before .if1 .left),
-      ← b .read-part-met-at .ensures .0,
-      c .before .before .before .m .given .1,
-      ne-eqb _ _ (c .before .if2 .left),
-    )
-    refl)
-    tt
-    tt
+    let r = c .before in
+    let h = r .read-part .ensures in
+    rw (c .part .ensures) (h .0, (h .1 .0, (part-sized (now (r .before .before .args .s)) (r .read-part .result) (h .1 .1 .0), h .1 .1 .1)))
 
 pub read-part-met-spec : {M : Type 1} → statement M
-read-part-met-spec =
-    tie.close
-    (tie.spec
-    number-requires
-    returns
-    read-part-met-at-requires
-    enum-known-m
-    enum-told
-    fault-requires
-    number-requires-2
-    returns-2
-    returns-3
-    number-requires-3
-    returns-4)
+read-part-met-spec = tie.close (tie.spec read-part-requires part-requires returns)

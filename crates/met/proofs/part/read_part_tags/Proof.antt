@@ -1,14 +1,17 @@
 use mathlib.Core.Path.{refl}
+use denote.Ref.{now}
 use Rattle.format.specs.MetOrder.{decodePartTags}
+use Rattle.format.specs.Order.{decodeCounted, decodeTags}
+use Rattle.met.proofs.PartFile.{tags-pass, tags-refused, tags-violate}
 use borrow.Author.Needs.{needs}
 use Rattle.met.proofs.part.read_part_tags.Statement.{statement}
 use Rattle.met.proofs.part.read_part_tags.Tie as tie
 
-read-tags-requires : tie.Need-read-tags-requires
-read-tags-requires c κs = search needs
+dword-requires : tie.Need-dword-requires
+dword-requires c κs = search needs
 
-enum-known-t : tie.Need-enum-known-t
-enum-known-t c = search needs
+enum-known-d : tie.Need-enum-known-d
+enum-known-d c = search needs
 
 enum-told : tie.Need-enum-told
 enum-told c = search needs
@@ -17,11 +20,29 @@ fault-requires : tie.Need-fault-requires
 fault-requires c κs = search needs
 
 returns : tie.Need-returns
-unfolding decodePartTags
-returns c = (rw (c .fault .ensures, ← c .before .before .before .read-tags .ensures .0, c .before .enum-told .given .1) refl, (tt, tt))
+unfolding decodePartTags decodeTags decodeCounted
+returns c = (rw (c .fault .ensures, ← c .before .before .before .dword .ensures, c .before .enum-told .given .1) refl, (tt, tt))
 
-check-part-tags-requires : tie.Need-check-part-tags-requires
-check-part-tags-requires c κs = rw (c .before .t .given .1) at (c .before .before .before .read-tags .ensures .1) .0
+part-tags-from-requires : tie.Need-part-tags-from-requires
+part-tags-from-requires c κs = search needs
+
+enum-known-t : tie.Need-enum-known-t
+enum-known-t c = search needs
+
+enum-told-2 : tie.Need-enum-told-2
+enum-told-2 c = search needs
+
+fault-requires-2 : tie.Need-fault-requires-2
+fault-requires-2 c κs = search needs
+
+returns-2 : tie.Need-returns-2
+returns-2 c =
+    let t = c .before .before .before in
+    let d = t .before .before .before in
+    let b = d .before .before .before .before in
+    let counted = rw (d .d .given .1) at (d .before .before .dword .ensures) in
+    let told = c .before .enum-told2 .given .1 in
+    (rw (c .fault2 .ensures, told) (tags-refused (now (b .args .s)) (b .args .c .at) _ _ counted (rw told at (t .part-tags-from .ensures))), (tt, tt))
 
 enum-known-verdict : tie.Need-enum-known-verdict
 enum-known-verdict c = search needs
@@ -32,42 +53,42 @@ enum-known-verdict-2 c = search needs
 length-between-requires : tie.Need-length-between-requires
 length-between-requires c κs = search needs
 
-returns-2 : tie.Need-returns-2
-unfolding decodePartTags
-returns-2 c =
-    let t = c .before .before .before .before .before in
-    let check = c .before .before .before .check-part-tags .ensures .0 in (
-      rw (← t .before .before .read-tags .ensures .0, t .t .given .1, ← check, c .before .verdict .given .1) refl,
-      (rw (t .t .given .1) at (t .before .before .read-tags .ensures .1), rw (← check, c .before .verdict .given .1) refl),
-    )
-
 returns-3 : tie.Need-returns-3
-unfolding decodePartTags
 returns-3 c =
-    let t = c .before .before .before .before .before .before in (
-      rw (
-        c .length-between .ensures,
-        ← t .before .before .read-tags .ensures .0,
-        t .t .given .1,
-        ← c .before .before .before .before .check-part-tags .ensures .0,
-        c .before .before .verdict2 .given .1,
-      )
-          refl,
-      (tt, tt),
-    )
+    let t = c .before .before .before .before .before in
+    let d = t .before .before .before .before .before in
+    let b = d .before .before .before .before in
+    let counted = rw (d .d .given .1) at (d .before .before .dword .ensures) in
+    let h = rw (t .t .given .1) at (t .before .before .part-tags-from .ensures) in
+    let v = c .before .verdict .given in
+    tags-pass (now (b .args .s)) (b .args .c .at) _ _ counted _ (t .t .given .0 .0) h (d .before .before .before .shared-slice-known .given) (v .0 .0) (v .1)
+
+returns-4 : tie.Need-returns-4
+returns-4 c =
+    let t = c .before .before .before .before .before .before in
+    let d = t .before .before .before .before .before in
+    let b = d .before .before .before .before in
+    let counted = rw (d .d .given .1) at (d .before .before .dword .ensures) in
+    let h = rw (t .t .given .1) at (t .before .before .part-tags-from .ensures) in
+    let v = c .before .before .verdict2 .given in
+    (tags-violate (now (b .args .s)) (b .args .c .at) _ _ counted _ (t .t .given .0 .0) h (v .0 .0) _ (v .1) (c .length-between .ensures), (tt, tt))
 
 pub read-part-tags-spec : {M : Type 1} → statement M
 read-part-tags-spec =
     tie.close
     (tie.spec
-    read-tags-requires
-    enum-known-t
+    dword-requires
+    enum-known-d
     enum-told
     fault-requires
     returns
-    check-part-tags-requires
+    part-tags-from-requires
+    enum-known-t
+    enum-told-2
+    fault-requires-2
+    returns-2
     enum-known-verdict
     enum-known-verdict-2
     length-between-requires
-    returns-2
-    returns-3)
+    returns-3
+    returns-4)

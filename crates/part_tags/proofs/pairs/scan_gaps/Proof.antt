@@ -1,7 +1,6 @@
 -- The loop: the scan of all tags is that of the tags that are left, after the pairs so far.
 use Prim.Native.Nat.{_-_, _<_}
-use mathlib.Core.Path.{_≡_, refl, sym, ap, _∙_}
-use mathlib.Core.List.{[]}
+use mathlib.Core.Path.{sym, ap, _∙_}
 use denote.Ref.{now}
 use Rattle.format.specs.PartTagOrder.{between, scan}
 use Rattle.format.specs.Order.{decodeTag}

@@ -1,4 +1,3 @@
-use mathlib.Core.Path.{refl}
 use denote.Ref.{now}
 use Rattle.part_tags.proofs.TagLaws.{fault-is}
 use borrow.Author.Needs.{needs}

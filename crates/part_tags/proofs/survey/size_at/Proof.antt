@@ -1,4 +1,3 @@
-use mathlib.Core.Path.{refl}
 use denote.Ref.{now}
 use Rattle.part_tags.proofs.TagLaws.{bytes-of}
 use Rattle.part_tags.proofs.SizeTags.{size-byte, size-length, size-type, size-there}
