@@ -5,12 +5,12 @@ use Prim.Native.Nat.{ℕ, _+_, _-_}
 use Rattle.format.specs.Messages as messages
 use Rattle.format.specs.Layout.{encode, encodeAddress, encodeAll, encodeBody, encodeExtendedStatus, encodeFileStatus, encodeQuery, encodeRecord, encodeRequestParts, encodeSendingPart, encodeString, encodeTags, encodeTcp, encodeTriple, encodeUdp, littleEndian}
 use Rattle.format.specs.Rules.{Bytes}
-use Rattle.format.specs.Decoding.{Decoder, Outcome, bytesAt, decodeMany, got, itemsOf, refused}
+use Rattle.format.specs.Decoding.{Decoder, Outcome, bytesAt, got, refused}
 use Rattle.format.specs.Order.{decodeQuery, decodeTag}
 use Rattle.format.proofs.Codec.{anywhere, bytes-append, bytes-littleEndian, bytes-part, Codec}
 use Rattle.format.proofs.Items.{codec-address, codec-hash, codec-query, codec-record, codec-tag}
 use Rattle.format.proofs.Bits.{packed-bytes}
-use Rattle.format.proofs.Writing.{address-needed, hash-needed, lies, many-lies, NeedsByte, query-needed, record-needed, tag-needed}
+use Rattle.format.proofs.Writing.{address-needed, hash-needed, lies, NeedsByte, query-needed, record-needed, tag-needed}
 use Rattle.wire.specs.declared.Items.{Items}
 use Rattle.wire.specs.WireAnswers.{itemsIn}
 use Rattle.query.specs.QueryAnswers.{queryOf}
@@ -20,6 +20,7 @@ use Rattle.bodies.specs.declared.Body.{Body}
 use Rattle.bodies.specs.BodyAnswers.{bodyIn, heldAt, tripleOf}
 use Rattle.packets.specs.declared.Link.{Link}
 use Rattle.packets.specs.declared.Packet.{Packet}
+use Rattle.write_items.proofs.Listed.{items-bytes}
 use Rattle.check_bodies.specs.Bodies.{bytesOf}
 use Rattle.write_packets.specs.Packets.{kindOf, packetOf}
 
@@ -37,13 +38,8 @@ module _ (s : List ℕ) (hb : Bytes s) where
   run : (at n : ℕ) → Plain (bytesAt s at n)
   run at n = record { bytes = bytes-part s hb at n }
 
-  items : {A : Type 0} {d : Decoder A} {encode : A → List ℕ} {Valid : A → Type 0} → Codec anywhere d encode Valid → NeedsByte d → (n at : ℕ) →
-      Plain (encodeAll encode (itemsOf (decodeMany n d s at)))
-  items {A} {d} {encode} L needed n at = go (decodeMany n d s at) refl
-    where
-      go : (o : Outcome (List A)) → decodeMany n d s at ≡ o → Plain (encodeAll encode (itemsOf o))
-      go (refused f) e = record { bytes = tt }
-      go (got l next) e = rw (← many-lies L needed s hb at n e .bytes) (run at (next - at))
+  items : {A : Type 0} {d : Decoder A} {encode : A → List ℕ} {Valid : A → Type 0} → Codec anywhere d encode Valid → NeedsByte d → (l : Items) → Plain (encodeAll encode (itemsIn d s l))
+  items L needed l = record { bytes = items-bytes L needed s hb l }
 
   string : (at n : ℕ) → Plain (encodeString (bytesAt s at n))
   unfolding encodeString
@@ -66,7 +62,7 @@ module _ (s : List ℕ) (hb : Bytes s) where
 
   tags : (l : Items) → Plain (encodeTags (itemsIn decodeTag s l))
   unfolding encodeTags
-  tags l = joined (number 4 _) (items codec-tag tag-needed (l .count) (l .at))
+  tags l = joined (number 4 _) (items codec-tag tag-needed l)
 
   file : (r : Record) → Plain (encodeRecord (recordIn s r))
   unfolding encodeRecord
@@ -82,17 +78,17 @@ module _ (s : List ℕ) (hb : Bytes s) where
   body (Body.Text t) = string (t .at) (t .len)
   body (Body.TwoTexts t u) = joined (string (t .at) (t .len)) (string (u .at) (u .len))
   body (Body.Address a) = address (addressOf a)
-  body (Body.Addresses l) = joined (number 1 _) (items codec-address address-needed (l .count) (l .at))
-  body (Body.HashAddresses h l) = joined (run h 16) (joined (number 1 _) (items codec-address address-needed (l .count) (l .at)))
+  body (Body.Addresses l) = joined (number 1 _) (items codec-address address-needed l)
+  body (Body.HashAddresses h l) = joined (run h 16) (joined (number 1 _) (items codec-address address-needed l))
   body (Body.AddressDword a n) = joined (address (addressOf a)) (number 4 n)
   body (Body.HashAddressTags h a l) = joined (run h 16) (joined (address (addressOf a)) (tags l))
   body (Body.Record r) = file r
-  body (Body.Records l) = joined (number 4 _) (items codec-record record-needed (l .count) (l .at))
-  body (Body.RecordsFlag l b) = joined (joined (number 4 _) (items codec-record record-needed (l .count) (l .at))) (number 1 b)
+  body (Body.Records l) = joined (number 4 _) (items codec-record record-needed l)
+  body (Body.RecordsFlag l b) = joined (joined (number 4 _) (items codec-record record-needed l)) (number 1 b)
   body (Body.RecordAddress r a) = joined (file r) (address (addressOf a))
   body (Body.Hello r a) = joined (number 1 0x10) (joined (file r) (address (addressOf a)))
   body (Body.HashText h t) = joined (run h 16) (string (t .at) (t .len))
-  body (Body.Hashset h l) = joined (run h 16) (joined (number 2 _) (items codec-hash hash-needed (l .count) (l .at)))
+  body (Body.Hashset h l) = joined (run h 16) (joined (number 2 _) (items codec-hash hash-needed l))
   body (Body.SendingPart p) = joined (run (p .hash) 16) (joined (joined (number 4 _) (number 4 _)) (run (p .data .at) (p .data .len)))
   body (Body.RequestParts p) = joined (run (p .hash) 16) (joined (triple (tripleOf (p .starts))) (triple (tripleOf (p .ends))))
   body (Body.FileStatus p) = joined (run (p .hash) 16) (joined (number 2 _) (record { bytes = packed-bytes (heldAt (p .parts) s (p .bits)) }))

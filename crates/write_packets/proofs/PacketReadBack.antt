@@ -3,7 +3,7 @@ use Prim.Native.Nat.{ℕ, _≤_}
 use mathlib.Core.Path.{_≡_, refl, ap}
 use mathlib.Core.Bool.{Bool, true, false}
 use mathlib.Core.Logic.{_↔_}
-use mathlib.Core.Option.{none, some}
+use mathlib.Core.Option.{some}
 use mathlib.Core.List.{List, [], _∷_}
 use lib.ListN.{length}
 use lib.Dec.{eqb}
@@ -21,7 +21,7 @@ use Rattle.output.specs.declared.WriteAnswer.{WriteAnswer}
 use Rattle.records.specs.declared.Record.{Record}
 use Rattle.records.specs.RecordAnswers.{RecordPlaced}
 use Rattle.bodies.specs.declared.Body.{Body}
-use Rattle.bodies.specs.BodyAnswers.{BitsInside, BodyPlaced, bodyIn}
+use Rattle.bodies.specs.BodyAnswers.{BodyPlaced, bodyIn}
 use Rattle.packets.specs.declared.Link.{Link}
 use Rattle.packets.specs.declared.Packet.{Packet}
 use Rattle.packets.specs.declared.PacketAnswer.{PacketAnswer}

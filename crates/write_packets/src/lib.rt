@@ -1,9 +1,9 @@
-// The writer of packets: a packet as the reader hands it out, over the bytes that its places lie in.
+// The writer of packets: a packet as the reader returns it, over the bytes that its offsets are in.
 //
 // Everything is checked and the size is known before the first store, so a refusal leaves the output as it was. The order is that
-// of document 01, with the places before all: 4 for a body of another shape than that of its opcode, and the number of a place that
-// does not hold what it should; 6 for a text or list that its count field cannot hold; then the number that the reader would give
-// for the finished bytes; and 10, the room, last.
+// of document 01, with the offsets before all: 4 for a body of another shape than that of its opcode, and the number of an offset
+// at which an item is not encoded; 6 for a text or list that its count field cannot hold; then the number that the reader would
+// give for the finished bytes; and 10, the room, last.
 ghost use mathlib.Core.Path.{_≡_};
 ghost use mathlib.Core.List.{List, _++_};
 ghost use Prim.Native.Nat.{ℕ, _+_, _≤_};
@@ -18,6 +18,10 @@ use bodies::Body;
 use bodies::Shape;
 use check_bodies::BodyCheck;
 use check_bodies::check_body;
+use output::KIND;
+use output::LIMIT;
+use output::OPENING;
+use output::ROOM;
 use output::WriteAnswer;
 use output::refused;
 use packets::Link;
@@ -25,6 +29,16 @@ use packets::Listed;
 use packets::Packet;
 use packets::shape_of;
 use write_bodies::put_body;
+
+const PACKET_CEILING: usize = 65536;
+
+// The byte that opens every packet.
+const PACKET_OPENING: u8 = 0xE3;
+
+// How many bytes come before the body of a packet.
+const TCP_HEAD: usize = 6;
+
+const UDP_HEAD: usize = 2;
 
 fn shape_number(shape: Shape) -> u8
     ensures { λ r. ⌜ r ≡ shapeNumber (shapeOf shape) ⌝ }
@@ -90,30 +104,30 @@ fn body_shape(body: Body) -> Shape
 }
 
 // Whether the link lists the packet's opcode with another shape than that of its body.
-fn another_shape(link: Link, p: Packet) -> bool
-    ensures { λ r. ⌜ ((s : List ℕ) → r ≡ anotherShape link s p) ⌝ }
+fn another_shape(link: Link, packet: Packet) -> bool
+    ensures { λ r. ⌜ ((s : List ℕ) → r ≡ anotherShape link s packet) ⌝ }
 {
-    let listed = shape_of(link, p.opcode);
+    let listed = shape_of(link, packet.opcode);
     let Listed::As(shape) = listed else {
         return false;
     };
-    let body = p.body;
+    let body = packet.body;
     let own = body_shape(body);
-    let a = shape_number(shape);
-    let b = shape_number(own);
-    a != b
+    let listed_number = shape_number(shape);
+    let own_number = shape_number(own);
+    listed_number != own_number
 }
 
 // What the reader says of the finished bytes once they are within the byte ceiling. `rule` is what it says of the body.
 fn reader_number(link: Link, opening: u8, opcode: u8, rule: u8) -> u8
     ensures { λ r. ⌜ r ≡ readerNumber link opening opcode rule ⌝ }
 {
-    if opening != 0xE3 {
-        return 2;
+    if opening != PACKET_OPENING {
+        return OPENING;
     }
     let listed = shape_of(link, opcode);
     let Listed::As(_) = listed else {
-        return 4;
+        return KIND;
     };
     rule
 }
@@ -122,9 +136,9 @@ fn head_size(link: Link) -> usize
     ensures { λ r. ⌜ r ≡ headSize link ⌝ }
 {
     match link {
-        Link::Server => 6,
-        Link::Client => 6,
-        Link::Udp => 2,
+        Link::Server => TCP_HEAD,
+        Link::Client => TCP_HEAD,
+        Link::Udp => UDP_HEAD,
     }
 }
 
@@ -133,9 +147,9 @@ fn put_tcp_head(out: &mut [u8], opening: u8, opcode: u8, size: usize)
     requires { ⌜ (6 ≤ length (now out)) × (size ≤ 65536) ⌝ }
     ensures { λ _. ⌜ now (out .exit) ≡ overwritten (byte opening ++ (dword (1 + size) ++ byte opcode)) (now (out .entry)) ⌝ }
 {
-    let n = 1 + size;
+    let counted = 1 + size;
     output::put_byte(out, opening);
-    output::put_dword(&mut out[1..], n as u32);
+    output::put_dword(&mut out[1..], counted as u32);
     output::put_byte(&mut out[5..], opcode);
 }
 
@@ -159,21 +173,27 @@ fn put_head(out: &mut [u8], link: Link, opening: u8, opcode: u8, size: usize)
     }
 }
 
-// A packet whose shape, places and counts are in order.
-fn write_ready(src: &[u8], link: Link, p: Packet, found: BodyCheck, out: &mut [u8]) -> WriteAnswer
-    requires { ⌜ Ready link (now src) p found ⌝ }
-    ensures writes { λ r. ⌜ WritesAt (kindOf link) (packetThere link (now (src .entry)) p) (packetOf link (now (src .entry)) p)
+// A packet whose shape, offsets and counts are in order.
+fn write_ready(
+    src: &[u8],
+    link: Link,
+    packet: Packet,
+    found: BodyCheck,
+    out: &mut [u8],
+) -> WriteAnswer
+    requires { ⌜ Ready link (now src) packet found ⌝ }
+    ensures writes { λ r. ⌜ WritesAt (kindOf link) (packetThere link (now (src .entry)) packet) (packetOf link (now (src .entry)) packet)
         (now (out .entry)) (answered r (now (out .exit))) ⌝ }
-    ensures round { λ r. ⌜ RoundTrip (kindOf link) (packetThere link (now (src .entry)) p) (packetOf link (now (src .entry)) p)
+    ensures round { λ r. ⌜ RoundTrip (kindOf link) (packetThere link (now (src .entry)) packet) (packetOf link (now (src .entry)) packet)
         (now (out .entry)) (answered r (now (out .exit))) ⌝ }
 {
-    let opening = p.opening;
-    let opcode = p.opcode;
-    let body = p.body;
+    let opening = packet.opening;
+    let opcode = packet.opcode;
+    let body = packet.body;
     let bytes = found.size;
     let head = head_size(link);
-    if 65536 - head < bytes {
-        return refused(6);
+    if PACKET_CEILING - head < bytes {
+        return refused(LIMIT);
     }
     let size = head + bytes;
     let fault = reader_number(link, opening, opcode, found.rule);
@@ -181,7 +201,7 @@ fn write_ready(src: &[u8], link: Link, p: Packet, found: BodyCheck, out: &mut [u
         return refused(fault);
     }
     if out.len() < size {
-        return refused(10);
+        return refused(ROOM);
     }
     put_head(out, link, opening, opcode, bytes);
     put_body(src, body, found.end, &mut out[head..]);
@@ -191,22 +211,22 @@ fn write_ready(src: &[u8], link: Link, p: Packet, found: BodyCheck, out: &mut [u
     }
 }
 
-// A packet of a link. Its places lie in `src`, as the reader hands it out. A body of another shape than that of its opcode, and a
-// place that does not hold what it should, are no message: they are refused first.
-pub fn write_packet(src: &[u8], link: Link, p: Packet, out: &mut [u8]) -> WriteAnswer
-    ensures writes { λ r. ⌜ WritesAt (kindOf link) (packetThere link (now (src .entry)) p) (packetOf link (now (src .entry)) p)
+// A packet of a link. Its offsets are in `src`, as the reader returns it. A body of another shape than that of its opcode, and an
+// offset at which an item is not encoded, are no message: they are refused first.
+pub fn write_packet(src: &[u8], link: Link, packet: Packet, out: &mut [u8]) -> WriteAnswer
+    ensures writes { λ r. ⌜ WritesAt (kindOf link) (packetThere link (now (src .entry)) packet) (packetOf link (now (src .entry)) packet)
         (now (out .entry)) (answered r (now (out .exit))) ⌝ }
-    ensures round { λ r. ⌜ RoundTrip (kindOf link) (packetThere link (now (src .entry)) p) (packetOf link (now (src .entry)) p)
+    ensures round { λ r. ⌜ RoundTrip (kindOf link) (packetThere link (now (src .entry)) packet) (packetOf link (now (src .entry)) packet)
         (now (out .entry)) (answered r (now (out .exit))) ⌝ }
 {
-    if another_shape(link, p) {
-        return refused(4);
+    if another_shape(link, packet) {
+        return refused(KIND);
     }
-    let body = p.body;
+    let body = packet.body;
     let found = check_body(src, body);
     let number = found.number;
     if number != 0 {
         return refused(number);
     }
-    write_ready(src, link, p, found, out)
+    write_ready(src, link, packet, found, out)
 }

@@ -26,8 +26,8 @@ shape-number-requires-2 c κs = search needs
 
 returns-2 : tie.Need-returns-2
 returns-2 c s =
-    let b = c .before .before .before .before in
-    rw (← b .before .before .shape-of .ensures, b .listed .given .1, ← c .before .before .body-shape .ensures s, c .before .shape-number .ensures, c .shape-number2 .ensures) refl
+    let shape-of-at = c .before .before .before .before .before .before in
+    rw (← shape-of-at .shape-of .ensures, c .before .before .before .before .listed .given .1, ← c .before .before .body-shape .ensures s, c .before .shape-number .ensures, c .shape-number2 .ensures) refl
 
 pub another-shape-spec : {M : Type 1} → statement M
 another-shape-spec =

@@ -1,3 +1,4 @@
+-- Each body has the shape that its meaning has.
 use mathlib.Core.Path.{refl}
 use borrow.Author.Needs.{needs}
 use Rattle.write_packets.proofs.body_shape.Statement.{statement}

@@ -1,3 +1,4 @@
+-- The head of each link is that of its two forms.
 use borrow.Author.Needs.{needs}
 use Rattle.write_packets.proofs.put_head.Statement.{statement}
 use Rattle.write_packets.proofs.put_head.Tie as tie

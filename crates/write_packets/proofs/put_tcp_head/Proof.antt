@@ -1,3 +1,4 @@
+-- The parts are put one after the other: `after` of the output's laws.
 use mathlib.Core.Path.{_≡_}
 use mathlib.Core.List.{_++_, append-assoc}
 use Prim.Native.Nat.{_+_}
@@ -10,8 +11,8 @@ use borrow.Author.Needs.{needs}
 use Rattle.write_packets.proofs.put_tcp_head.Statement.{statement}
 use Rattle.write_packets.proofs.put_tcp_head.Tie as tie
 
-add-n : tie.Need-add-n
-add-n c = search needs
+add-counted : tie.Need-add-counted
+add-counted c = search needs
 
 put-byte-requires : tie.Need-put-byte-requires
 put-byte-requires c κs = search needs
@@ -63,7 +64,7 @@ pub put-tcp-head-spec : {M : Type 1} → statement M
 put-tcp-head-spec =
     tie.close
     (tie.spec
-    add-n
+    add-counted
     put-byte-requires
     sub-put-dword
     part-put-dword-start

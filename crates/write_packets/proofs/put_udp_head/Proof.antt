@@ -25,9 +25,10 @@ same-length c = search needs
 
 returns : tie.Need-returns
 returns c =
-    let b = c .before .before .before .before .before .before in
-    let a = b .before .before .before .args in
-    after (byte (a .opening)) (byte (a .opcode)) _ _ _ 1 (length-littleEndian 1 (a .opening)) (b .put-byte .ensures) (c .before .before .put-byte2 .ensures)
+    let put-byte-at = c .before .before .before .before .before .before in
+    let start = put-byte-at .before .before .before in
+    let a = start .args in
+    after (byte (a .opening)) (byte (a .opcode)) _ _ _ 1 (length-littleEndian 1 (a .opening)) (put-byte-at .put-byte .ensures) (c .before .before .put-byte2 .ensures)
 
 pub put-udp-head-spec : {M : Type 1} → statement M
 put-udp-head-spec =

@@ -1,3 +1,4 @@
+-- Each shape has the number that shapeNumber gives it.
 use mathlib.Core.Path.{refl}
 use borrow.Author.Needs.{needs}
 use Rattle.write_packets.proofs.shape_number.Statement.{statement}

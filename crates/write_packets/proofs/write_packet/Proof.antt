@@ -1,10 +1,25 @@
-use mathlib.Core.Path.{sym, _∙_}
+-- The shape is checked first, then the body: `shaped` is what is known after both.
+use Prim.Native.Nat.{ℕ}
+use mathlib.Core.Path.{_≡_, sym, _∙_}
+use mathlib.Core.Bool.{false}
+use mathlib.Core.List.{List}
 use denote.Ref.{now}
 use Rattle.wire.proofs.Replies.{slice-bytes}
+use Rattle.write_packets.specs.Packets.{anotherShape}
 use Rattle.write_packets.proofs.Writes.{other-shape, ready, unready}
 use borrow.Author.Needs.{needs}
 use Rattle.write_packets.proofs.write_packet.Statement.{statement}
 use Rattle.write_packets.proofs.write_packet.Tie as tie
+
+module _ (c : tie.After-check-body) where
+  abbrev start : tie.Start
+  start = c .before .before .before .before .before
+
+  abbrev src : List ℕ
+  src = now (start .args .src)
+
+  shaped : anotherShape (start .args .link) src (start .args .packet) ≡ false
+  shaped = sym (c .before .before .another-shape .ensures src) ∙ c .before .if1 .left
 
 another-shape-requires : tie.Need-another-shape-requires
 another-shape-requires c κs = search needs
@@ -16,9 +31,10 @@ returns : tie.Need-returns
 returns c =
     let shape = c .before .before in
     let a = shape .before .before .before .args in
-    let s = now (a .src) in
-    let bytes = slice-bytes s (shape .before .before .shared-slice-known .given) in
-    rw (c .refused .ensures) (other-shape (a .link) s bytes (a .p) (now (a .out)) (sym (shape .another-shape .ensures s) ∙ c .before .if1 .taken))
+    let src = now (a .src) in
+    rw (c .refused .ensures)
+    (other-shape (a .link) src (slice-bytes src (shape .before .before .shared-slice-known .given)) (a .packet) (now (a .out))
+    (sym (shape .another-shape .ensures src) ∙ c .before .if1 .taken))
 
 check-body-requires : tie.Need-check-body-requires
 check-body-requires c κs = search needs
@@ -28,21 +44,13 @@ refused-requires-2 c κs = search needs
 
 returns-2 : tie.Need-returns-2
 returns-2 c =
-    let body = c .before .before in
-    let shape = body .before .before in
-    let a = shape .before .before .before .args in
-    let s = now (a .src) in
-    let bytes = slice-bytes s (shape .before .before .shared-slice-known .given) in
-    let own = sym (shape .another-shape .ensures s) ∙ body .before .if1 .left in
-    rw (c .refused2 .ensures) (unready (a .link) s bytes (a .p) (now (a .out)) own (body .check-body .ensures) (c .before .if2 .taken))
+    let k = c .before .before in
+    let a = start k .args in
+    rw (c .refused2 .ensures)
+    (unready (a .link) (src k) (slice-bytes (src k) (k .before .before .before .before .shared-slice-known .given)) (a .packet) (now (a .out)) (shaped k) (k .check-body .ensures) (c .before .if2 .taken))
 
 write-ready-requires : tie.Need-write-ready-requires
-write-ready-requires c κs =
-    let body = c .before .before in
-    let shape = body .before .before in
-    let a = shape .before .before .before .args in
-    let own = sym (shape .another-shape .ensures (now (a .src))) ∙ body .before .if1 .left in
-    ready (a .link) (now (a .src)) (a .p) own (body .check-body .ensures) (c .before .if2 .left)
+write-ready-requires c κs = let k = c .before .before in ready (start k .args .link) (src k) (start k .args .packet) (shaped k) (k .check-body .ensures) (c .before .if2 .left)
 
 same-length : tie.Need-same-length
 same-length c = search needs

@@ -1,3 +1,4 @@
+-- Each answer follows by a law of Writes from what is known of the packet at the start, the size of its head and the number of its reader.
 use mathlib.Core.Path.{sym, _∙_}
 use native.Mathlib.Omega.{arith}
 use denote.Ref.{now}
@@ -27,7 +28,7 @@ returns c =
     let a = start .args in
     let bytes = slice-bytes (now (a .src)) (head .before .before .shared-slice-known .given) in
     rw (c .refused .ensures)
-    (over-ceiling (a .link) (now (a .src)) bytes (a .p) (now (a .out)) (omega (arith, start .good)) (omega (arith, start .good)) (start .pre)
+    (over-ceiling (a .link) (now (a .src)) bytes (a .packet) (now (a .out)) (omega (arith, start .good)) (omega (arith, start .good)) (start .pre)
     (omega (arith, c .before .if1 .taken, head .head-size .ensures)))
 
 add-size : tie.Need-add-size
@@ -47,7 +48,7 @@ returns-2 c =
     let a = start .args in
     let bytes = slice-bytes (now (a .src)) (head .before .before .shared-slice-known .given) in
     rw (c .refused2 .ensures, judge .reader-number .ensures)
-    (faulty (a .link) (now (a .src)) bytes (a .p) (now (a .out)) (omega (arith, start .good)) (omega (arith, start .good)) (start .pre)
+    (faulty (a .link) (now (a .src)) bytes (a .packet) (now (a .out)) (omega (arith, start .good)) (omega (arith, start .good)) (start .pre)
     (omega (arith, judge .before .if1 .left, head .head-size .ensures, head-small (a .link))) (λ z. c .before .if2 .taken (judge .reader-number .ensures ∙ z)))
 
 refused-requires-3 : tie.Need-refused-requires-3
@@ -62,7 +63,7 @@ returns-3 c =
     let bytes = slice-bytes (now (a .src)) (head .before .before .shared-slice-known .given) in
     let good = sym (judge .reader-number .ensures) ∙ c .before .before .if2 .left in
     rw (c .refused3 .ensures)
-    (no-room (a .link) (now (a .src)) bytes (a .p) (now (a .out)) (omega (arith, start .good)) (omega (arith, start .good)) (start .pre)
+    (no-room (a .link) (now (a .src)) bytes (a .packet) (now (a .out)) (omega (arith, start .good)) (omega (arith, start .good)) (start .pre)
     (omega (arith, judge .before .if1 .left, head .head-size .ensures, head-small (a .link))) good (omega (arith, c .before .if3 .taken, head .head-size .ensures)))
 
 put-head-requires : tie.Need-put-head-requires
@@ -96,13 +97,13 @@ returns-4 c =
     let start = head .before .before .before in
     let a = start .args in
     let bytes = slice-bytes (now (a .src)) (head .before .before .shared-slice-known .given) in
-    let first = headBytes (a .link) (a .p .opening) (a .p .opcode) (a .found .size) in
-    let rest = bytesOf (bodyIn (now (a .src)) (a .p .body)) in
-    let size = head-length (a .link) (a .p .opening) (a .p .opcode) (a .found .size) ∙ sym (head .head-size .ensures) in
+    let first = headBytes (a .link) (a .packet .opening) (a .packet .opcode) (a .found .size) in
+    let rest = bytesOf (bodyIn (now (a .src)) (a .packet .body)) in
+    let size = head-length (a .link) (a .packet .opening) (a .packet .opcode) (a .found .size) ∙ sym (head .head-size .ensures) in
     let out = after first rest (now (a .out)) _ _ (head .head-size .result) size (put .put-head .ensures) (c .before .before .put-body .ensures .1) in
     let good = sym (judge .reader-number .ensures) ∙ put .before .before .before .if2 .left in
     rw (out, head .head-size .ensures)
-    (wrote (a .link) (now (a .src)) bytes (a .p) (now (a .out)) (omega (arith, start .good)) (omega (arith, start .good)) (start .pre)
+    (wrote (a .link) (now (a .src)) bytes (a .packet) (now (a .out)) (omega (arith, start .good)) (omega (arith, start .good)) (start .pre)
     (omega (arith, judge .before .if1 .left, head .head-size .ensures, head-small (a .link))) good (omega (arith, put .before .before .if3 .left, head .head-size .ensures)))
 
 pub write-ready-spec : {M : Type 1} → statement M
