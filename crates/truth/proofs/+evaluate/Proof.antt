@@ -17,7 +17,7 @@ use Rattle.truth.proofs.evaluate.Kinds as kinds
 use Rattle.truth.proofs.+evaluate.Lts-evaluate as lts
 use Rattle.query.proofs.NodeStep.fault.Reads as node-fault
 use Rattle.query.proofs.query_end.Reads as query-end
-use Rattle.query.proofs.reading.read_node.Reads as node
+use Rattle.query.proofs.read_node.Reads as node
 use Rattle.truth.proofs.TruthStep.fault.Reads as truth-fault
 use Rattle.truth.proofs.combine.Reads as combine
 use Rattle.truth.proofs.is_settled.Reads as settled
