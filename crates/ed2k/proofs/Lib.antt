@@ -1,4 +1,3 @@
-mod GapNumbers
 mod Writes
 pub mod Links
 pub mod CallReadBack

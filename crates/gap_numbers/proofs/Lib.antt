@@ -1,4 +1,5 @@
 pub mod Lists
 pub mod Numbers
+pub mod Records
 pub mod Loops
 pub mod Marks

@@ -8,11 +8,11 @@ use mathlib.Core.List.{List, [], _∷_, _++_, append-assoc}
 use lib.ListN.{length, getD, take, drop, replicate, length-append, length-drop, take-append-drop, drop-of-length-le}
 use lib.Seq.{slice, take-all, length-take-le, length-slice, drop-append-le}
 use Rattle.format.specs.Gaps.{Gap, Ordered, follows, ordered, total, between, remaining, subtract, sizeLimit}
-use Rattle.format.proofs.Gaps.{never}
-use Rattle.gaps.specs.GapRecords.{lawfulRecord}
+use Rattle.gaps.specs.declared.GapRecord.{GapRecord}
+use Rattle.gaps.specs.GapRecords.{lawfulRecord, missingCount}
 use Rattle.gaps.proofs.GapRecords.{gaps-length}
-use Rattle.gap_numbers.specs.Numbers.{pairNumbers, held}
-use Rattle.gap_numbers.specs.NumberSteps.{gapsIn, Judges, Holds, filled, putGap, putPiece, EndBy, Cut, Subtracted}
+use Rattle.gap_numbers.specs.Numbers.{pairNumbers, held, Judges}
+use Rattle.gap_numbers.specs.NumberSteps.{gapsIn, Holds, filled, putGap, putPiece, EndBy, Cut, Subtracted}
 use Rattle.gap_numbers.proofs.Lists.{total-append, kept-before, total-remaining, subtract-behind, one-more, ordered-drop}
 use Rattle.gap_numbers.proofs.Numbers.{gapAt, at, drop-in, take-in, length-filled, put-filled, put-between}
 
@@ -49,8 +49,9 @@ module _ (l : List ℕ) (i : ℕ) (h : i < getD l 1 0) (k : getD l 1 0 ≤ 64) w
       rw (take-in l i h k) (drop-append-le from (take i (gapsIn l)) (x ∷ []) u) in
       rw (← p, put-filled (kept ++ slice from i (gapsIn l)) (x .start) (x .end) (rw p r), v, append-assoc) refl
 
-pub unlawful-judged : (l : List ℕ) (missing : ℕ) → lawfulRecord sizeLimit (held l) ≡ false → Judges l false missing
-unlawful-judged l missing q = record { told = sym q; counted = λ h. never false h refl }
+pub unlawful-judged : (g : GapRecord) → lawfulRecord sizeLimit g ≡ false → Judges g false 0
+unfolding missingCount
+unlawful-judged g q = record { told = sym q; counted = rw q refl }
 
 -- The array of the gaps made keeps its length
 module _ (l : List ℕ) (n : ℕ) (h : Holds l n) (s e : ℕ) (r : s < e) (i count missing : ℕ) (made : List ℕ) (c : Cut l s e i count missing made) where

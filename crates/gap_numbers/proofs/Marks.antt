@@ -15,20 +15,17 @@ use Rattle.gaps.proofs.GapRecords.{lawful-record-exactly}
 use Rattle.gap_numbers.specs.Numbers.{held, noRecord, recordIn, MarksNumbers}
 use Rattle.gap_numbers.specs.NumberSteps.{gapsIn, Holds, Subtracted}
 use Rattle.gap_numbers.proofs.Numbers.{put-back}
+use Rattle.gap_numbers.proofs.Records.{few-numbers, in-numbers}
 
 module _ (l : List ℕ) (s e : ℕ) where
   pub short : length l < 130 → marked sizeLimit (recordIn l) s e ≡ refusal 8 noRecord
-  unfolding recordIn marked markable lawfulRecord marking
-  short h = rw (lt-leb 130 (length l) h) refl
+  unfolding marked markable lawfulRecord marking
+  short h = rw (few-numbers l h) refl
 
   module _ (long : 130 ≤ length l) where
-    in-numbers : recordIn l ≡ held l
-    unfolding recordIn
-    in-numbers = rw (le-leb 130 (length l) long) refl
-
     barred : markable sizeLimit (held l) s e ≡ false → marked sizeLimit (recordIn l) s e ≡ refusal 8 (held l)
     unfolding marked marking
-    barred q = rw (in-numbers, q) refl
+    barred q = rw (in-numbers l long, q) refl
 
     pub unlawful : lawfulRecord sizeLimit (held l) ≡ false → marked sizeLimit (recordIn l) s e ≡ refusal 8 (held l)
     unfolding markable
@@ -59,13 +56,13 @@ module _ (l : List ℕ) (s e : ℕ) where
 
           pub too-many : 64 < count → marked sizeLimit (recordIn l) s e ≡ refusal 6 (held l)
           unfolding marked marking
-          too-many h = rw (in-numbers, allowed, lt-leb (length left) 64 (omega (arith, d .counted))) refl
+          too-many h = rw (in-numbers l long, allowed, lt-leb (length left) 64 (omega (arith, d .counted))) refl
 
           accepted : count ≤ 64 → marked sizeLimit (recordIn l) s e ≡ acceptance (held l) left missing
           unfolding marked marking
           accepted h =
               let o = subtract-ordered (getD l 0 0) 0 (gapsIn l) s e order (holds .ordered) in
-              rw (in-numbers, allowed, le-leb (length left) 64 (omega (arith, d .counted)), d .weighed, total-count (getD l 0 0) 0 left o) refl
+              rw (in-numbers l long, allowed, le-leb (length left) 64 (omega (arith, d .counted)), d .weighed, total-count (getD l 0 0) 0 left o) refl
 
           pub accepts : count ≤ 64 → (new : List ℕ) → new ≡ paste (set l 1 count) 2 made 128
               → MarksNumbers (marked sizeLimit (recordIn l) s e) (record { number = 0; missing = missing }) l new

@@ -1,22 +1,17 @@
 -- What the private steps of the marking answer.
 use Prim.Native.Nat.{ℕ, _+_, _-_, _*_, _≤_, _<_}
 use mathlib.Core.Path.{_≡_}
-use mathlib.Core.Bool.{Bool, true, cond}
+use mathlib.Core.Bool.{cond}
 use mathlib.Core.List.{List, _++_, map}
 use lib.ListN.{length, getD, take, drop, set, replicate}
 use lib.Dec.{ltb}
-use Rattle.format.specs.Gaps.{Gap, Ordered, total, subtract, sizeLimit}
+use Rattle.format.specs.Gaps.{Gap, Ordered, total, subtract}
 use Rattle.gaps.specs.declared.MarkAnswer.{MarkAnswer}
-use Rattle.gaps.specs.GapRecords.{placeOf, gapsOf, lawfulRecord}
+use Rattle.gaps.specs.GapRecords.{placeOf, gapsOf}
 use Rattle.gap_numbers.specs.Numbers.{pairNumbers, held}
 
 abbrev pub gapsIn : List ℕ → List Gap
 gapsIn l = gapsOf (held l)
-
--- The judgement of 130 numbers or more: whether they are a lawful record, and how many bytes it misses.
-pub record Judges (l : List ℕ) (lawful : Bool) (missing : ℕ) : Type 0 where
-  pub told : lawful ≡ lawfulRecord sizeLimit (held l)
-  pub counted : lawful ≡ true → missing ≡ total (gapsIn l)
 
 -- Numbers that hold n gaps in order.
 pub record Holds (l : List ℕ) (n : ℕ) : Type 0 where

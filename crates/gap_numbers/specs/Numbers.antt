@@ -1,16 +1,18 @@
--- A gap record as 130 numbers: the size, how many gaps, then 64 pairs of start and end; and a marking over such numbers.
+-- A gap record as 130 numbers: the size, how many gaps, then 64 pairs of start and end; a judgement and a marking of such numbers.
 use Prim.Native.Nat.{ℕ, zero, suc}
 use mathlib.Core.Path.{_≡_}
+use mathlib.Core.Bool.{Bool}
 use mathlib.Core.List.{List, [], _∷_}
 use lib.ListN.{length, getD, drop, replicate}
 use lib.Dec.{leb, eqb}
+use Rattle.format.specs.Gaps.{sizeLimit}
 use Rattle.format.specs.Tables.{pick}
 use Rattle.format.specs.Writing.{overwritten}
 use Rattle.gaps.specs.declared.Gap.{Gap}
 use Rattle.gaps.specs.declared.GapRecord.{GapRecord}
 use Rattle.gaps.specs.declared.Marked.{Marked}
 use Rattle.gaps.specs.declared.MarkAnswer.{MarkAnswer}
-use Rattle.gaps.specs.GapRecords.{place}
+use Rattle.gaps.specs.GapRecords.{place, lawfulRecord, missingCount}
 use Rattle.gaps.specs.Marking.{answerOf}
 
 unfoldable pub pairNumbers : List Gap → List ℕ
@@ -35,6 +37,11 @@ noRecord = record { size = 0; count = 65; gaps = replicate 64 (place 0 0) }
 
 unfoldable pub recordIn : List ℕ → GapRecord
 recordIn l = pick (leb 130 (length l)) (held l) noRecord
+
+-- Whether a record is lawful, and how many bytes it misses.
+pub record Judges (g : GapRecord) (lawful : Bool) (missing : ℕ) : Type 0 where
+  pub told : lawful ≡ lawfulRecord sizeLimit g
+  pub counted : missing ≡ missingCount sizeLimit g
 
 -- A marking over numbers: its answer, and the numbers afterwards. The new record stands at the front; a refusal leaves them as they were.
 pub record MarksNumbers (m : Marked) (answer : MarkAnswer) (old new : List ℕ) : Type 0 where

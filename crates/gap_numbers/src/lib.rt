@@ -1,24 +1,32 @@
-// Marking over a gap record that is lent as numbers: the size, how many gaps, 64 pairs of start and end. It answers what gaps::mark
-// answers for that record, without making the record.
+// A gap record that is lent as numbers: the size, how many gaps, 64 pairs of start and end. It is judged and marked without making the
+// record: the answers are those of the crate gaps for it. A record made there is put into numbers.
 ghost use mathlib.Core.Path.{_≡_};
-ghost use mathlib.Core.List.{List, _++_};
+ghost use mathlib.Core.List.{List, [], _∷_, _++_};
 ghost use Prim.Native.Nat.{_+_, _-_, _*_, _≤_, _<_, min, max};
 ghost use lib.ListN.{length, getD, set, replicate};
 ghost use lib.Seq.{paste, slice};
 ghost use Rattle.format.specs.Gaps.{Gap, gap, follows, between, total, sizeLimit};
+ghost use Rattle.format.specs.Writing.{overwritten};
 ghost use Rattle.gaps.specs.Marking.{marked};
-ghost use Rattle.gap_numbers.specs.Numbers.{recordIn, MarksNumbers};
-ghost use Rattle.gap_numbers.specs.NumberSteps.{gapsIn, Judges, Holds, filled, putGap, putPiece, EndBy, Cut, Subtracted, refusedWith};
+ghost use Rattle.gap_numbers.specs.Numbers.{pairNumbers, numbersOf, held, recordIn, Judges, MarksNumbers};
+ghost use Rattle.gap_numbers.specs.NumberSteps.{gapsIn, Holds, filled, putGap, putPiece, EndBy, Cut, Subtracted, refusedWith};
+use gaps::GAP_LIMIT;
+use gaps::GapRecord;
 use gaps::MarkAnswer;
 use gaps::SIZE_LIMIT;
+use output::LIMIT;
+use output::RANGE;
 
 // The length of a gap record as numbers.
 pub const GAP_NUMBERS: usize = 130;
 
-// Whether a record is lawful and, if it is, how many bytes it misses.
-struct Judged {
-    lawful: bool,
-    missing: u64,
+// The numbers of all its pairs.
+const PAIR_NUMBERS: usize = 128;
+
+// Whether a record is lawful, and how many bytes it misses: 0 for one that is not lawful.
+pub struct Judged {
+    pub lawful: bool,
+    pub missing: u64,
 }
 
 // The gaps before `next` have been cut: `count` gaps were made, and with those from `next` on they miss `missing` bytes.
@@ -28,25 +36,26 @@ struct Cutting {
     missing: u64,
 }
 
-fn may_follow(a: u64, b: u64, low: u64, size: u64) -> bool
-    ensures { λ r. ⌜ r ≡ follows size low (gap a b) ⌝ }
+// Whether a gap may stand after gaps that end before `low`.
+fn may_follow(start: u64, end: u64, low: u64, size: u64) -> bool
+    ensures { λ r. ⌜ r ≡ follows size low (gap start end) ⌝ }
 {
-    if a < low {
+    if start < low {
         return false;
     }
-    if b <= a {
+    if end <= start {
         return false;
     }
-    b <= size
+    end <= size
 }
 
 fn judge(numbers: &[u64]) -> Judged
     requires { ⌜ 130 ≤ length (now numbers) ⌝ }
-    ensures { λ r. ⌜ Judges (now (numbers .entry)) (r .lawful) (r .missing) ⌝ }
+    ensures { λ r. ⌜ Judges (held (now (numbers .entry))) (r .lawful) (r .missing) ⌝ }
 {
     let size = numbers[0];
-    let n = numbers[1] as usize;
-    if 64 < n {
+    let gaps = numbers[1] as usize;
+    if GAP_LIMIT < gaps {
         return Judged {
             lawful: false,
             missing: 0,
@@ -61,17 +70,17 @@ fn judge(numbers: &[u64]) -> Judged
     let mut low = 0;
     let mut missing = 0;
     let mut i = 0;
-    while i < n {
-        let a = numbers[2 * i + 2];
-        let b = numbers[2 * i + 3];
-        if !may_follow(a, b, low, size) {
+    while i < gaps {
+        let start = numbers[2 * i + 2];
+        let end = numbers[2 * i + 3];
+        if !may_follow(start, end, low, size) {
             return Judged {
                 lawful: false,
                 missing: 0,
             };
         }
-        low = b + 1;
-        missing += b - a;
+        low = end + 1;
+        missing += end - start;
         i += 1;
     }
     Judged {
@@ -80,13 +89,26 @@ fn judge(numbers: &[u64]) -> Judged
     }
 }
 
+// Of the numbers the first 130 are the record; fewer are none that is lawful.
+pub fn judge_numbers(numbers: &[u64]) -> Judged
+    ensures { λ r. ⌜ Judges (recordIn (now (numbers .entry))) (r .lawful) (r .missing) ⌝ }
+{
+    if numbers.len() < GAP_NUMBERS {
+        return Judged {
+            lawful: false,
+            missing: 0,
+        };
+    }
+    judge(numbers)
+}
+
 // How many of the first gaps end by `start`.
-fn count_before(numbers: &[u64], n: usize, start: u64) -> usize
-    requires { ⌜ Holds (now numbers) n ⌝ }
+fn count_before(numbers: &[u64], gaps: usize, start: u64) -> usize
+    requires { ⌜ Holds (now numbers) gaps ⌝ }
     ensures { λ r. ⌜ EndBy (now (numbers .entry)) start r ⌝ }
 {
     let mut i = 0;
-    while i < n {
+    while i < gaps {
         if start < numbers[2 * i + 3] {
             return i;
         }
@@ -155,33 +177,33 @@ fn span(a: u64, b: u64) -> u64
 // Takes the range out of the gaps from `from` on, up to the first that begins at its end or after it.
 fn cut(
     numbers: &[u64],
-    n: usize,
+    gaps: usize,
     from: usize,
     missing: u64,
     start: u64,
     end: u64,
     made: &mut [u64],
 ) -> Cutting
-    requires { ⌜ Holds (now numbers) n × (start < end) × Cut (now numbers) start end from from missing (now made) ⌝ }
+    requires { ⌜ Holds (now numbers) gaps × (start < end) × Cut (now numbers) start end from from missing (now made) ⌝ }
     ensures { λ r. ⌜ Cut (now (numbers .entry)) start end (r .next) (r .count) (r .missing) (now (made .exit))
-        × (r .next < n → end ≤ getD (now (numbers .entry)) (2 * r .next + 2) 0) ⌝ }
+        × (r .next < gaps → end ≤ getD (now (numbers .entry)) (2 * r .next + 2) 0) ⌝ }
 {
     let mut i = from;
     let mut count = from;
     let mut left = missing;
-    while i < n {
-        let a = numbers[2 * i + 2];
-        let b = numbers[2 * i + 3];
-        if end <= a {
+    while i < gaps {
+        let first = numbers[2 * i + 2];
+        let last = numbers[2 * i + 3];
+        if end <= first {
             return Cutting {
                 next: i,
                 count,
                 missing: left,
             };
         }
-        count = put_piece(made, count, a, smaller(b, start));
-        count = put_piece(made, count, larger(a, end), b);
-        left -= span(larger(a, start), smaller(b, end));
+        count = put_piece(made, count, first, smaller(last, start));
+        count = put_piece(made, count, larger(first, end), last);
+        left -= span(larger(first, start), smaller(last, end));
         i += 1;
     }
     Cutting {
@@ -194,36 +216,36 @@ fn cut(
 // Takes the range out of all gaps.
 fn subtract(
     numbers: &[u64],
-    n: usize,
+    gaps: usize,
     missing: u64,
     start: u64,
     end: u64,
     made: &mut [u64],
 ) -> Cutting
-    requires { ⌜ Holds (now numbers) n × (start < end) × (missing ≡ total (gapsIn (now numbers))) × (now made ≡ replicate 130 0) ⌝ }
+    requires { ⌜ Holds (now numbers) gaps × (start < end) × (missing ≡ total (gapsIn (now numbers))) × (now made ≡ replicate 130 0) ⌝ }
     ensures { λ r. ⌜ Subtracted (now (numbers .entry)) start end (r .count) (r .missing) (now (made .exit)) ⌝ }
 {
-    let before = count_before(numbers, n, start);
+    let before = count_before(numbers, gaps, start);
     keep(numbers, 0, before, 0, made);
-    let c = cut(numbers, n, before, missing, start, end, made);
-    let next = c.next;
-    let count = c.count;
-    keep(numbers, next, n, count, made);
+    let cutting = cut(numbers, gaps, before, missing, start, end, made);
+    let next = cutting.next;
+    let count = cutting.count;
+    keep(numbers, next, gaps, count, made);
     Cutting {
-        next: n,
-        count: count + (n - next),
-        missing: c.missing,
+        next: gaps,
+        count: count + (gaps - next),
+        missing: cutting.missing,
     }
 }
 
-// The new gaps, all 64 places, and their count.
+// The new gaps, all 64 slots, and their count.
 fn put_back(numbers: &mut [u64], count: usize, made: &[u64])
     requires { ⌜ (130 ≤ length (now numbers)) × (128 ≤ length (now made)) ⌝ }
     ensures { λ _. ⌜ now (numbers .exit) ≡ paste (set (now (numbers .entry)) 1 count) 2 (now (made .entry)) 128 ⌝ }
 {
     numbers[1] = count as u64;
     let mut i = 0;
-    while i < 128 {
+    while i < PAIR_NUMBERS {
         numbers[2 + i] = made[i];
         i += 1;
     }
@@ -240,28 +262,62 @@ pub fn mark_numbers(numbers: &mut [u64], start: u64, end: u64) -> MarkAnswer
     ensures { λ r. ⌜ MarksNumbers (marked sizeLimit (recordIn (now (numbers .entry))) start end) r (now (numbers .entry)) (now (numbers .exit)) ⌝ }
 {
     if numbers.len() < GAP_NUMBERS {
-        return refused(8);
+        return refused(RANGE);
     }
-    let j = judge(numbers);
-    if !j.lawful {
-        return refused(8);
+    let judged = judge(numbers);
+    if !judged.lawful {
+        return refused(RANGE);
     }
     if end <= start {
-        return refused(8);
+        return refused(RANGE);
     }
     if numbers[0] < end {
-        return refused(8);
+        return refused(RANGE);
     }
-    let n = numbers[1] as usize;
-    let mut made = [0u64; 130];
-    let c = subtract(numbers, n, j.missing, start, end, &mut made);
-    let count = c.count;
-    if 64 < count {
-        return refused(6);
+    let gaps = numbers[1] as usize;
+    let mut made = [0u64; GAP_NUMBERS];
+    let cutting = subtract(numbers, gaps, judged.missing, start, end, &mut made);
+    let count = cutting.count;
+    if GAP_LIMIT < count {
+        return refused(LIMIT);
     }
     put_back(numbers, count, &made);
     MarkAnswer {
         number: 0,
-        missing: c.missing,
+        missing: cutting.missing,
     }
+}
+
+// A record into numbers.
+
+fn put_pair(out: &mut [u64], first: u64, second: u64)
+    requires { ⌜ 2 ≤ length (now out) ⌝ }
+    ensures { λ _. ⌜ now (out .exit) ≡ overwritten (first ∷ second ∷ []) (now (out .entry)) ⌝ }
+{
+    out[0] = first;
+    out[1] = second;
+}
+
+// The numbers of the gaps, all 64.
+fn put_pairs(out: &mut [u64], g: GapRecord)
+    requires { ⌜ 128 ≤ length (now out) ⌝ }
+    ensures { λ _. ⌜ now (out .exit) ≡ overwritten (pairNumbers (g .gaps)) (now (out .entry)) ⌝ }
+{
+    let mut wrote = 0;
+    let mut i = 0;
+    while i < GAP_LIMIT {
+        let gap = g.gaps[i];
+        put_pair(&mut out[wrote..], gap.start, gap.end);
+        wrote += 2;
+        i += 1;
+    }
+}
+
+// The numbers of the record, at the front of `out`.
+pub fn put_record(out: &mut [u64], g: GapRecord)
+    requires { ⌜ 130 ≤ length (now out) ⌝ }
+    ensures { λ _. ⌜ now (out .exit) ≡ overwritten (numbersOf g) (now (out .entry)) ⌝ }
+{
+    put_pair(out, g.size, g.count as u64);
+    put_pairs(&mut out[2..], g);
 }

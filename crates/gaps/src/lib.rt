@@ -6,9 +6,14 @@ ghost use Rattle.format.specs.Gaps.{Ordered, total, follows, sizeLimit};
 ghost use Rattle.gaps.specs.GapRecords.{gapOf, gapsOf, noneMissing, allMissing, lawfulRecord, missingCount};
 ghost use Rattle.gaps.specs.Marking.{markable, refusal, marked, answerOf};
 ghost use Rattle.gaps.specs.MarkingSteps.{pushed, pushedRemaining, subtracted};
+use output::LIMIT;
+use output::RANGE;
 
 // The largest size of a file: `sizeLimit` in the format's specs/Gaps.antt.
 pub const SIZE_LIMIT: u64 = 4294967295;
+
+// How many gaps a record holds at most: `gapLimit` in the same.
+pub const GAP_LIMIT: usize = 64;
 
 // The missing bytes from `start` up to `end`, `end` not included.
 pub struct Gap {
@@ -20,7 +25,7 @@ pub struct Gap {
 pub struct GapRecord {
     pub size: u64,
     pub count: usize,
-    pub gaps: [Gap; 64],
+    pub gaps: [Gap; GAP_LIMIT],
 }
 
 // The answer to a marking: 0 or the number of the refusal, how many bytes are still missing (0 on a refusal), and the
@@ -49,7 +54,7 @@ pub fn none_missing(size: u64) -> GapRecord
     GapRecord {
         size,
         count: 0,
-        gaps: [Gap { start: 0, end: 0 }; 64],
+        gaps: [Gap { start: 0, end: 0 }; GAP_LIMIT],
     }
 }
 
@@ -57,8 +62,8 @@ pub fn none_missing(size: u64) -> GapRecord
 pub fn all_missing(size: u64) -> GapRecord
     ensures { λ r. ⌜ r ≡ allMissing size ⌝ }
 {
-    let p = push(none_missing(size), 0, size);
-    p.after
+    let pushed = push(none_missing(size), 0, size);
+    pushed.after
 }
 
 // Whether a gap may stand after gaps that end before `low`.
@@ -77,9 +82,9 @@ fn may_follow(x: Gap, low: u64, size: u64) -> bool
 pub fn is_lawful(g: GapRecord) -> bool
     ensures { λ r. ⌜ r ≡ lawfulRecord sizeLimit g ⌝ }
 {
-    let n = g.count;
+    let count = g.count;
     let size = g.size;
-    if 64 < n {
+    if GAP_LIMIT < count {
         return false;
     }
     if SIZE_LIMIT < size {
@@ -87,12 +92,12 @@ pub fn is_lawful(g: GapRecord) -> bool
     }
     let mut low = 0;
     let mut i = 0;
-    while i < n {
-        let x = g.gaps[i];
-        if !may_follow(x, low, size) {
+    while i < count {
+        let gap = g.gaps[i];
+        if !may_follow(gap, low, size) {
             return false;
         }
-        low = x.end + 1;
+        low = gap.end + 1;
         i += 1;
     }
     true
@@ -103,12 +108,12 @@ fn sum_lengths(g: GapRecord) -> u64
     requires { ⌜ (g .count ≤ 64) × Ordered (g .size) 0 (gapsOf g) ⌝ }
     ensures { λ r. ⌜ r ≡ total (gapsOf g) ⌝ }
 {
-    let n = g.count;
+    let count = g.count;
     let mut sum = 0;
     let mut i = 0;
-    while i < n {
-        let x = g.gaps[i];
-        sum += x.end - x.start;
+    while i < count {
+        let gap = g.gaps[i];
+        sum += gap.end - gap.start;
         i += 1;
     }
     sum
@@ -128,22 +133,22 @@ pub fn count_missing(g: GapRecord) -> u64
 fn push(g: GapRecord, a: u64, b: u64) -> Pushed
     ensures { λ r. ⌜ r ≡ pushed g a b ⌝ }
 {
-    let n = g.count;
+    let count = g.count;
     if b <= a {
         return Pushed {
             full: false,
             after: g,
         };
     }
-    if 64 <= n {
+    if GAP_LIMIT <= count {
         return Pushed {
             full: true,
             after: g,
         };
     }
     let mut next = g;
-    next.gaps[n] = Gap { start: a, end: b };
-    next.count = n + 1;
+    next.gaps[count] = Gap { start: a, end: b };
+    next.count = count + 1;
     Pushed {
         full: false,
         after: next,
@@ -166,11 +171,11 @@ fn larger(a: u64, b: u64) -> u64
 fn push_remaining(g: GapRecord, x: Gap, start: u64, end: u64) -> Pushed
     ensures { λ r. ⌜ r ≡ pushedRemaining g (gapOf x) start end ⌝ }
 {
-    let p = push(g, x.start, smaller(x.end, start));
-    if p.full {
-        return p;
+    let pushed = push(g, x.start, smaller(x.end, start));
+    if pushed.full {
+        return pushed;
     }
-    let after = p.after;
+    let after = pushed.after;
     push(after, larger(x.start, end), x.end)
 }
 
@@ -179,19 +184,19 @@ fn subtract(g: GapRecord, start: u64, end: u64) -> Pushed
     requires { ⌜ g .count ≤ 64 ⌝ }
     ensures { λ r. ⌜ r ≡ subtracted g start end ⌝ }
 {
-    let n = g.count;
+    let count = g.count;
     let mut made = none_missing(g.size);
     let mut i = 0;
-    while i < n {
-        let x = g.gaps[i];
-        let p = push_remaining(made, x, start, end);
-        if p.full {
+    while i < count {
+        let gap = g.gaps[i];
+        let pushed = push_remaining(made, gap, start, end);
+        if pushed.full {
             return Pushed {
                 full: true,
                 after: g,
             };
         }
-        let after = p.after;
+        let after = pushed.after;
         made = after;
         i += 1;
     }
@@ -230,13 +235,13 @@ pub fn mark(g: GapRecord, start: u64, end: u64) -> Marked
     ensures { λ r. ⌜ r ≡ marked sizeLimit g start end ⌝ }
 {
     if !is_markable(g, start, end) {
-        return refused(8, g);
+        return refused(RANGE, g);
     }
-    let p = subtract(g, start, end);
-    if p.full {
-        return refused(6, g);
+    let left = subtract(g, start, end);
+    if left.full {
+        return refused(LIMIT, g);
     }
-    let after = p.after;
+    let after = left.after;
     let missing = sum_lengths(after);
     Marked {
         number: 0,

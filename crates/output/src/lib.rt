@@ -1,4 +1,4 @@
-// Writing at the front of a lent output: each function is lent the rest of the output from the present place on,
+// Writing at the front of a lent output: each function is lent the rest of the output from the present offset on,
 // `&mut out[at..]`, writes there, and changes nothing after what it wrote.
 //
 // The functions that write are for the crates above alone: each requires that its caller has checked the room before.
@@ -37,6 +37,16 @@ pub struct WriteAnswer {
     pub number: u8,
     pub length: usize,
 }
+
+// The numbers of the refusals that no rule of a reader has: above a limit, out of range, no room in the output, and a file that is not the
+// one that was opened.
+pub const LIMIT: u8 = 6;
+
+pub const RANGE: u8 = 8;
+
+pub const ROOM: u8 = 10;
+
+pub const CONFLICT: u8 = 11;
 
 pub fn refused(number: u8) -> WriteAnswer
     ensures { λ r. ⌜ r ≡ refusedBy number ⌝ }
@@ -121,7 +131,7 @@ fn differing(a: &[u8], b: &[u8], at: usize) -> u8
     differ
 }
 
-// Whether two runs of one length are equal from a place on, byte by byte.
+// Whether two runs of one length are equal from an offset on, byte by byte.
 fn same_from(a: &[u8], b: &[u8], at: usize) -> bool
     requires { ⌜ (length (now a) ≡ length (now b)) × (at ≤ length (now a)) ⌝ }
     ensures { λ r. ⌜ r ≡ same (drop at (now (a .entry))) (drop at (now (b .entry))) ⌝ }

@@ -3,7 +3,7 @@ use Prim.Native.Nat.{ℕ, zero, suc, _+_, _*_, _<_, _≤_}
 use mathlib.Core.Path.{_≡_, refl, sym, ap, _∙_}
 use mathlib.Core.List.{List, [], _∷_, _++_, append-assoc}
 use native.Mathlib.Omega.{arith}
-use lib.ListN.{length, take, drop, length-append, length-drop}
+use lib.ListN.{length, getD, take, drop, length-append, length-drop}
 use lib.Seq.{take-all, take-at, drop-at}
 use borrow.Author.Tests.{le-leb, lt-leb}
 use Rattle.format.specs.Gaps.{Gap}
@@ -17,10 +17,11 @@ use Rattle.format.specs.PutGaps.{gapTags, plainTags, regapped, tagsOf, withGaps
 use Rattle.format.proofs.Codec.{length-littleEndian, same-place, same-value, went}
 use Rattle.format.proofs.Many.{ends-items}
 use Rattle.wire.specs.declared.Items.{Items}
-use Rattle.wire.specs.WireAnswers.{itemsIn, ItemsPlaced}
-use Rattle.gaps.specs.declared.GapRecord.{GapRecord}
-use Rattle.gaps.specs.GapRecords.{gapsOf}
+use Rattle.wire.specs.WireAnswers.{itemsIn, ItemsPlaced, ItemsInside}
 use Rattle.gaps.proofs.GapRecords.{gaps-length}
+use Rattle.gap_numbers.specs.Numbers.{held}
+use Rattle.gap_numbers.specs.NumberSteps.{gapsIn}
+use Rattle.gap_numbers.proofs.Numbers.{at}
 use Rattle.met.specs.declared.PartMet as code
 use Rattle.met.specs.MetAnswers.{partMetIn, tagsPlace}
 use Rattle.put_gaps.specs.Pieces.{headOf, tailOf, tagsAt, PartRead, plainBytes, pairsBytes, pairsLength}
@@ -30,14 +31,14 @@ use Rattle.put_gaps.proofs.Pairs.{pairs-length}
 
 -- Lists that were decoded: how many items they have, and where they end.
 
-many-length : {A : Type 0} (d : Decoder A) (s : List ℕ) (n at end : ℕ) (l : List A) → decodeMany n d s at ≡ got l end → length l ≡ n
+pub many-length : {A : Type 0} (d : Decoder A) (s : List ℕ) (n at end : ℕ) (l : List A) → decodeMany n d s at ≡ got l end → length l ≡ n
 many-length d s zero at end l e = ap length (sym (same-value e))
 many-length d s (suc n) at end l e =
     let w = went s (d s at) e in
     let v = went s (decodeMany n d s (w .mid)) (w .then) in
     ap length (sym (same-value (v .then))) ∙ ap suc (many-length d s n (w .mid) (v .mid) (v .first) (v .was))
 
-tags-end : (s : List ℕ) → Bytes s → (n at end : ℕ) (l : List Tag) → decodeMany n decodeTag s at ≡ got l end →
+pub tags-end : (s : List ℕ) → Bytes s → (n at end : ℕ) (l : List Tag) → decodeMany n decodeTag s at ≡ got l end →
     end ≡ at + length (encodeAll encodeTag l)
 tags-end s bytes zero at end l e = let p = same-place e in let q = ap (λ l. length (encodeAll encodeTag l)) (same-value e) in omega arith
 tags-end s bytes (suc n) at end l e =
@@ -61,7 +62,7 @@ unfolding gapTags
 length-gapTags i [] = refl
 length-gapTags i (g ∷ gaps) = omega (arith, length-gapTags (suc i) gaps)
 
-items-length : {A : Type 0} (d : Decoder A) (s : List ℕ) (l : Items) → ItemsPlaced d s l → length (itemsIn d s l) ≡ l .count
+pub items-length : {A : Type 0} (d : Decoder A) (s : List ℕ) (l : Items) → ItemsPlaced d s l → length (itemsIn d s l) ≡ l .count
 items-length d s l e = many-length d s (l .count) (l .at) (l .end) (itemsIn d s l) (sym (ends-items (decodeMany (l .count) d s (l .at)) (l .end) e))
 
 -- The pieces of a file that was read
@@ -71,9 +72,9 @@ unfolding tagsOf
 tags-same s (code.PartMet.E0 e) = refl
 tags-same s (code.PartMet.E1 m) = refl
 
-pub tags-placed : (s : List ℕ) (part : code.PartMet) → PartRead s part → ItemsPlaced decodeTag s (tagsPlace part)
-tags-placed s (code.PartMet.E0 e) h = h .placed .1 .1 .0
-tags-placed s (code.PartMet.E1 m) h = h .placed .1 .0 .0
+pub tags-inside : (s : List ℕ) (part : code.PartMet) → PartRead s part → ItemsInside decodeTag s (tagsPlace part)
+tags-inside s (code.PartMet.E0 e) h = h .placed .1 .1
+tags-inside s (code.PartMet.E1 m) h = h .placed .1 .0
 
 head-length : (s : List ℕ) (part : code.PartMet) → PartRead s part → length (headOf (partMetIn s part)) ≡ tagsAt part
 unfolding headOf ValidPartMet
@@ -108,7 +109,7 @@ module _ (s : List ℕ) (bytes : Bytes s) (part : code.PartMet) (h : PartRead s 
     at = sym (head-length s part h);
     end =
         tags-end s bytes (tagsPlace part .count) (tagsPlace part .at) (tagsPlace part .end) tags
-        (sym (ends-items (decodeMany (tagsPlace part .count) decodeTag s (tagsPlace part .at)) (tagsPlace part .end) (tags-placed s part h)));
+        (sym (ends-items (decodeMany (tagsPlace part .count) decodeTag s (tagsPlace part .at)) (tagsPlace part .end) (tags-inside s part h .0)));
     list = length-tags tags;
     all = omega (arith, ap length split, length-append (headOf file) (encodeTags tags ++ tailOf file), length-append (encodeTags tags) (tailOf file));
     few = omega (arith, ap length (h .bytes), h .valid .few);
@@ -153,11 +154,11 @@ module _ (s : List ℕ) (bytes : Bytes s) (part : code.PartMet) (h : PartRead s 
     pub new-count : length (regapped gaps tags) ≡ length (plainTags tags) + 2 * length gaps
     new-count = omega (arith, length-append (plainTags tags) (gapTags 0 gaps), length-gapTags 0 gaps)
 
-pub record-pairs : (g : GapRecord) → g .count ≤ 64 → length (g .gaps) ≡ 64 →
-    (length (gapsOf g) ≡ g .count) × (length (pairsBytes 0 (gapsOf g)) ≡ pairsLength (g .count))
-record-pairs g few places =
-    let n = gaps-length g 0 (record { passed = omega arith; few = few; places = places }) in
-    (n, omega (arith, pairs-length 0 (gapsOf g)))
+pub record-pairs : (l : List ℕ) → getD l 1 0 ≤ 64 →
+    (length (gapsIn l) ≡ getD l 1 0) × (length (pairsBytes 0 (gapsIn l)) ≡ pairsLength (getD l 1 0))
+record-pairs l few =
+    let n = gaps-length (held l) 0 (at l 0 (omega arith) few) in
+    (n, omega (arith, pairs-length 0 (gapsIn l)))
 
 -- What is written within the ceiling, and into the room.
 module _ (new output : List ℕ) (n : ℕ) (e : n ≡ length new) where

@@ -6,4 +6,5 @@ pub mod RecordBack
 pub mod Kept
 pub mod Pairs
 pub mod Lengths
+pub mod Range
 pub mod Puts

@@ -4,7 +4,7 @@ use mathlib.Core.Path.{_≡_, refl, ap, _∙_}
 use mathlib.Core.List.{List, [], _∷_, _++_, append-assoc}
 use native.Mathlib.Omega.{arith}
 use native.Mathlib.Numerals.{add-one}
-use lib.ListN.{length, drop, length-append}
+use lib.ListN.{length, getD, drop, length-append}
 use lib.Dec.{ltb}
 use borrow.Rule.Slice.PartMut.{midOf, putMid}
 use borrow.Author.Tests.{ltb-true, ltb-false}
@@ -15,9 +15,11 @@ use Rattle.format.specs.PutGaps.{decimalOf, gapTags}
 use Rattle.format.specs.Writing.{overwritten}
 use Rattle.format.proofs.Codec.{length-littleEndian}
 use Rattle.format.proofs.PartTags.{either-test}
-use Rattle.gaps.specs.declared.GapRecord.{GapRecord}
-use Rattle.gaps.specs.GapRecords.{gapOf, gapsOf}
-use Rattle.gaps.proofs.GapRecords.{At, placeAt, next-at, next-gap, next-Ordered, none-left}
+use Rattle.format.proofs.Gaps.{weaken}
+use Rattle.gaps.proofs.GapRecords.{none-left}
+use Rattle.gap_numbers.specs.Numbers.{held}
+use Rattle.gap_numbers.specs.NumberSteps.{gapsIn}
+use Rattle.gap_numbers.proofs.Numbers.{gapAt, at, drop-in}
 use Rattle.output.proofs.Laws.{byte-bytes}
 use Rattle.output.proofs.Loops.{WrittenSoFar, written-all, piece-room, written-next}
 use Rattle.put_gaps.specs.Pieces.{pairBytes, pairsBytes, pairsLength}
@@ -70,37 +72,47 @@ pairs-length i (g ∷ gaps) =
     next : (i n : ℕ) → i + suc n ≡ i + 1 + n
     next i n = omega arith
 
--- The loop over the places of a record, with i gaps passed.
-module _ (g : GapRecord) (old : List ℕ) where
+-- The loop over the gaps of a record that is lent as numbers, with i gaps passed.
+module _ (l old : List ℕ) where
+  abbrev all : List ℕ
+  all = pairsBytes 0 (gapsIn l)
+
   pub record PairsWritten (out : List ℕ) (wrote i : ℕ) : Type 0 where
-    pub at : At g i
-    pub ordered : Ordered (g .size) 0 (drop i (gapsOf g))
-    pub written : WrittenSoFar (pairsBytes 0 (gapsOf g)) old out wrote (pairsBytes i (drop i (gapsOf g)))
+    pub passed : i ≤ getD l 1 0
+    pub few : getD l 1 0 ≤ 64
+    pub ordered : Ordered (getD l 0 0) 0 (drop i (gapsIn l))
+    pub written : WrittenSoFar all old out wrote (pairsBytes i (drop i (gapsIn l)))
 
-  pub pairs-all : (out : List ℕ) (wrote i : ℕ) → PairsWritten out wrote i → g .count ≤ i →
-      (wrote ≡ length (pairsBytes 0 (gapsOf g))) × (out ≡ overwritten (pairsBytes 0 (gapsOf g)) old)
+  pub pairs-all : (out : List ℕ) (wrote i : ℕ) → PairsWritten out wrote i → getD l 1 0 ≤ i → (wrote ≡ length all) × (out ≡ overwritten all old)
   pairs-all out wrote i w h =
-      written-all (pairsBytes 0 (gapsOf g)) old out wrote _ (w .written) (ap (pairsBytes i) (none-left g i (w .at) h) ∙ pairs-none i)
+      written-all all old out wrote _ (w .written) (ap (pairsBytes i) (none-left (held l) i (at l i (w .passed) (w .few)) h) ∙ pairs-none i)
 
-  module _ (room : length (pairsBytes 0 (gapsOf g)) ≤ length old) (out : List ℕ) (wrote i : ℕ) (h : i < g .count) (w : PairsWritten out wrote i) where
+  module _ (room : length all ≤ length old) (out : List ℕ) (wrote i : ℕ) (h : i < getD l 1 0) (w : PairsWritten out wrote i) where
     abbrev piece : List ℕ
-    piece = pairBytes i (gapOf (placeAt g i))
+    piece = pairBytes i (gapAt l i)
 
-    next : pairsBytes i (drop i (gapsOf g)) ≡ piece ++ pairsBytes (i + 1) (drop (i + 1) (gapsOf g))
-    next = ap (pairsBytes i) (next-gap g i (w .at) h) ∙ pairs-cons i (gapOf (placeAt g i)) (drop (i + 1) (gapsOf g))
+    abbrev later : List Gap
+    later = drop (i + 1) (gapsIn l)
 
-    pub pair-room : wrote + (16 + 2 * length (decimalOf i)) ≤ length old
+    next : pairsBytes i (drop i (gapsIn l)) ≡ piece ++ pairsBytes (i + 1) later
+    next = ap (pairsBytes i) (drop-in l i h (w .few)) ∙ pairs-cons i (gapAt l i) later
+
+    pub pair-room : (wrote + (16 + 2 * length (decimalOf i)) ≤ length out) × (length out ≡ length old)
     pair-room =
-        let within = piece-room (pairsBytes 0 (gapsOf g)) old room out wrote _ piece _ (w .written) next in
-        omega (arith, within, length-pair i (gapOf (placeAt g i)))
+        let within = piece-room all old room out wrote _ piece _ (w .written) next in
+        (omega (arith, within, length-pair i (gapAt l i), w .written .same-length), w .written .same-length)
 
-    pub pair-ordered : (placeAt g i .start < placeAt g i .end) × (placeAt g i .end ≤ g .size)
-    pair-ordered = let o = next-Ordered g i (w .at) h (g .size) (w .ordered) in (o .0, o .1)
+    pub pair-ordered : (gapAt l i .start < gapAt l i .end) × (gapAt l i .end ≤ getD l 0 0) × Ordered (getD l 0 0) 0 later
+    unfolding Ordered
+    pair-ordered =
+        let o : Ordered (getD l 0 0) 0 (gapAt l i ∷ later) = rw (drop-in l i h (w .few)) at (w .ordered) in
+        (o .1, o .2, weaken (getD l 0 0) (suc (gapAt l i .end)) 0 later (omega arith) (o .3))
 
     pub pairs-next : (n : ℕ) → n ≡ length piece → (new : List ℕ) → new ≡ overwritten piece (midOf wrote (length out - wrote) out) →
         PairsWritten (putMid wrote (length out - wrote) out new) (wrote + n) (i + 1)
     pairs-next n e new q = record {
-      at = next-at g i (w .at) h;
-      ordered = next-Ordered g i (w .at) h (g .size) (w .ordered) .2;
-      written = rw e (written-next (pairsBytes 0 (gapsOf g)) old room out wrote _ piece _ (w .written) next new q);
+      passed = omega arith;
+      few = w .few;
+      ordered = pair-ordered .2;
+      written = rw e (written-next all old room out wrote _ piece _ (w .written) next new q);
     }

@@ -28,7 +28,7 @@ plain-left-out : (t : Tag) (l : List Tag) → isPlain (role t) ≡ false → pla
 unfolding plainTags
 plain-left-out t l e = rw e refl
 
-plain-append : (k l : List Tag) → plainTags (k ++ l) ≡ plainTags k ++ plainTags l
+pub plain-append : (k l : List Tag) → plainTags (k ++ l) ≡ plainTags k ++ plainTags l
 unfolding plainTags
 plain-append [] l = refl
 plain-append (t ∷ k) l = either-test (isPlain (role t))

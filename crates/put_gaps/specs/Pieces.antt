@@ -8,12 +8,15 @@ use Rattle.format.specs.Gaps.{Gap, Lawful, sizeLimit}
 use Rattle.format.specs.Messages.{Tag, PartMet, e0, e1, partMet}
 use Rattle.format.specs.Layout.{byte, word, dword, counted, encodeAll, encodeHash, encodeHashBlocks, encodePartMet, encodeTag, encodeTags}
 use Rattle.format.specs.Rules.{GapPair, startTag, endTag, Valid}
-use Rattle.format.specs.Decoding.{bytesAt}
+use Rattle.format.specs.Decoding.{bytesAt, decodeMany, got}
+use Rattle.format.specs.Order.{decodeTag}
 use Rattle.format.specs.GapTags.{role}
 use Rattle.format.specs.PutGaps.{isPlain, plainTags, decimalOf, gapTags, regapped, withGaps}
+use Rattle.wire.specs.declared.Items.{Items}
 use Rattle.tags.specs.TagAnswers.{tagsIn}
 use Rattle.gaps.specs.declared.GapRecord.{GapRecord}
 use Rattle.gaps.specs.GapRecords.{gapsOf}
+use Rattle.gap_numbers.specs.Numbers.{held}
 use Rattle.met.specs.declared.PartMet as code
 use Rattle.met.specs.MetAnswers.{partMetIn, PartMetPlaced, tagsPlace}
 use Rattle.put_gaps.specs.declared.Sizes.{Sizes}
@@ -36,13 +39,29 @@ tagsAt (code.PartMet.E1 m) = 22
 abbrev pub LawfulRecord : GapRecord → Type 0
 LawfulRecord g = (g .count ≤ 64) × Lawful sizeLimit (g .size) (gapsOf g)
 
+-- The same as numbers.
+abbrev pub LawfulNumbers : List ℕ → Type 0
+LawfulNumbers l = (130 ≤ length l) × LawfulRecord (held l)
+
 -- A part.met that was read from these bytes.
 pub record PartRead (s : List ℕ) (part : code.PartMet) : Type 0 where
   pub bytes : s ≡ encodePartMet (partMetIn s part)
   pub valid : Valid partMet (partMetIn s part)
   pub placed : PartMetPlaced s part
 
--- A tag that stays, and its bytes, which lie from one place up to another; nothing of a gap tag.
+-- The gap tags of a list lie in the range: those before it and after it are no gap tags.
+pub record GapTagsIn (s : List ℕ) (tags range : Items) : Type 0 where
+  pub pre : List Tag
+  pub mid : List Tag
+  pub post : List Tag
+  pub before : decodeMany (length pre) decodeTag s (tags .at) ≡ got pre (range .at)
+  pub within : decodeMany (range .count) decodeTag s (range .at) ≡ got mid (range .end)
+  pub after : decodeMany (length post) decodeTag s (range .end) ≡ got post (tags .end)
+  pub all : tagsIn s tags ≡ pre ++ (mid ++ post)
+  pub plainBefore : plainTags pre ≡ pre
+  pub plainAfter : plainTags post ≡ post
+
+-- A tag that stays, and its bytes, which lie from one offset up to another; nothing of a gap tag.
 abbrev pub keptTags : Tag → List Tag
 keptTags t = pick (isPlain (role t)) (t ∷ []) []
 
@@ -68,10 +87,11 @@ abbrev pub pairsLength : ℕ → ℕ
 pairsLength n = 18 * n + 2 * (n - 10)
 
 -- The numbers of a new file.
-pub record SizesOf (s : List ℕ) (part : code.PartMet) (g : GapRecord) (r : Sizes) : Type 0 where
+pub record SizesOf (s : List ℕ) (part : code.PartMet) (range : Items) (g : GapRecord) (r : Sizes) : Type 0 where
   pub at : r .at ≡ length (headOf (partMetIn s part))
   pub count : r .count ≡ length (regapped (gapsOf g) (tagsIn s (tagsPlace part)))
   pub list : r .list ≡ 4 + length (plainBytes (tagsIn s (tagsPlace part))) + length (pairsBytes 0 (gapsOf g))
-  pub behind : r .behind ≡ length (headOf (partMetIn s part)) + length (encodeTags (tagsIn s (tagsPlace part)))
+  pub within : r .within ≡ length (plainBytes (tagsIn s range))
+  pub after : r .after ≡ length (headOf (partMetIn s part)) + length (encodeTags (tagsIn s (tagsPlace part)))
   pub rest : r .length ≡ r .at + r .list + length (tailOf (partMetIn s part))
   pub length : r .length ≡ length (encodePartMet (withGaps (gapsOf g) (partMetIn s part)))

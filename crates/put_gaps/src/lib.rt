@@ -1,8 +1,9 @@
 // Putting a gap record into a part.met: all but the gap tags stay, in order, and the gaps follow as pairs of tags.
 //
 // The new file is the old one with another tag list: the bytes before the list as they were, the new count, the tags that
-// are no gap tags copied one by one, the pairs of gap tags, and the bytes after the list as they were. All is checked
-// and the length of the new file is known before the first byte is written.
+// are no gap tags, the pairs of gap tags, and the bytes after the list as they were. The gap tags lie in a range of the list: the tags
+// before it and after it are copied as two runs, and only the tags in it one by one. All is checked and the length of the new file is known
+// before the first byte is written. The record is lent as numbers (crate gap_numbers), so that it is not copied at every call.
 //
 // specs/PutAnswers.antt says which record is put, specs/Pieces.antt what the private steps write.
 ghost use mathlib.Core.Path.{_≡_};
@@ -11,25 +12,31 @@ ghost use Prim.Native.Nat.{_+_, _-_, _*_, _≤_, _<_};
 ghost use lib.ListN.{length};
 ghost use Rattle.format.specs.Layout.{encodeTag, encodeTags, encodePartMet};
 ghost use Rattle.format.specs.Order.{decodeTag};
+ghost use Rattle.format.specs.Gaps.{gap};
 ghost use Rattle.format.specs.Rules.{dwordTag};
 ghost use Rattle.format.specs.GapTags.{role};
 ghost use Rattle.format.specs.PutGaps.{isPlain, plainTags, decimalOf, regapped, withGaps, withinCeiling};
 ghost use Rattle.format.specs.Writing.{overwritten};
-ghost use Rattle.wire.specs.WireAnswers.{ItemsPlaced};
+ghost use Rattle.wire.specs.WireAnswers.{ItemsPlaced, ItemsInside};
 ghost use Rattle.tags.specs.TagAnswers.{tagOf, tagsIn};
-ghost use Rattle.gaps.specs.GapRecords.{gapOf, gapsOf};
-ghost use Rattle.met.specs.MetAnswers.{partMetIn};
+ghost use Rattle.gaps.specs.GapRecords.{gapsOf};
+ghost use Rattle.gap_numbers.specs.Numbers.{held, recordIn};
+ghost use Rattle.met.specs.MetAnswers.{partMetIn, tagsPlace};
 ghost use Rattle.output.specs.WriteAnswers.{answered};
 ghost use Rattle.put_gaps.specs.PutAnswers.{putRecord};
-ghost use Rattle.put_gaps.specs.Pieces.{PartRead, LawfulRecord, SizesOf};
+ghost use Rattle.put_gaps.specs.Pieces.{PartRead, GapTagsIn, LawfulNumbers, SizesOf};
 ghost use Rattle.put_gaps.specs.Pieces.{tagsAt, keptTags, keptBytes, plainBytes, pairBytes, pairsBytes, pairsLength};
-use gaps::Gap;
+use gap_numbers::GAP_NUMBERS;
+use gap_numbers::judge_numbers;
+use gap_numbers::put_record;
 use gaps::GapRecord;
-use gaps::is_lawful;
 use met::MET_CEILING;
 use met::PartAnswer;
 use met::PartMet;
 use met::read_part_met;
+use output::LIMIT;
+use output::RANGE;
+use output::ROOM;
 use output::WriteAnswer;
 use output::copy;
 use output::put_byte;
@@ -56,7 +63,11 @@ fn tags_at(part: PartMet) -> usize
     }
 }
 
-// A gap tag is known by its name's first byte, 09 or 0A.
+// The first byte of the name of a gap's start tag and of its end tag, by which a gap tag is known.
+const START: u8 = 0x09;
+
+const END: u8 = 0x0A;
+
 fn is_plain(s: &[u8], tag: Tag) -> bool
     ensures { λ r. ⌜ r ≡ isPlain (role (tagOf (now (s .entry)) tag)) ⌝ }
 {
@@ -65,10 +76,10 @@ fn is_plain(s: &[u8], tag: Tag) -> bool
         return true;
     }
     let first = name[0];
-    if first == 9 {
+    if first == START {
         return false;
     }
-    first != 10
+    first != END
 }
 
 // The bytes of a tag that stays; none of a gap tag. The tag lies from `from` up to `to`.
@@ -90,7 +101,7 @@ fn kept_count(s: &[u8], tag: Tag) -> u32
     if is_plain(s, tag) { 1 } else { 0 }
 }
 
-// How many tags of a list stay, and how many bytes they have.
+// How many tags stay, and how many bytes they have.
 struct Plain {
     count: u32,
     bytes: usize,
@@ -102,14 +113,14 @@ fn measure_plain(s: &[u8], tags: Items) -> Plain
     ensures count { λ r. ⌜ r .count ≡ length (plainTags (tagsIn (now (s .entry)) tags)) ⌝ }
     ensures bytes { λ r. ⌜ r .bytes ≡ length (plainBytes (tagsIn (now (s .entry)) tags)) ⌝ }
 {
-    let n = tags.count;
+    let total = tags.count;
     let mut count: u32 = 0;
     let mut bytes: usize = 0;
     let mut next = Cursor { at: tags.at };
     let mut i: u32 = 0;
-    while i < n {
-        let t = read_tag(s, next);
-        let TagStep::Got(tag, after) = t else {
+    while i < total {
+        let step = read_tag(s, next);
+        let TagStep::Got(tag, after) = step else {
             return Plain { count, bytes };
         };
         let kept = kept_bytes(s, tag, next.at, after.at);
@@ -121,7 +132,31 @@ fn measure_plain(s: &[u8], tags: Items) -> Plain
     Plain { count, bytes }
 }
 
-// The functions below that write answer with the number of bytes written. Each is lent the rest of the output, from its place on.
+// The same of a list whose gap tags lie in the range, and the bytes of the tags in the range that stay.
+struct Measured {
+    count: u32,
+    bytes: usize,
+    within: usize,
+}
+
+fn measure_kept(s: &[u8], tags: Items, range: Items) -> Measured
+    requires { ⌜ ItemsInside decodeTag (now s) tags × GapTagsIn (now s) tags range ⌝ }
+    ensures count { λ r. ⌜ r .count ≡ length (plainTags (tagsIn (now (s .entry)) tags)) ⌝ }
+    ensures bytes { λ r. ⌜ r .bytes ≡ length (plainBytes (tagsIn (now (s .entry)) tags)) ⌝ }
+    ensures within { λ r. ⌜ r .within ≡ length (plainBytes (tagsIn (now (s .entry)) range)) ⌝ }
+{
+    let plain = measure_plain(s, range);
+    let within = plain.bytes;
+    let count = tags.count - range.count + plain.count;
+    let bytes = range.at - tags.at + within + (tags.end - range.end);
+    Measured {
+        count,
+        bytes,
+        within,
+    }
+}
+
+// The functions below that write return the number of bytes written. Each is lent the rest of the output, from its offset on.
 
 // The tags of a list that stay.
 fn put_plain(out: &mut [u8], s: &[u8], tags: Items) -> usize
@@ -129,13 +164,13 @@ fn put_plain(out: &mut [u8], s: &[u8], tags: Items) -> usize
     ensures written { λ r. ⌜ r ≡ length (plainBytes (tagsIn (now (s .entry)) tags)) ⌝ }
     ensures output { λ _. ⌜ now (out .exit) ≡ overwritten (plainBytes (tagsIn (now (s .entry)) tags)) (now (out .entry)) ⌝ }
 {
-    let n = tags.count;
+    let total = tags.count;
     let mut wrote: usize = 0;
     let mut next = Cursor { at: tags.at };
     let mut i: u32 = 0;
-    while i < n {
-        let t = read_tag(s, next);
-        let TagStep::Got(tag, after) = t else {
+    while i < total {
+        let step = read_tag(s, next);
+        let TagStep::Got(tag, after) = step else {
             return wrote;
         };
         let kept = kept_bytes(s, tag, next.at, after.at);
@@ -145,6 +180,33 @@ fn put_plain(out: &mut [u8], s: &[u8], tags: Items) -> usize
         i += 1;
     }
     wrote
+}
+
+// The same, where these have so many bytes: most often none, and then no tag is read.
+fn put_within(out: &mut [u8], s: &[u8], range: Items, bytes: usize)
+    requires { ⌜ ItemsPlaced decodeTag (now s) range × (bytes ≡ length (plainBytes (tagsIn (now s) range))) × (bytes ≤ length (now out)) ⌝ }
+    ensures { λ _. ⌜ now (out .exit) ≡ overwritten (plainBytes (tagsIn (now (s .entry)) range)) (now (out .entry)) ⌝ }
+{
+    if bytes == 0 {
+        return;
+    }
+    put_plain(out, s, range);
+}
+
+// The tags that stay of a list whose gap tags lie in the range; those in the range that stay have `within` bytes.
+fn put_kept(out: &mut [u8], s: &[u8], tags: Items, range: Items, within: usize) -> usize
+    requires { ⌜ ItemsInside decodeTag (now s) tags × GapTagsIn (now s) tags range × (within ≡ length (plainBytes (tagsIn (now s) range)))
+        × (length (plainBytes (tagsIn (now s) tags)) ≤ length (now out)) ⌝ }
+    ensures written { λ r. ⌜ r ≡ length (plainBytes (tagsIn (now (s .entry)) tags)) ⌝ }
+    ensures output { λ _. ⌜ now (out .exit) ≡ overwritten (plainBytes (tagsIn (now (s .entry)) tags)) (now (out .entry)) ⌝ }
+{
+    let before = range.at - tags.at;
+    copy(out, bytes_at(s, tags.at, before));
+    put_within(&mut out[before..], s, range, within);
+    let at = before + within;
+    let after = tags.end - range.end;
+    copy(&mut out[at..], bytes_at(s, range.end, after));
+    at + after
 }
 
 // The number of digits of a number below 100.
@@ -160,12 +222,15 @@ fn put_decimal(out: &mut [u8], i: usize)
     ensures { λ _. ⌜ now (out .exit) ≡ overwritten (decimalOf i) (now (out .entry)) ⌝ }
 {
     if i < 10 {
-        out[0] = 0x30 + i as u8;
+        out[0] = b'0' + i as u8;
         return;
     }
-    out[0] = 0x30 + (i / 10) as u8;
-    out[1] = 0x30 + (i % 10) as u8;
+    out[0] = b'0' + (i / 10) as u8;
+    out[1] = b'0' + (i % 10) as u8;
 }
+
+// The type of a DWORD tag.
+const DWORD: u8 = 3;
 
 // A DWORD tag whose name is `first` and the digits of the number i.
 fn put_gap_tag(out: &mut [u8], first: u8, i: usize, value: u32) -> usize
@@ -174,7 +239,7 @@ fn put_gap_tag(out: &mut [u8], first: u8, i: usize, value: u32) -> usize
     ensures output { λ _. ⌜ now (out .exit) ≡ overwritten (encodeTag (dwordTag (first ∷ decimalOf i) value)) (now (out .entry)) ⌝ }
 {
     let digits = digit_count(i);
-    put_byte(out, 3);
+    put_byte(out, DWORD);
     put_word(&mut out[1..], 1 + digits as u16);
     put_byte(&mut out[3..], first);
     put_decimal(&mut out[4..], i);
@@ -184,137 +249,170 @@ fn put_gap_tag(out: &mut [u8], first: u8, i: usize, value: u32) -> usize
 }
 
 // The start tag and the end tag of a gap.
-fn put_pair(out: &mut [u8], i: usize, x: Gap) -> usize
-    requires { ⌜ (i < 100) × (x .start < 4294967296) × (x .end < 4294967296) × (16 + 2 * length (decimalOf i) ≤ length (now out)) ⌝ }
-    ensures written { λ r. ⌜ r ≡ length (pairBytes i (gapOf x)) ⌝ }
-    ensures output { λ _. ⌜ now (out .exit) ≡ overwritten (pairBytes i (gapOf x)) (now (out .entry)) ⌝ }
+fn put_pair(out: &mut [u8], i: usize, start: u64, end: u64) -> usize
+    requires { ⌜ (i < 100) × (start < 4294967296) × (end < 4294967296) × (16 + 2 * length (decimalOf i) ≤ length (now out)) ⌝ }
+    ensures written { λ r. ⌜ r ≡ length (pairBytes i (gap start end)) ⌝ }
+    ensures output { λ _. ⌜ now (out .exit) ≡ overwritten (pairBytes i (gap start end)) (now (out .entry)) ⌝ }
 {
-    let wrote = put_gap_tag(out, 0x09, i, x.start as u32);
-    wrote + put_gap_tag(&mut out[wrote..], 0x0A, i, x.end as u32)
+    let wrote = put_gap_tag(out, START, i, start as u32);
+    wrote + put_gap_tag(&mut out[wrote..], END, i, end as u32)
 }
 
 // The pairs of all gaps, numbered from 0.
-fn put_pairs(out: &mut [u8], g: GapRecord) -> usize
-    requires { ⌜ LawfulRecord g × (length (pairsBytes 0 (gapsOf g)) ≤ length (now out)) ⌝ }
-    ensures written { λ r. ⌜ r ≡ length (pairsBytes 0 (gapsOf g)) ⌝ }
-    ensures output { λ _. ⌜ now (out .exit) ≡ overwritten (pairsBytes 0 (gapsOf g)) (now (out .entry)) ⌝ }
+fn put_pairs(out: &mut [u8], gaps: &[u64]) -> usize
+    requires { ⌜ LawfulNumbers (now gaps) × (length (pairsBytes 0 (gapsOf (held (now gaps)))) ≤ length (now out)) ⌝ }
+    ensures written { λ r. ⌜ r ≡ length (pairsBytes 0 (gapsOf (held (now (gaps .entry))))) ⌝ }
+    ensures output { λ _. ⌜ now (out .exit) ≡ overwritten (pairsBytes 0 (gapsOf (held (now (gaps .entry))))) (now (out .entry)) ⌝ }
 {
-    let n = g.count;
+    let pairs = gaps[1] as usize;
     let mut wrote: usize = 0;
     let mut i = 0;
-    while i < n {
-        let x = g.gaps[i];
-        wrote += put_pair(&mut out[wrote..], i, x);
+    while i < pairs {
+        let start = gaps[2 * i + 2];
+        let end = gaps[2 * i + 3];
+        wrote += put_pair(&mut out[wrote..], i, start, end);
         i += 1;
     }
     wrote
 }
 
-// The length of n pairs.
-fn pairs_length(n: usize) -> usize
-    requires { ⌜ n ≤ 64 ⌝ }
-    ensures { λ r. ⌜ r ≡ pairsLength n ⌝ }
+// The length of so many pairs: 18 bytes each, and two more from the pair 10 on, whose number has two digits.
+fn pairs_length(pairs: usize) -> usize
+    requires { ⌜ pairs ≤ 64 ⌝ }
+    ensures { λ r. ⌜ r ≡ pairsLength pairs ⌝ }
 {
-    if n < 10 {
-        18 * n
+    if pairs < 10 {
+        18 * pairs
     } else {
-        18 * n + 2 * (n - 10)
+        18 * pairs + 2 * (pairs - 10)
     }
 }
 
 // A tag list of `count` tags: those that stay, and the pairs.
-fn put_tag_list(out: &mut [u8], s: &[u8], tags: Items, count: u32, g: GapRecord) -> usize
-    requires { ⌜ ItemsPlaced decodeTag (now s) tags × (count ≡ length (regapped (gapsOf g) (tagsIn (now s) tags)))
-        × LawfulRecord g × (4 + length (plainBytes (tagsIn (now s) tags)) + length (pairsBytes 0 (gapsOf g)) ≤ length (now out)) ⌝ }
-    ensures written { λ r. ⌜ r ≡ 4 + length (plainBytes (tagsIn (now (s .entry)) tags)) + length (pairsBytes 0 (gapsOf g)) ⌝ }
+fn put_tag_list(
+    out: &mut [u8],
+    s: &[u8],
+    tags: Items,
+    range: Items,
+    within: usize,
+    count: u32,
+    gaps: &[u64],
+) -> usize
+    requires { ⌜ ItemsInside decodeTag (now s) tags × GapTagsIn (now s) tags range × (within ≡ length (plainBytes (tagsIn (now s) range)))
+        × (count ≡ length (regapped (gapsOf (held (now gaps))) (tagsIn (now s) tags))) × LawfulNumbers (now gaps)
+        × (4 + length (plainBytes (tagsIn (now s) tags)) + length (pairsBytes 0 (gapsOf (held (now gaps)))) ≤ length (now out)) ⌝ }
+    ensures written { λ r. ⌜ r
+        ≡ 4 + length (plainBytes (tagsIn (now (s .entry)) tags)) + length (pairsBytes 0 (gapsOf (held (now (gaps .entry))))) ⌝ }
     ensures output { λ _. ⌜ now (out .exit)
-        ≡ overwritten (encodeTags (regapped (gapsOf g) (tagsIn (now (s .entry)) tags))) (now (out .entry)) ⌝ }
+        ≡ overwritten (encodeTags (regapped (gapsOf (held (now (gaps .entry)))) (tagsIn (now (s .entry)) tags))) (now (out .entry)) ⌝ }
 {
     put_dword(out, count);
-    let plain = put_plain(&mut out[4..], s, tags);
-    let at = 4 + plain;
-    at + put_pairs(&mut out[at..], g)
+    let kept = put_kept(&mut out[4..], s, tags, range, within);
+    let at = 4 + kept;
+    at + put_pairs(&mut out[at..], gaps)
 }
 
-// The numbers of a new file: where the tag list begins, as in the old file, how many tags and how many bytes it has; where the
-// old list ended; and the length of the new file.
+// The numbers of a new file: where the tag list begins, as in the old file; how many tags and how many bytes it has, and of these the bytes
+// of the tags in the range of the gap tags that stay; where the old list ended; and the length of the new file.
 struct Sizes {
     at: usize,
     count: u32,
     list: usize,
-    behind: usize,
+    within: usize,
+    after: usize,
     length: usize,
 }
 
 // From the length of the old file, where its tag list begins, how many bytes its tags have, those of them that stay, and the
 // number of pairs.
-fn sizes_of(file: usize, at: usize, old: usize, plain: Plain, pairs: usize) -> Sizes
-    requires { ⌜ (file ≤ 1048576) × (at + 4 + old ≤ file) × (plain .count ≤ old) × (plain .bytes ≤ old) × (pairs ≤ 64) ⌝ }
-    ensures { λ r. ⌜ (r .at ≡ at) × (r .count ≡ plain .count + 2 * pairs) × (r .list ≡ 4 + plain .bytes + pairsLength pairs)
-        × (r .behind ≡ at + 4 + old) × (r .length ≡ at + r .list + (file - r .behind)) ⌝ }
+fn sizes_of(file: usize, at: usize, old: usize, kept: Measured, pairs: usize) -> Sizes
+    requires { ⌜ (file ≤ 1048576) × (at + 4 + old ≤ file) × (kept .count ≤ old) × (kept .bytes ≤ old) × (pairs ≤ 64) ⌝ }
+    ensures { λ r. ⌜ (r .at ≡ at) × (r .count ≡ kept .count + 2 * pairs) × (r .list ≡ 4 + kept .bytes + pairsLength pairs)
+        × (r .within ≡ kept .within) × (r .after ≡ at + 4 + old) × (r .length ≡ at + r .list + (file - r .after)) ⌝ }
 {
-    let count = plain.count + 2 * (pairs as u32);
-    let list = 4 + plain.bytes + pairs_length(pairs);
-    let behind = at + 4 + old;
-    let length = at + list + (file - behind);
+    let count = kept.count + 2 * (pairs as u32);
+    let list = 4 + kept.bytes + pairs_length(pairs);
+    let after = at + 4 + old;
+    let length = at + list + (file - after);
     Sizes {
         at,
         count,
         list,
-        behind,
+        within: kept.within,
+        after,
         length,
     }
 }
 
 // The numbers of the file with the gaps of the record; the part.met was read from it.
-fn measure_file(file: &[u8], part: PartMet, g: GapRecord) -> Sizes
-    requires { ⌜ PartRead (now file) part × LawfulRecord g ⌝ }
-    ensures { λ r. ⌜ SizesOf (now (file .entry)) part g r ⌝ }
+fn measure_file(file: &[u8], part: PartMet, range: Items, gaps: &[u64]) -> Sizes
+    requires { ⌜ PartRead (now file) part × GapTagsIn (now file) (tagsPlace part) range × LawfulNumbers (now gaps) ⌝ }
+    ensures { λ r. ⌜ SizesOf (now (file .entry)) part range (held (now (gaps .entry))) r ⌝ }
 {
     let tags = part.tags();
-    let plain = measure_plain(file, tags);
+    let kept = measure_kept(file, tags, range);
     let at = tags_at(part);
-    sizes_of(file.len(), at, tags.end - tags.at, plain, g.count)
+    sizes_of(file.len(), at, tags.end - tags.at, kept, gaps[1] as usize)
 }
 
-// The new file, if it is not too long for a part.met (6) and for the output (10). The part.met was read from the old one.
-fn put_file(out: &mut [u8], file: &[u8], part: PartMet, g: GapRecord) -> WriteAnswer
-    requires { ⌜ PartRead (now file) part × LawfulRecord g ⌝ }
+// The new file, if it is not too long for a part.met (6) and for the output (10). The part.met was read from the old one, and its gap tags
+// lie in the range.
+fn put_file(out: &mut [u8], file: &[u8], part: PartMet, range: Items, gaps: &[u64]) -> WriteAnswer
+    requires { ⌜ PartRead (now file) part × GapTagsIn (now file) (tagsPlace part) range × LawfulNumbers (now gaps) ⌝ }
     ensures { λ r. ⌜ answered r (now (out .exit))
-        ≡ withinCeiling (encodePartMet (withGaps (gapsOf g) (partMetIn (now (file .entry)) part))) (now (out .entry)) ⌝ }
+        ≡ withinCeiling (encodePartMet (withGaps (gapsOf (held (now (gaps .entry)))) (partMetIn (now (file .entry)) part))) (now (out .entry)) ⌝ }
 {
-    let sizes = measure_file(file, part, g);
+    let sizes = measure_file(file, part, range, gaps);
     let length = sizes.length;
     if MET_CEILING < length {
-        return refused(6);
+        return refused(LIMIT);
     }
     if out.len() < length {
-        return refused(10);
+        return refused(ROOM);
     }
     let at = sizes.at;
     copy(out, bytes_at(file, 0, at));
-    put_tag_list(&mut out[at..], file, part.tags(), sizes.count, g);
+    put_tag_list(
+        &mut out[at..],
+        file,
+        part.tags(),
+        range,
+        sizes.within,
+        sizes.count,
+        gaps,
+    );
     let end = at + sizes.list;
-    copy(&mut out[end..], bytes_at(file, sizes.behind, file.len()));
+    copy(&mut out[end..], bytes_at(file, sizes.after, file.len()));
     WriteAnswer { number: 0, length }
 }
 
 // The part.met `file` with the gaps of the record, at the front of `out`. The record is lawful and has the file's size, else 8; the
-// new file has at most 1,048,576 bytes, else 6. A refusal leaves `out` as it was.
-pub fn put_gaps(file: &[u8], g: GapRecord, out: &mut [u8]) -> WriteAnswer
-    ensures { λ r. ⌜ answered r (now (out .exit)) ≡ putRecord (now (file .entry)) g (now (out .entry)) ⌝ }
+// new file has at most 1,048,576 bytes, else 6. A refusal leaves `out` as it was. The record is lent as numbers.
+pub fn put_gap_numbers(file: &[u8], gaps: &[u64], out: &mut [u8]) -> WriteAnswer
+    ensures { λ r. ⌜ answered r (now (out .exit)) ≡ putRecord (now (file .entry)) (recordIn (now (gaps .entry))) (now (out .entry)) ⌝ }
 {
     let read = read_part_met(file);
     match read {
         PartAnswer::Refused(number) => refused(number),
         PartAnswer::Accepted(part, size) => {
-            if !is_lawful(g) {
-                return refused(8);
+            let judged = judge_numbers(gaps);
+            if !judged.lawful {
+                return refused(RANGE);
             }
-            if g.size != size as u64 {
-                return refused(8);
+            if gaps[0] != size as u64 {
+                return refused(RANGE);
             }
-            put_file(out, file, part, g)
+            // The whole list is a range in which the gap tags lie; the reader of the file may return a narrower one.
+            put_file(out, file, part, part.tags(), gaps)
         }
     }
+}
+
+// The same of a record by value.
+pub fn put_gaps(file: &[u8], g: GapRecord, out: &mut [u8]) -> WriteAnswer
+    ensures { λ r. ⌜ answered r (now (out .exit)) ≡ putRecord (now (file .entry)) g (now (out .entry)) ⌝ }
+{
+    let mut numbers = [0u64; GAP_NUMBERS];
+    put_record(&mut numbers, g);
+    put_gap_numbers(file, &numbers, out)
 }

@@ -4,6 +4,8 @@ ghost use Rattle.format.specs.Saving.{save};
 ghost use Rattle.output.specs.WriteAnswers.{answered};
 use met::PartAnswer;
 use met::read_part_met;
+use output::CONFLICT;
+use output::ROOM;
 use output::WriteAnswer;
 use output::copy;
 use output::refused;
@@ -20,11 +22,11 @@ pub fn save(stored: &[u8], opened: &[u8], new: &[u8], out: &mut [u8]) -> WriteAn
         return refused(number);
     }
     if !same(stored, opened) {
-        return refused(11);
+        return refused(CONFLICT);
     }
     let length = new.len();
     if out.len() < length {
-        return refused(10);
+        return refused(ROOM);
     }
     copy(out, new);
     WriteAnswer { number: 0, length }

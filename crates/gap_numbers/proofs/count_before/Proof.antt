@@ -7,11 +7,11 @@ use Rattle.gap_numbers.proofs.count_before.Statement.{statement}
 use Rattle.gap_numbers.proofs.count_before.Tie as tie
 
 abbrev Inv-loop : tie.InvT-loop
-Inv-loop numbers n start i₀ i =
+Inv-loop numbers gaps start i₀ i =
     EndBy numbers start i
 
 abbrev μ-loop : tie.MeasureT-loop
-μ-loop numbers n start i₀ i = n - i
+μ-loop numbers gaps start i₀ i = gaps - i
 
 loop-holds : tie.Need-loop-holds Inv-loop μ-loop
 loop-holds c = search needs
@@ -41,7 +41,7 @@ loop-again : tie.Need-loop-again Inv-loop μ-loop
 loop-again c =
     let p = c .before .before .before in
     let a = p .before .args in
-    end-by-next (now (a .numbers)) (a .n) (p .before .pre) (p .loop .i) (c .before .before .loop-test .taken) (a .start) (c .if1 .left) (p .loop .inv)
+    end-by-next (now (a .numbers)) (a .gaps) (p .before .pre) (p .loop .i) (c .before .before .loop-test .taken) (a .start) (c .if1 .left) (p .loop .inv)
 
 returns-2 : tie.Need-returns-2 Inv-loop μ-loop
 returns-2 c = search needs

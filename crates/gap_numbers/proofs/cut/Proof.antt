@@ -9,46 +9,46 @@ use Rattle.gap_numbers.proofs.cut.Statement.{statement}
 use Rattle.gap_numbers.proofs.cut.Tie as tie
 
 abbrev Inv-loop : tie.InvT-loop
-Inv-loop numbers n from missing start end made₀ i₀ count₀ left₀ made i count left =
+Inv-loop numbers gaps from missing start end made₀ i₀ count₀ left₀ made i count left =
     Cut numbers start end i count left made
 
 abbrev μ-loop : tie.MeasureT-loop
-μ-loop numbers n from missing start end made₀ i₀ count₀ left₀ made i count left = n - i
+μ-loop numbers gaps from missing start end made₀ i₀ count₀ left₀ made i count left = gaps - i
 
 loop-holds : tie.Need-loop-holds Inv-loop μ-loop
 loop-holds c = search needs
 
-mul-a : tie.Need-mul-a Inv-loop μ-loop
-mul-a c = search needs
+mul-first : tie.Need-mul-first Inv-loop μ-loop
+mul-first c = search needs
 
-add-a : tie.Need-add-a Inv-loop μ-loop
-add-a c = search needs
+add-first : tie.Need-add-first Inv-loop μ-loop
+add-first c = search needs
 
-mul-a-2 : tie.Need-mul-a-2 Inv-loop μ-loop
-mul-a-2 c = search needs
+mul-first-2 : tie.Need-mul-first-2 Inv-loop μ-loop
+mul-first-2 c = search needs
 
-shared-slice-read-a : tie.Need-shared-slice-read-a Inv-loop μ-loop
-shared-slice-read-a c = search needs
+shared-slice-read-first : tie.Need-shared-slice-read-first Inv-loop μ-loop
+shared-slice-read-first c = search needs
 
-mul-b : tie.Need-mul-b Inv-loop μ-loop
-mul-b c = search needs
+mul-last : tie.Need-mul-last Inv-loop μ-loop
+mul-last c = search needs
 
-add-b : tie.Need-add-b Inv-loop μ-loop
-add-b c = search needs
+add-last : tie.Need-add-last Inv-loop μ-loop
+add-last c = search needs
 
-mul-b-2 : tie.Need-mul-b-2 Inv-loop μ-loop
-mul-b-2 c = search needs
+mul-last-2 : tie.Need-mul-last-2 Inv-loop μ-loop
+mul-last-2 c = search needs
 
-shared-slice-read-b : tie.Need-shared-slice-read-b Inv-loop μ-loop
-shared-slice-read-b c = search needs
+shared-slice-read-last : tie.Need-shared-slice-read-last Inv-loop μ-loop
+shared-slice-read-last c = search needs
 
 same-length : tie.Need-same-length Inv-loop μ-loop
 same-length c =
     let v = c .before .before .before .before .loop in
     let a = c .before .before .before .before .before .before .before .args in
     let h = c .before .before .before .before .before .before .before .pre in
-    length-cut (now (a .numbers)) (a .n) (h .0) (a .start) (a .end) (h .1) (v .i) (v .count) (v .left) (v .made) (v .inv)
-    ∙ sym (length-cut (now (a .numbers)) (a .n) (h .0) (a .start) (a .end) (h .1) (a .from) (a .from) (a .missing) (now (a .made)) (h .2))
+    length-cut (now (a .numbers)) (a .gaps) (h .0) (a .start) (a .end) (h .1) (v .i) (v .count) (v .left) (v .made) (v .inv)
+    ∙ sym (length-cut (now (a .numbers)) (a .gaps) (h .0) (a .start) (a .end) (h .1) (a .from) (a .from) (a .missing) (now (a .made)) (h .2))
 
 returns : tie.Need-returns Inv-loop μ-loop
 returns c = search needs
@@ -63,7 +63,7 @@ put-piece-requires c κs =
     let h = p .before .before .before .pre in
     let t = c .before .before .before .before .before .loop-test .taken in
     let v = p .loop in
-    rw (c .smaller .ensures) (first-room (now (a .numbers)) (a .n) (h .0) (v .i) t (a .start) (a .end) (v .count) (v .left) (h .1) (v .made) (v .inv))
+    rw (c .smaller .ensures) (first-room (now (a .numbers)) (a .gaps) (h .0) (v .i) t (a .start) (a .end) (v .count) (v .left) (h .1) (v .made) (v .inv))
 
 larger-requires : tie.Need-larger-requires Inv-loop μ-loop
 larger-requires c κs = search needs
@@ -76,7 +76,7 @@ put-piece-requires-2 c κs =
     let t = c .before .before .before .before .before .before .before .before .before .before .loop-test .taken in
     let v = p .loop in
     let q = rw (c .before .before .before .before .before .smaller .ensures) at (c .before .before .before .before .put-piece .ensures) in
-    rw (c .larger .ensures) (second-room (now (a .numbers)) (a .n) (h .0) (v .i) t (a .start) (a .end) (v .count) (v .left) (h .1) (v .made) (v .inv) _ _ (q .0) (q .1))
+    rw (c .larger .ensures) (second-room (now (a .numbers)) (a .gaps) (h .0) (v .i) t (a .start) (a .end) (v .count) (v .left) (h .1) (v .made) (v .inv) _ _ (q .0) (q .1))
 
 larger-requires-2 : tie.Need-larger-requires-2 Inv-loop μ-loop
 larger-requires-2 c κs = search needs
@@ -94,7 +94,7 @@ sub-left c =
     let h = p .before .before .before .pre in
     let t = c .before .before .before .before .before .before .before .before .before .before .before .before .before .before .before .before .loop-test .taken in
     let v = p .loop in
-    omega (arith, c .span .ensures, c .before .smaller2 .ensures, c .before .before .larger2 .ensures, weight (now (a .numbers)) (a .n) (h .0) (v .i) t (a .start) (a .end) (v .count) (v .left) (h .1) (v .made) (v .inv))
+    omega (arith, c .span .ensures, c .before .smaller2 .ensures, c .before .before .larger2 .ensures, weight (now (a .numbers)) (a .gaps) (h .0) (v .i) t (a .start) (a .end) (v .count) (v .left) (h .1) (v .made) (v .inv))
 
 add-i : tie.Need-add-i Inv-loop μ-loop
 add-i c = search needs
@@ -111,7 +111,7 @@ loop-again c =
     let v = p .loop in
     let q = rw (c .before .before .before .before .before .before .before .before .before .before .before .smaller .ensures) at (c .before .before .before .before .before .before .before .before .before .before .put-piece .ensures) in
     let u = rw (c .before .before .before .before .before .before .larger .ensures) at (c .before .before .before .before .before .put-piece2 .ensures) in
-    cut-next (now (a .numbers)) (a .n) (h .0) (v .i) t (a .start) (a .end) (v .count) (v .left) (h .1) (v .made) (v .inv) _ _ (q .0) (q .1) _ _ _ (u .0) (u .1)
+    cut-next (now (a .numbers)) (a .gaps) (h .0) (v .i) t (a .start) (a .end) (v .count) (v .left) (h .1) (v .made) (v .inv) _ _ (q .0) (q .1) _ _ _ (u .0) (u .1)
     (rw (c .span .ensures, c .before .smaller2 .ensures, c .before .before .larger2 .ensures) refl)
 
 same-length-2 : tie.Need-same-length-2 Inv-loop μ-loop
@@ -119,8 +119,8 @@ same-length-2 c =
     let v = c .before .loop in
     let a = c .before .before .before .before .args in
     let h = c .before .before .before .before .pre in
-    length-cut (now (a .numbers)) (a .n) (h .0) (a .start) (a .end) (h .1) (v .i) (v .count) (v .left) (v .made) (v .inv)
-    ∙ sym (length-cut (now (a .numbers)) (a .n) (h .0) (a .start) (a .end) (h .1) (a .from) (a .from) (a .missing) (now (a .made)) (h .2))
+    length-cut (now (a .numbers)) (a .gaps) (h .0) (a .start) (a .end) (h .1) (v .i) (v .count) (v .left) (v .made) (v .inv)
+    ∙ sym (length-cut (now (a .numbers)) (a .gaps) (h .0) (a .start) (a .end) (h .1) (a .from) (a .from) (a .missing) (now (a .made)) (h .2))
 
 returns-2 : tie.Need-returns-2 Inv-loop μ-loop
 returns-2 c = search needs
@@ -132,14 +132,14 @@ cut-spec =
     Inv-loop
     μ-loop
     loop-holds
-    mul-a
-    add-a
-    mul-a-2
-    shared-slice-read-a
-    mul-b
-    add-b
-    mul-b-2
-    shared-slice-read-b
+    mul-first
+    add-first
+    mul-first-2
+    shared-slice-read-first
+    mul-last
+    add-last
+    mul-last-2
+    shared-slice-read-last
     same-length
     returns
     smaller-requires

@@ -2,6 +2,9 @@ use mathlib.Core.Path.{refl, sym, _∙_}
 use denote.Ref.{now}
 use borrow.Author.Needs.{needs}
 use borrow.Author.Tests.{not-true, not-false}
+use Rattle.format.specs.Gaps.{sizeLimit}
+use Rattle.gaps.proofs.GapRecords.{total-missing}
+use Rattle.gap_numbers.specs.Numbers.{held}
 use Rattle.gap_numbers.proofs.Marks.{short, unlawful, no-range, holds, outside, too-many, accepts}
 use Rattle.gap_numbers.proofs.mark_numbers.Statement.{statement}
 use Rattle.gap_numbers.proofs.mark_numbers.Tie as tie
@@ -60,8 +63,8 @@ returns-4 c =
     let lawful = sym (c .before .before .before .before .before .before .judge .ensures .told) ∙ not-false _ (c .before .before .before .before .if2 .left) in
     rw (outside l (a .start) (a .end) (c .before .before .before .before .before .before .before .before .if1 .left) lawful (c .before .before .before .if3 .left) (c .before .if4 .taken)) (record { told = c .refused4 .ensures; numbers = refl })
 
-slice-read-n : tie.Need-slice-read-n
-slice-read-n c = search needs
+slice-read-gaps : tie.Need-slice-read-gaps
+slice-read-gaps c = search needs
 
 slice-aggregate-subtract : tie.Need-slice-aggregate-subtract
 slice-aggregate-subtract c = search needs
@@ -71,7 +74,7 @@ subtract-requires c κs =
     let a = c .before .before .before .before .before .before .before .before .before .before .before .before .args in
     let l = now (a .numbers) in
     let lawful = sym (c .before .before .before .before .before .before .before .before .judge .ensures .told) ∙ not-false _ (c .before .before .before .before .before .before .if2 .left) in
-    (holds l (a .start) (a .end) (c .before .before .before .before .before .before .before .before .before .before .if1 .left) lawful, c .before .before .before .before .before .if3 .left, c .before .before .before .before .before .before .before .before .judge .ensures .counted (not-false _ (c .before .before .before .before .before .before .if2 .left)), refl)
+    (holds l (a .start) (a .end) (c .before .before .before .before .before .before .before .before .before .before .if1 .left) lawful, c .before .before .before .before .before .if3 .left, c .before .before .before .before .before .before .before .before .judge .ensures .counted ∙ sym (total-missing sizeLimit (held l) lawful), refl)
 
 refused-requires-5 : tie.Need-refused-requires-5
 refused-requires-5 c κs = search needs
@@ -120,7 +123,7 @@ mark-numbers-spec =
     refused-requires-4
     same-length-3
     returns-4
-    slice-read-n
+    slice-read-gaps
     slice-aggregate-subtract
     subtract-requires
     refused-requires-5

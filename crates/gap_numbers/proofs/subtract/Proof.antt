@@ -21,7 +21,7 @@ cut-requires : tie.Need-cut-requires
 cut-requires c κs =
     let h = c .before .before .before .before .before .before .before .before .pre in
     let a = c .before .before .before .before .before .before .before .before .args in
-    (h .0, h .1, cut-before (now (a .numbers)) (a .n) (h .0) (a .start) (a .end) _ (a .missing) (h .1) (c .before .before .before .before .before .count-before .ensures) (h .2) (now (a .made)) _ (h .3) (c .before .before .before .keep .ensures))
+    (h .0, h .1, cut-before (now (a .numbers)) (a .gaps) (h .0) (a .start) (a .end) _ (a .missing) (h .1) (c .before .before .before .before .before .count-before .ensures) (h .2) (now (a .made)) _ (h .3) (c .before .before .before .keep .ensures))
 
 keep-requires-2 : tie.Need-keep-requires-2
 keep-requires-2 c κs =
@@ -32,8 +32,8 @@ keep-requires-2 c κs =
       omega (arith, h .0),
       omega (arith, h .0),
       h .0 .long,
-      length-cut (now (a .numbers)) (a .n) (h .0) (a .start) (a .end) (h .1) _ _ _ _ (d .0),
-      rest-room (now (a .numbers)) (a .n) (h .0) (a .start) (a .end) (h .1) _ _ _ _ (d .0) (d .1),
+      length-cut (now (a .numbers)) (a .gaps) (h .0) (a .start) (a .end) (h .1) _ _ _ _ (d .0),
+      rest-room (now (a .numbers)) (a .gaps) (h .0) (a .start) (a .end) (h .1) _ _ _ _ (d .0) (d .1),
     )
 
 sub-t18 : tie.Need-sub-t18
@@ -45,7 +45,7 @@ add-t19 c =
     let h = c .before .before .before .before .before .before .before .before .before .before .before .before .before .before .before .pre in
     let a = c .before .before .before .before .before .before .before .before .before .before .before .before .before .before .before .args in
     let d = c .before .before .before .before .before .before .cut .ensures in
-    omega (arith, rest-room (now (a .numbers)) (a .n) (h .0) (a .start) (a .end) (h .1) _ _ _ _ (d .0) (d .1))
+    omega (arith, rest-room (now (a .numbers)) (a .gaps) (h .0) (a .start) (a .end) (h .1) _ _ _ _ (d .0) (d .1))
 
 same-length : tie.Need-same-length
 same-length c = search needs
@@ -55,7 +55,7 @@ returns c =
     let h = c .before .before .before .before .before .before .before .before .before .before .before .before .before .before .before .pre in
     let a = c .before .before .before .before .before .before .before .before .before .before .before .before .before .before .before .args in
     let d = c .before .before .before .before .before .before .cut .ensures in
-    subtracted (now (a .numbers)) (a .n) (h .0) (a .start) (a .end) (h .1) _ _ _ _ (d .0) (d .1) _ (c .before .before .keep2 .ensures)
+    subtracted (now (a .numbers)) (a .gaps) (h .0) (a .start) (a .end) (h .1) _ _ _ _ (d .0) (d .1) _ (c .before .before .keep2 .ensures)
 
 pub subtract-spec : {M : Type 1} → statement M
 subtract-spec =

@@ -33,11 +33,11 @@ loop-holds c =
     let w : length (g .gaps) ≡ 64 = sym (length-map (g .gaps) _) ∙ c .before .before .good .0 .1 .1 .1 .1 .0 .1 .0 .1 in
     (record { passed = omega arith; few = omega arith; places = w }, omega arith, lawful-by-gaps sizeLimit g (omega arith) (omega arith))
 
-mul-x : tie.Need-mul-x Inv-loop μ-loop
-mul-x c = search needs
+mul-gap : tie.Need-mul-gap Inv-loop μ-loop
+mul-gap c = search needs
 
-element-copy-out-x : tie.Need-element-copy-out-x Inv-loop μ-loop
-element-copy-out-x c = search needs
+element-copy-out-gap : tie.Need-element-copy-out-gap Inv-loop μ-loop
+element-copy-out-gap c = search needs
 
 may-follow-requires : tie.Need-may-follow-requires Inv-loop μ-loop
 may-follow-requires c κs = search needs
@@ -88,8 +88,8 @@ is-lawful-spec =
     returns
     returns-2
     loop-holds
-    mul-x
-    element-copy-out-x
+    mul-gap
+    element-copy-out-gap
     may-follow-requires
     returns-3
     add-low

@@ -28,11 +28,11 @@ loop-holds c =
       few = omega arith;
     }
 
-mul-x : tie.Need-mul-x Inv-loop μ-loop
-mul-x c = search needs
+mul-gap : tie.Need-mul-gap Inv-loop μ-loop
+mul-gap c = search needs
 
-element-copy-out-x : tie.Need-element-copy-out-x Inv-loop μ-loop
-element-copy-out-x c = search needs
+element-copy-out-gap : tie.Need-element-copy-out-gap Inv-loop μ-loop
+element-copy-out-gap c = search needs
 
 push-remaining-requires : tie.Need-push-remaining-requires Inv-loop μ-loop
 push-remaining-requires c κs = search needs
@@ -71,8 +71,8 @@ subtract-spec =
     μ-loop
     none-missing-requires
     loop-holds
-    mul-x
-    element-copy-out-x
+    mul-gap
+    element-copy-out-gap
     push-remaining-requires
     returns
     add-i

@@ -24,11 +24,11 @@ loop-holds c =
     let w : length (g .gaps) ≡ 64 = sym (length-map (g .gaps) _) ∙ c .good .0 .1 .1 .1 .1 .0 .1 .0 .1 in
     (record { passed = omega arith; few = c .pre .0; places = w }, c .pre .1, omega arith)
 
-mul-x : tie.Need-mul-x Inv-loop μ-loop
-mul-x c = search needs
+mul-gap : tie.Need-mul-gap Inv-loop μ-loop
+mul-gap c = search needs
 
-element-copy-out-x : tie.Need-element-copy-out-x Inv-loop μ-loop
-element-copy-out-x c = search needs
+element-copy-out-gap : tie.Need-element-copy-out-gap Inv-loop μ-loop
+element-copy-out-gap c = search needs
 
 sub-sum : tie.Need-sub-sum Inv-loop μ-loop
 sub-sum c =
@@ -73,8 +73,8 @@ sum-lengths-spec =
     Inv-loop
     μ-loop
     loop-holds
-    mul-x
-    element-copy-out-x
+    mul-gap
+    element-copy-out-gap
     sub-sum
     add-sum
     add-i

@@ -11,10 +11,10 @@ use Rattle.put_gaps.proofs.measure_plain.Statement.{statement}
 use Rattle.put_gaps.proofs.measure_plain.Tie as tie
 
 abbrev Inv-loop : tie.InvT-loop
-Inv-loop s n count₀ bytes₀ next₀ i₀ count bytes next i = Measured s n (next₀ .at) count bytes i (next .at)
+Inv-loop s total count₀ bytes₀ next₀ i₀ count bytes next i = Measured s total (next₀ .at) count bytes i (next .at)
 
 abbrev μ-loop : tie.MeasureT-loop
-μ-loop s n count₀ bytes₀ next₀ i₀ count bytes next i = n - i
+μ-loop s total count₀ bytes₀ next₀ i₀ count bytes next i = total - i
 
 loop-holds : tie.Need-loop-holds Inv-loop μ-loop
 loop-holds c = measured-first _ _ _
@@ -22,8 +22,8 @@ loop-holds c = measured-first _ _ _
 read-tag-requires : tie.Need-read-tag-requires Inv-loop μ-loop
 read-tag-requires c κs = search needs
 
-enum-known-t : tie.Need-enum-known-t Inv-loop μ-loop
-enum-known-t c = search needs
+enum-known-step : tie.Need-enum-known-step Inv-loop μ-loop
+enum-known-step c = search needs
 
 enum-told : tie.Need-enum-told Inv-loop μ-loop
 enum-told c = search needs
@@ -42,7 +42,7 @@ kept-bytes-requires c κs =
     let a = l .before .before in
     let s = now (a .args .s) in
     let bytes = slice-bytes s (l .before .shared-slice-known .given) in
-    let read = rw (c .before .t .given .1) at (r .read-tag .ensures .0) in
+    let read = rw (c .before .step .given .1) at (r .read-tag .ensures .0) in
     omega (arith, tag-place s bytes (l .loop .next .at) read .0)
 
 add-bytes : tie.Need-add-bytes Inv-loop μ-loop
@@ -52,7 +52,7 @@ add-bytes c =
     let a = l .before .before in
     let s = now (a .args .s) in
     let bytes = slice-bytes s (l .before .shared-slice-known .given) in
-    let read = rw (c .before .before .t .given .1) at (r .read-tag .ensures .0) in
+    let read = rw (c .before .before .step .given .1) at (r .read-tag .ensures .0) in
     omega (arith, kept-within s bytes (l .loop .next .at) read (l .loop .bytes) _ (l .loop .inv .short) (c .kept-bytes .ensures))
 
 kept-count-requires : tie.Need-kept-count-requires Inv-loop μ-loop
@@ -65,7 +65,7 @@ add-count c =
     let a = l .before .before in
     let s = now (a .args .s) in
     let bytes = slice-bytes s (l .before .shared-slice-known .given) in
-    let read = rw (c .before .before .before .t .given .1) at (r .read-tag .ensures .0) in
+    let read = rw (c .before .before .before .step .given .1) at (r .read-tag .ensures .0) in
     let h = r .before .loop-test .taken in
     let kept = c .before .kept-bytes .ensures in
     let next = measured-next s _ _ bytes (a .pre) _ _ _ _ h (l .loop .inv) read _ kept _ (c .kept-count .ensures) in
@@ -84,7 +84,7 @@ loop-again c =
     let a = l .before .before in
     let s = now (a .args .s) in
     let bytes = slice-bytes s (l .before .shared-slice-known .given) in
-    let read = rw (c .before .before .before .t .given .1) at (r .read-tag .ensures .0) in
+    let read = rw (c .before .before .before .step .given .1) at (r .read-tag .ensures .0) in
     let h = r .before .loop-test .taken in
     let kept = c .before .kept-bytes .ensures in
     measured-next s _ _ bytes (a .pre) _ _ _ _ h (l .loop .inv) read _ kept _ (c .kept-count .ensures)
@@ -100,7 +100,7 @@ measure-plain-spec =
     μ-loop
     loop-holds
     read-tag-requires
-    enum-known-t
+    enum-known-step
     enum-told
     returns
     kept-bytes-requires

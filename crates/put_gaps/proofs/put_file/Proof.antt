@@ -1,8 +1,9 @@
-use Rattle.put_gaps.proofs.Lengths.{tags-placed, head-bytes, tail-bytes, new-list, new-pieces, above-ceiling, no-room, written}
+use Rattle.put_gaps.proofs.Lengths.{tags-inside, head-bytes, tail-bytes, new-list, new-pieces, above-ceiling, no-room, written}
 use Rattle.put_gaps.specs.Pieces.{headOf, tailOf}
 use Rattle.output.proofs.Laws.{after}
 use Rattle.met.specs.MetAnswers.{partMetIn, tagsPlace}
 use Rattle.gaps.specs.GapRecords.{gapsOf}
+use Rattle.gap_numbers.specs.Numbers.{held}
 use Rattle.wire.proofs.Replies.{slice-bytes}
 use Rattle.tags.specs.TagAnswers.{tagsIn}
 use Rattle.format.specs.Writing.{overwritten}
@@ -25,8 +26,8 @@ refused-requires c κs = search needs
 
 returns : tie.Need-returns
 returns c =
-    let a = c .before .before .before .before .before .args in
-    let new = encodePartMet (withGaps (gapsOf (a .g)) (partMetIn (now (a .file)) (a .part))) in
+    let a = c .before .before .before .before .before .before .args in
+    let new = encodePartMet (withGaps (gapsOf (held (now (a .gaps)))) (partMetIn (now (a .file)) (a .part))) in
     rw (c .refused .ensures) (above-ceiling new _ _ (c .before .before .measure-file .ensures .length) (c .before .if1 .taken))
 
 refused-requires-2 : tie.Need-refused-requires-2
@@ -34,8 +35,8 @@ refused-requires-2 c κs = search needs
 
 returns-2 : tie.Need-returns-2
 returns-2 c =
-    let a = c .before .before .before .before .before .before .args in
-    let new = encodePartMet (withGaps (gapsOf (a .g)) (partMetIn (now (a .file)) (a .part))) in
+    let a = c .before .before .before .before .before .before .before .args in
+    let new = encodePartMet (withGaps (gapsOf (held (now (a .gaps)))) (partMetIn (now (a .file)) (a .part))) in
     let length = c .before .before .before .measure-file .ensures .length in
     rw (c .refused2 .ensures) (no-room new _ _ length (c .before .before .if1 .left) (c .before .if2 .taken))
 
@@ -59,10 +60,10 @@ tags-requires c κs = search needs
 
 put-tag-list-requires : tie.Need-put-tag-list-requires
 put-tag-list-requires c κs =
-    let a = c .before .before .before .before .before .before .before .before .before .before .before .before in
     let z = c .before .before .before .before .before .before .before .before .before .measure-file .ensures in
-    let placed = tags-placed (now (a .args .file)) (a .args .part) (a .pre .0) in
-    rw (c .tags .ensures) (placed, z .count, a .pre .1, simp (length-take, length-drop) (omega (arith, z .list, z .rest)))
+    let a = c .before .before .before .before .before .before .before .before .before .before .before .before .before in
+    let inside = tags-inside (now (a .args .file)) (a .args .part) (a .pre .0) in
+    rw (c .tags .ensures) (inside, a .pre .1, z .within, z .count, a .pre .2, simp (length-take, length-drop) (omega (arith, z .list, z .rest)))
 
 add-end : tie.Need-add-end
 add-end c = search needs
@@ -81,15 +82,13 @@ bytes-at-requires-2 c κs = search needs
 
 copy-requires-2 : tie.Need-copy-requires-2
 copy-requires-2 c κs =
-    let a = c .before .before .before .before .before .before .before .before
-    .before .before .before .before .before .before .before .before .before .before in
-    let bytes = slice-bytes (now (a .args .file))
-    (c .before .before .before .before .before .before .before .before .before .before .before .before
-    .before .before .before .before .shared-slice-known .given) in
-    let z = c .before .before .before .before .before .before .before .before .before .before .before
-    .before .before .before .before .measure-file .ensures in
+    let m = c .before .before .before .before .before .before .before .before .before .before .before .before .before .before .before in
+    let a = m .before .before .before .before in
+    let bytes = slice-bytes (now (a .args .file)) (m .before .before .shared-slice-known .given) in
+    let z = m .measure-file .ensures in
     let tail = tail-bytes (now (a .args .file)) bytes (a .args .part) (a .pre .0) in
-    rw (c .bytes-at2 .ensures, z .behind, tail) (simp (length-take, length-drop) (omega (arith, z .rest)))
+    let out = c .before .before .before .before .out2 .given .1 ∙ c .before .before .before .before .before .before .before .before .before .out .given in
+    rw (c .bytes-at2 .ensures, z .after, tail) (simp (length-take, length-drop) (omega (arith, z .rest, out, c .before .before .before .before .before .before .before .before .before .before .before .before .before .if2 .left)))
 
 same-length : tie.Need-same-length
 same-length c = search needs
@@ -99,18 +98,18 @@ returns-3 c =
     let l = c .before .before .before .before .before .before .before .before in
     let h = l .before .before .before .before .before in
     let m = h .before .before .before .before .before in
-    let a = m .before .before .before in
+    let a = m .before .before .before .before in
     let s = now (a .args .file) in
-    let bytes = slice-bytes s (m .before .shared-slice-known .given) in
+    let bytes = slice-bytes s (m .before .before .shared-slice-known .given) in
     let z = m .measure-file .ensures in
-    let gaps = gapsOf (a .args .g) in
+    let gaps = gapsOf (held (now (a .args .gaps))) in
     let file = partMetIn s (a .args .part) in
     let list = encodeTags (regapped gaps (tagsIn s (tagsPlace (a .args .part)))) in
     let old-head = head-bytes s bytes (a .args .part) (a .pre .0) in
     let old-tail = tail-bytes s bytes (a .args .part) (a .pre .0) in
     let head = rw (h .before .bytes-at .ensures, z .at, old-head) at (h .copy .ensures) in
     let tags = rw (l .before .tags .ensures) at (l .put-tag-list .ensures .1) in
-    let tail = rw (c .before .before .before .bytes-at2 .ensures, z .behind, old-tail) at (c .before .before .copy2 .ensures) in
+    let tail = rw (c .before .before .before .bytes-at2 .ensures, z .after, old-tail) at (c .before .before .copy2 .ensures) in
     let first = after (headOf file) list _ _ _ _ (sym (z .at)) head tags in
     let length-list = new-list s bytes (a .args .part) (a .pre .0) gaps in
     let length-first = length-append (headOf file) list in

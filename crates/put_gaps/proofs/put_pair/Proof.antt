@@ -1,7 +1,7 @@
 use Rattle.put_gaps.proofs.Pairs.{length-pair, length-tag}
 use Rattle.output.proofs.Laws.{after}
 use Rattle.put_gaps.specs.Pieces.{pairBytes}
-use Rattle.gaps.specs.GapRecords.{gapOf}
+use Rattle.format.specs.Gaps.{gap}
 use Rattle.format.specs.PutGaps.{decimalOf}
 use Rattle.format.specs.Rules.{dwordTag}
 use Rattle.format.specs.Layout.{encodeTag}
@@ -41,14 +41,14 @@ same-length c = search needs
 returns : tie.Need-returns
 unfolding pairBytes
 returns c =
-    let a = c .before .before .before .before .before .before .before .before .before .before .before .args in
+    let a = c .before .before .before .before .before .before .before .before .before .args in
     let d = decimalOf (a .i) in
-    let first = c .before .before .before .before .before .before .before .put-gap-tag .ensures in
+    let first = c .before .before .before .before .before .before .put-gap-tag .ensures in
     let second = c .before .before .put-gap-tag2 .ensures in
-    let start = encodeTag (dwordTag (0x09 ∷ d) (a .x .start)) in
-    let end = encodeTag (dwordTag (0x0A ∷ d) (a .x .end)) in (
-      omega (arith, first .0, second .0, length-pair (a .i) (gapOf (a .x))),
-      after start end _ _ _ _ (omega (arith, length-tag 0x09 d (a .x .start), first .0)) (first .1) (second .1),
+    let start = encodeTag (dwordTag (0x09 ∷ d) (a .start)) in
+    let end = encodeTag (dwordTag (0x0A ∷ d) (a .end)) in (
+      omega (arith, first .0, second .0, length-pair (a .i) (gap (a .start) (a .end))),
+      after start end _ _ _ _ (omega (arith, length-tag 0x09 d (a .start), first .0)) (first .1) (second .1),
     )
 
 pub put-pair-spec : {M : Type 1} → statement M

@@ -1,73 +1,97 @@
 use Rattle.put_gaps.proofs.Pairs.{PairsWritten, pairs-all, pair-room, pair-ordered, pairs-next, length-pair}
 use Rattle.output.proofs.Loops.{written-none}
-use Rattle.gaps.proofs.GapRecords.{placeAt}
-use Rattle.gaps.specs.GapRecords.{gapOf}
-use lib.ListN.{length, length-map, length-drop, length-take}
+use Rattle.gap_numbers.proofs.Numbers.{gapAt}
+use lib.ListN.{length-drop, length-take}
 use denote.Ref.{now}
 use native.Mathlib.Omega.{arith}
 use borrow.Author.Needs.{needs}
-use mathlib.Core.Path.{_≡_, sym, _∙_}
 use Prim.Native.Nat.{_-_}
 use Rattle.put_gaps.proofs.put_pairs.Statement.{statement}
 use Rattle.put_gaps.proofs.put_pairs.Tie as tie
 
 abbrev Inv-loop : tie.InvT-loop
-Inv-loop out₀ g n wrote₀ i₀ out wrote i = PairsWritten g out₀ out wrote i
+Inv-loop out₀ gaps pairs wrote₀ i₀ out wrote i = PairsWritten gaps out₀ out wrote i
 
 abbrev μ-loop : tie.MeasureT-loop
-μ-loop out₀ g n wrote₀ i₀ out wrote i = n - i
+μ-loop out₀ gaps pairs wrote₀ i₀ out wrote i = pairs - i
+
+shared-slice-read-pairs : tie.Need-shared-slice-read-pairs Inv-loop μ-loop
+shared-slice-read-pairs c = search needs
 
 loop-holds : tie.Need-loop-holds Inv-loop μ-loop
 loop-holds c =
-    let e = c .before in
-    let places : length (e .args .t2 .gaps) ≡ 64 = sym (length-map (e .args .t2 .gaps) _) ∙ e .good .1 .0 .1 .1 .1 .1 .0 .1 .0 .1 in
-    record {
-      at = record { passed = omega arith; few = e .pre .0 .0; places = places };
-      ordered = e .pre .0 .1 .ordered;
-      written = written-none _ _;
-    }
+    let lawful = c .before .before .before .pre .0 .1 in
+    record { passed = omega arith; few = lawful .0; ordered = lawful .1 .ordered; written = written-none _ _ }
 
-mul-x : tie.Need-mul-x Inv-loop μ-loop
-mul-x c = search needs
+mul-start : tie.Need-mul-start Inv-loop μ-loop
+mul-start c = search needs
 
-element-copy-out-x : tie.Need-element-copy-out-x Inv-loop μ-loop
-element-copy-out-x c = search needs
+add-start : tie.Need-add-start Inv-loop μ-loop
+add-start c = search needs
+
+mul-start-2 : tie.Need-mul-start-2 Inv-loop μ-loop
+mul-start-2 c = search needs
+
+shared-slice-read-start : tie.Need-shared-slice-read-start Inv-loop μ-loop
+shared-slice-read-start c = search needs
+
+mul-end : tie.Need-mul-end Inv-loop μ-loop
+mul-end c = search needs
+
+add-end : tie.Need-add-end Inv-loop μ-loop
+add-end c = search needs
+
+mul-end-2 : tie.Need-mul-end-2 Inv-loop μ-loop
+mul-end-2 c = search needs
+
+shared-slice-read-end : tie.Need-shared-slice-read-end Inv-loop μ-loop
+shared-slice-read-end c = search needs
 
 sub-put-pair : tie.Need-sub-put-pair Inv-loop μ-loop
 sub-put-pair c =
-    let m = c .before .before in
-    omega (arith, m .loop .inv .written .within, m .loop .inv .written .same-length, m .before .before .pre .1)
+    let l = c .before .before .before in
+    let e = l .before .before .before .before in
+    let h = c .before .before .loop-test .taken in
+    let room = pair-room (now (e .args .gaps)) (now (e .args .out)) (e .pre .1) _ _ _ h (l .loop .inv) in
+    omega (arith, room)
 
 part-put-pair-start : tie.Need-part-put-pair-start Inv-loop μ-loop
 part-put-pair-start c =
-    let m = c .before .before in
-    omega (arith, m .loop .inv .written .within, m .loop .inv .written .same-length, m .before .before .pre .1)
+    let l = c .before .before .before in
+    let e = l .before .before .before .before in
+    let h = c .before .before .loop-test .taken in
+    let room = pair-room (now (e .args .gaps)) (now (e .args .out)) (e .pre .1) _ _ _ h (l .loop .inv) in
+    omega (arith, room)
 
 part-put-pair-end : tie.Need-part-put-pair-end Inv-loop μ-loop
 part-put-pair-end c =
-    let m = c .before .before in
-    omega (arith, m .loop .inv .written .within, m .loop .inv .written .same-length, m .before .before .pre .1)
+    let l = c .before .before .before in
+    let e = l .before .before .before .before in
+    let h = c .before .before .loop-test .taken in
+    let room = pair-room (now (e .args .gaps)) (now (e .args .out)) (e .pre .1) _ _ _ h (l .loop .inv) in
+    omega (arith, room)
 
 put-pair-requires : tie.Need-put-pair-requires Inv-loop μ-loop
 put-pair-requires c κs =
-    let l = c .before .before .before in
-    let a = l .before .before in
-    let h = c .before .before .loop-test .taken in
-    let o = pair-ordered (a .args .t2) (now (a .args .out)) (a .pre .1) _ _ _ h (l .loop .inv) in
-    let room = pair-room (a .args .t2) (now (a .args .out)) (a .pre .1) _ _ _ h (l .loop .inv) in (
-      omega (arith, a .pre .0 .0),
-      omega (arith, o, a .pre .0 .1 .fits),
-      omega (arith, o, a .pre .0 .1 .fits),
-      simp (length-take, length-drop) (omega (arith, room, l .loop .inv .written .same-length)),
+    let l = c .before .before .before .before in
+    let e = l .before .before .before .before in
+    let h = c .before .before .before .loop-test .taken in
+    let room = pair-room (now (e .args .gaps)) (now (e .args .out)) (e .pre .1) _ _ _ h (l .loop .inv) in
+    let o = pair-ordered (now (e .args .gaps)) (now (e .args .out)) (e .pre .1) _ _ _ h (l .loop .inv) in
+    let lawful = e .pre .0 .1 in (
+      omega (arith, lawful .0),
+      omega (arith, o .0, o .1, lawful .1 .fits),
+      omega (arith, o .0, o .1, lawful .1 .fits),
+      simp (length-take, length-drop) (omega (arith, room)),
     )
 
 add-wrote : tie.Need-add-wrote Inv-loop μ-loop
 add-wrote c =
-    let l = c .before .before .before .before .before .before in
-    let a = l .before .before in
-    let h = c .before .before .before .before .before .loop-test .taken in
-    let room = pair-room (a .args .t2) (now (a .args .out)) (a .pre .1) _ _ _ h (l .loop .inv) in
-    omega (arith, room, c .before .before .put-pair .ensures .0, length-pair (l .loop .i) (gapOf (placeAt (a .args .t2) (l .loop .i))))
+    let l = c .before .before .before .before .before .before .before in
+    let e = l .before .before .before .before in
+    let h = c .before .before .before .before .before .before .loop-test .taken in
+    let room = pair-room (now (e .args .gaps)) (now (e .args .out)) (e .pre .1) _ _ _ h (l .loop .inv) in
+    omega (arith, room, c .before .before .put-pair .ensures .0, length-pair (l .loop .i) (gapAt (now (e .args .gaps)) (l .loop .i)))
 
 add-i : tie.Need-add-i Inv-loop μ-loop
 add-i c = search needs
@@ -77,11 +101,11 @@ loop-less c = search needs
 
 loop-again : tie.Need-loop-again Inv-loop μ-loop
 loop-again c =
-    let l = c .before .before .before .before .before .before in
-    let a = l .before .before in
-    let h = c .before .before .before .before .before .loop-test .taken in
+    let l = c .before .before .before .before .before .before .before in
+    let e = l .before .before .before .before in
+    let h = c .before .before .before .before .before .before .loop-test .taken in
     let pair = c .before .before .put-pair .ensures in
-    pairs-next (a .args .t2) (now (a .args .out)) (a .pre .1) _ _ _ h (l .loop .inv) _ (pair .0) _ (pair .1)
+    pairs-next (now (e .args .gaps)) (now (e .args .out)) (e .pre .1) _ _ _ h (l .loop .inv) _ (pair .0) _ (pair .1)
 
 same-length : tie.Need-same-length Inv-loop μ-loop
 same-length c = c .before .loop .inv .written .same-length
@@ -95,9 +119,16 @@ put-pairs-spec =
     (tie.spec
     Inv-loop
     μ-loop
+    shared-slice-read-pairs
     loop-holds
-    mul-x
-    element-copy-out-x
+    mul-start
+    add-start
+    mul-start-2
+    shared-slice-read-start
+    mul-end
+    add-end
+    mul-end-2
+    shared-slice-read-end
     sub-put-pair
     part-put-pair-start
     part-put-pair-end

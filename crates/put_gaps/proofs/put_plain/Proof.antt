@@ -11,10 +11,10 @@ use Rattle.put_gaps.proofs.put_plain.Statement.{statement}
 use Rattle.put_gaps.proofs.put_plain.Tie as tie
 
 abbrev Inv-loop : tie.InvT-loop
-Inv-loop out₀ s n wrote₀ next₀ i₀ out wrote next i = Copied s n (next₀ .at) out₀ out wrote i (next .at)
+Inv-loop out₀ s total wrote₀ next₀ i₀ out wrote next i = Copied s total (next₀ .at) out₀ out wrote i (next .at)
 
 abbrev μ-loop : tie.MeasureT-loop
-μ-loop out₀ s n wrote₀ next₀ i₀ out wrote next i = n - i
+μ-loop out₀ s total wrote₀ next₀ i₀ out wrote next i = total - i
 
 loop-holds : tie.Need-loop-holds Inv-loop μ-loop
 loop-holds c = copied-first _ _ _ _
@@ -22,8 +22,8 @@ loop-holds c = copied-first _ _ _ _
 read-tag-requires : tie.Need-read-tag-requires Inv-loop μ-loop
 read-tag-requires c κs = search needs
 
-enum-known-t : tie.Need-enum-known-t Inv-loop μ-loop
-enum-known-t c = search needs
+enum-known-step : tie.Need-enum-known-step Inv-loop μ-loop
+enum-known-step c = search needs
 
 enum-told : tie.Need-enum-told Inv-loop μ-loop
 enum-told c = search needs
@@ -45,7 +45,7 @@ kept-bytes-requires c κs =
     let a = l .before .before .before in
     let s = now (a .args .s) in
     let bytes = slice-bytes s (l .before .shared-slice-known .given) in
-    let read = rw (c .before .t .given .1) at (r .read-tag .ensures .0) in
+    let read = rw (c .before .step .given .1) at (r .read-tag .ensures .0) in
     omega (arith, tag-place s bytes (l .loop .next .at) read .0)
 
 sub-copy : tie.Need-sub-copy Inv-loop μ-loop
@@ -70,7 +70,7 @@ copy-requires c κs =
     let a = l .before .before .before in
     let s = now (a .args .s) in
     let bytes = slice-bytes s (l .before .shared-slice-known .given) in
-    let read = rw (c .before .before .before .t .given .1) at (r .read-tag .ensures .0) in
+    let read = rw (c .before .before .before .step .given .1) at (r .read-tag .ensures .0) in
     let old = now (a .args .out) in
     let kept = c .before .kept-bytes .ensures in
     let room = copied-room s _ _ bytes (a .pre .0) old _ (a .pre .1) _ _ _ (r .before .loop-test .taken) (l .loop .inv) read _ kept in
@@ -83,7 +83,7 @@ add-wrote c =
     let a = l .before .before .before in
     let s = now (a .args .s) in
     let bytes = slice-bytes s (l .before .shared-slice-known .given) in
-    let read = rw (c .before .before .before .before .before .before .t .given .1) at (r .read-tag .ensures .0) in
+    let read = rw (c .before .before .before .before .before .before .step .given .1) at (r .read-tag .ensures .0) in
     let old = now (a .args .out) in
     let kept = c .before .before .before .before .kept-bytes .ensures in
     let room = copied-room s _ _ bytes (a .pre .0) old _ (a .pre .1) _ _ _ (r .before .loop-test .taken) (l .loop .inv) read _ kept in
@@ -102,7 +102,7 @@ loop-again c =
     let a = l .before .before .before in
     let s = now (a .args .s) in
     let bytes = slice-bytes s (l .before .shared-slice-known .given) in
-    let read = rw (c .before .before .before .before .before .before .t .given .1) at (r .read-tag .ensures .0) in
+    let read = rw (c .before .before .before .before .before .before .step .given .1) at (r .read-tag .ensures .0) in
     let old = now (a .args .out) in
     let kept = c .before .before .before .before .kept-bytes .ensures in
     let h = r .before .loop-test .taken in
@@ -122,7 +122,7 @@ put-plain-spec =
     μ-loop
     loop-holds
     read-tag-requires
-    enum-known-t
+    enum-known-step
     enum-told
     same-length
     returns

@@ -2,6 +2,7 @@ use Rattle.put_gaps.proofs.Pieces.{list-pieces}
 use Rattle.output.proofs.Laws.{after}
 use Rattle.put_gaps.specs.Pieces.{plainBytes, pairsBytes}
 use Rattle.gaps.specs.GapRecords.{gapsOf}
+use Rattle.gap_numbers.specs.Numbers.{held}
 use Rattle.tags.specs.TagAnswers.{tagsIn}
 use Rattle.format.proofs.Codec.{length-littleEndian}
 use Rattle.format.specs.Writing.{overwritten}
@@ -20,17 +21,17 @@ use Rattle.put_gaps.proofs.put_tag_list.Tie as tie
 put-dword-requires : tie.Need-put-dword-requires
 put-dword-requires c κs = search needs
 
-sub-put-plain : tie.Need-sub-put-plain
-sub-put-plain c = search needs
+sub-put-kept : tie.Need-sub-put-kept
+sub-put-kept c = search needs
 
-part-put-plain-start : tie.Need-part-put-plain-start
-part-put-plain-start c = search needs
+part-put-kept-start : tie.Need-part-put-kept-start
+part-put-kept-start c = search needs
 
-part-put-plain-end : tie.Need-part-put-plain-end
-part-put-plain-end c = search needs
+part-put-kept-end : tie.Need-part-put-kept-end
+part-put-kept-end c = search needs
 
-put-plain-requires : tie.Need-put-plain-requires
-put-plain-requires c κs = search needs
+put-kept-requires : tie.Need-put-kept-requires
+put-kept-requires c κs = search needs
 
 add-at : tie.Need-add-at
 add-at c = search needs
@@ -56,28 +57,28 @@ same-length c = search needs
 returns : tie.Need-returns
 returns c =
     let d = c .before .before .before .before .before .before .before .before .before .before in
-    let e = d .before .before .before .before in
+    let e = d .before .before .before .before .before in
     let a = e .args in
     let tags = tagsIn (now (a .s)) (a .tags) in
-    let gaps = gapsOf (a .g) in
+    let gaps = gapsOf (held (now (a .gaps))) in
     let count = length (regapped gaps tags) in
-    let plain = c .before .before .before .before .before .before .put-plain .ensures in
+    let kept = c .before .before .before .before .before .before .put-kept .ensures in
     let pairs = c .before .before .put-pairs .ensures in
-    let counted = rw (e .pre .1) at (d .put-dword .ensures) in
-    let first = after (dword count) (plainBytes tags) _ _ _ 4 (length-littleEndian 4 count) counted (plain .1) in
+    let counted = rw (e .pre .3) at (d .put-dword .ensures) in
+    let first = after (dword count) (plainBytes tags) _ _ _ 4 (length-littleEndian 4 count) counted (kept .1) in
     let place : length (dword count ++ plainBytes tags) ≡ 4 + length (plainBytes tags) = simp (length-append, length-littleEndian) in
-    let last = after (dword count ++ plainBytes tags) (pairsBytes 0 gaps) _ _ _ _ (omega (arith, place, plain .0)) first (pairs .1) in
-    (omega (arith, plain .0, pairs .0), last ∙ ap (λ l. overwritten l (now (a .out))) (list-pieces gaps tags))
+    let last = after (dword count ++ plainBytes tags) (pairsBytes 0 gaps) _ _ _ _ (omega (arith, place, kept .0)) first (pairs .1) in
+    (omega (arith, kept .0, pairs .0), last ∙ ap (λ l. overwritten l (now (a .out))) (list-pieces gaps tags))
 
 pub put-tag-list-spec : {M : Type 1} → statement M
 put-tag-list-spec =
     tie.close
     (tie.spec
     put-dword-requires
-    sub-put-plain
-    part-put-plain-start
-    part-put-plain-end
-    put-plain-requires
+    sub-put-kept
+    part-put-kept-start
+    part-put-kept-end
+    put-kept-requires
     add-at
     sub-put-pairs
     part-put-pairs-start

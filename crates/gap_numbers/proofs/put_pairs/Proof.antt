@@ -3,11 +3,11 @@ use mathlib.Core.Path.{_≡_, sym, _∙_}
 use lib.ListN.{length, length-map, length-drop, length-take}
 use denote.Ref.{now}
 use Rattle.output.proofs.Loops.{written-none}
-use Rattle.ed2k.proofs.GapNumbers.{PairsWritten, pairs-all, pair-room, pairs-next}
+use Rattle.gap_numbers.proofs.Records.{PairsWritten, pairs-all, pair-room, pairs-next}
 use borrow.Author.Needs.{needs}
 use native.Mathlib.Omega.{arith}
-use Rattle.ed2k.proofs.gap_records.put_pairs.Statement.{statement}
-use Rattle.ed2k.proofs.gap_records.put_pairs.Tie as tie
+use Rattle.gap_numbers.proofs.put_pairs.Statement.{statement}
+use Rattle.gap_numbers.proofs.put_pairs.Tie as tie
 
 abbrev Inv-loop : tie.InvT-loop
 Inv-loop out₀ g wrote₀ i₀ out wrote i = PairsWritten g out₀ out wrote i
@@ -21,11 +21,11 @@ loop-holds c =
     let places : length (e .args .t2 .gaps) ≡ 64 = sym (length-map (e .args .t2 .gaps) _) ∙ e .good .1 .0 .1 .1 .1 .1 .0 .1 .0 .1 in
     record { passed = omega arith; places = places; written = written-none _ _ }
 
-mul-x : tie.Need-mul-x Inv-loop μ-loop
-mul-x c = search needs
+mul-gap : tie.Need-mul-gap Inv-loop μ-loop
+mul-gap c = search needs
 
-element-copy-out-x : tie.Need-element-copy-out-x Inv-loop μ-loop
-element-copy-out-x c = search needs
+element-copy-out-gap : tie.Need-element-copy-out-gap Inv-loop μ-loop
+element-copy-out-gap c = search needs
 
 mul-put-pair : tie.Need-mul-put-pair Inv-loop μ-loop
 mul-put-pair c =
@@ -96,8 +96,8 @@ put-pairs-spec =
     Inv-loop
     μ-loop
     loop-holds
-    mul-x
-    element-copy-out-x
+    mul-gap
+    element-copy-out-gap
     mul-put-pair
     sub-put-pair
     part-put-pair-start

@@ -1,54 +1,25 @@
--- A gap record and its numbers: a turn of the loop that reads the pairs, and of the one that writes them.
-use Prim.Native.Nat.{ℕ, zero, suc, _+_, _-_, _*_, _≤_, _<_}
+-- A gap record and its numbers: a turn of the loop that puts the pairs, and the record of the numbers.
+use Prim.Native.Nat.{ℕ, _+_, _-_, _≤_, _<_}
 use native.Mathlib.Omega.{arith}
 use native.Mathlib.Numerals.{add-one}
-use mathlib.Core.Path.{_≡_, refl, ap, _∙_}
+use mathlib.Core.Path.{_≡_, refl, sym, ap, _∙_}
+use mathlib.Core.Bool.{true, false}
 use mathlib.Core.List.{List, [], _∷_, _++_}
-use lib.ListN.{length, getD, drop, set, replicate, length-append, length-replicate, drop-of-length-le}
-use lib.Seq.{append-snoc, drop-cons, getD-drop, set-at}
+use lib.ListN.{length, drop, length-append, drop-of-length-le}
+use lib.Seq.{drop-cons}
 use borrow.Rule.Slice.PartMut.{midOf, putMid}
+use borrow.Author.Tests.{le-leb, lt-leb, leb-true}
+use lib.Dec.{leb}
+use Rattle.format.specs.Gaps.{sizeLimit}
 use Rattle.format.specs.Writing.{overwritten}
+use Rattle.format.proofs.PartTags.{either-test, no-true}
 use Rattle.output.proofs.Loops.{WrittenSoFar, piece-room, written-next, written-all}
-use Rattle.gaps.specs.declared.Gap.{Gap}
+use Rattle.gaps.specs.declared.Gap.{Gap as Place}
 use Rattle.gaps.specs.declared.GapRecord.{GapRecord}
-use Rattle.gaps.specs.GapRecords.{place}
+use Rattle.gaps.specs.GapRecords.{place, lawfulRecord}
 use Rattle.gaps.proofs.GapRecords.{placeAt}
-use Rattle.gap_numbers.specs.Numbers.{pairNumbers, pairsIn}
-use Rattle.gap_numbers.proofs.Numbers.{length-numbers, length-pairs}
-
--- Reading
-
-last-pair : (n : ℕ) (l : List ℕ) → pairsIn (suc n) l ≡ pairsIn n l ++ place (getD l (2 * n) 0) (getD l (2 * n + 1) 0) ∷ []
-unfolding pairsIn
-last-pair zero l = refl
-last-pair (suc n) l =
-    let a : 2 * suc n ≡ 2 + 2 * n = omega arith in
-    let b : 2 + 2 * n + 1 ≡ 2 + (2 * n + 1) = omega arith in
-    ap (λ r. place (getD l 0 0) (getD l 1 0) ∷ r) (last-pair n (drop 2 l)) ∙ rw (a, b, getD-drop 2 l (2 * n) 0, getD-drop 2 l (2 * n + 1) 0) refl
-
--- the first n pairs after the size and the count, and 0 in the other places
-abbrev pub placesIn : ℕ → List ℕ → List Gap
-placesIn n l = pairsIn n (drop 2 l) ++ replicate (64 - n) (place 0 0)
-
-pub length-places : (n : ℕ) (l : List ℕ) → n ≤ 64 → length (placesIn n l) ≡ 64
-length-places n l h = simp (length-append, length-replicate, length-pairs) (omega arith)
-
-module _ (n : ℕ) (l : List ℕ) where
-  next-pair : pairsIn (n + 1) (drop 2 l) ≡ pairsIn n (drop 2 l) ++ place (getD l (2 + 2 * n) 0) (getD l (2 + 2 * n + 1) 0) ∷ []
-  next-pair =
-      let b : 2 + 2 * n + 1 ≡ 2 + (2 * n + 1) = omega arith in
-      ap (λ k. pairsIn k (drop 2 l)) (add-one n) ∙
-      last-pair n (drop 2 l) ∙
-      rw (getD-drop 2 l (2 * n) 0, getD-drop 2 l (2 * n + 1) 0, b) refl
-
-  pub next-place : n < 64 → set (placesIn n l) n (place (getD l (2 + 2 * n) 0) (getD l (2 + 2 * n + 1) 0)) ≡ placesIn (n + 1) l
-  next-place h =
-      let k : 64 - n ≡ suc (64 - (n + 1)) = omega arith in
-      let free = replicate (64 - (n + 1)) (place 0 0) in
-      let p = place (getD l (2 + 2 * n) 0) (getD l (2 + 2 * n + 1) 0) in
-      rw (k, set-at (pairsIn n (drop 2 l)) (place 0 0) free p n (length-pairs n (drop 2 l)), next-pair, append-snoc) refl
-
--- Writing
+use Rattle.gap_numbers.specs.Numbers.{pairNumbers, numbersOf, pairsIn, held, noRecord, recordIn}
+use Rattle.gap_numbers.proofs.Numbers.{length-numbers}
 
 pub record PairsWritten (g : GapRecord) (old out : List ℕ) (wrote i : ℕ) : Type 0 where
   pub passed : i ≤ 64
@@ -85,3 +56,34 @@ module _ (g : GapRecord) (old : List ℕ) (fits : 128 ≤ length old) (out : Lis
           places = w .places;
           written = written-next (pairNumbers (g .gaps)) old r out wrote _ (placeAt g i .start ∷ placeAt g i .end ∷ []) _ (w .written) next new q;
         }
+
+-- The record of the numbers
+
+module _ (l : List ℕ) where
+  pub few-numbers : length l < 130 → recordIn l ≡ noRecord
+  unfolding recordIn
+  few-numbers h = rw (lt-leb 130 (length l) h) refl
+
+  pub in-numbers : 130 ≤ length l → recordIn l ≡ held l
+  unfolding recordIn
+  in-numbers h = rw (le-leb 130 (length l) h) refl
+
+  -- only numbers enough for a record are one that is lawful
+  pub lawful-numbers : lawfulRecord sizeLimit (recordIn l) ≡ true → (130 ≤ length l) × (recordIn l ≡ held l)
+  unfolding recordIn lawfulRecord
+  lawful-numbers h = either-test (leb 130 (length l)) (λ t. (leb-true 130 (length l) t, rw t refl)) (λ t. absurd (no-true (rw t at h)))
+
+pub no-record : lawfulRecord sizeLimit noRecord ≡ false
+unfolding lawfulRecord
+no-record = refl
+
+pairs-back : (places : List Place) (rest : List ℕ) → pairsIn (length places) (pairNumbers places ++ rest) ≡ places
+unfolding pairsIn pairNumbers
+pairs-back [] rest = refl
+pairs-back (x ∷ l) rest = ap (λ m. x ∷ m) (pairs-back l rest)
+
+pub record-back : (g : GapRecord) (rest : List ℕ) → length (g .gaps) ≡ 64 → recordIn (numbersOf g ++ rest) ≡ g
+record-back g rest e =
+    let long : 130 ≤ length (numbersOf g ++ rest) = omega (arith, length-append (pairNumbers (g .gaps)) rest, length-numbers (g .gaps)) in
+    let back : pairsIn 64 (pairNumbers (g .gaps) ++ rest) ≡ g .gaps = rw (← e) (pairs-back (g .gaps) rest) in
+    in-numbers (numbersOf g ++ rest) long ∙ rw back refl

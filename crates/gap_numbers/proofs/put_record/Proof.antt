@@ -2,10 +2,10 @@ use mathlib.Core.Path.{refl}
 use mathlib.Core.List.{[], _∷_}
 use denote.Ref.{now}
 use Rattle.output.proofs.Laws.{after}
 use Rattle.gap_numbers.specs.Numbers.{pairNumbers}
 use borrow.Author.Needs.{needs}
-use Rattle.ed2k.proofs.gap_records.put_record.Statement.{statement}
-use Rattle.ed2k.proofs.gap_records.put_record.Tie as tie
+use Rattle.gap_numbers.proofs.put_record.Statement.{statement}
+use Rattle.gap_numbers.proofs.put_record.Tie as tie
 
 put-pair-requires : tie.Need-put-pair-requires
 put-pair-requires c κs = search needs

@@ -1,0 +1,136 @@
+-- The tags that stay of a list whose gap tags lie in a range: all before it, those in it that are no gap tags, and all after it.
+use Prim.Native.Nat.{ℕ, _+_, _-_, _≤_}
+use mathlib.Core.Path.{_≡_, refl, sym, ap, _∙_}
+use mathlib.Core.List.{List, [], _∷_, _++_, append-assoc, append-nil}
+use native.Mathlib.Omega.{arith}
+use lib.ListN.{length, drop, length-append}
+use lib.Seq.{take-at}
+use Rattle.format.specs.Messages.{Tag}
+use Rattle.format.specs.Layout.{encodeAll, encodeTag}
+use Rattle.format.specs.Rules.{Bytes}
+use Rattle.format.specs.Decoding.{bytesAt, decodeMany, ends, got, itemsOf}
+use Rattle.format.specs.Order.{decodeTag}
+use Rattle.format.specs.PutGaps.{plainTags}
+use Rattle.format.specs.Writing.{overwritten}
+use Rattle.format.proofs.Codec.{anywhere, codec-many}
+use Rattle.format.proofs.Items.{codec-tag}
+use Rattle.format.proofs.Many.{ends-items}
+use Rattle.wire.specs.declared.Items.{Items}
+use Rattle.wire.specs.WireAnswers.{ItemsPlaced, ItemsInside}
+use Rattle.tags.specs.TagAnswers.{tagsIn}
+use Rattle.put_gaps.specs.Pieces.{GapTagsIn, plainBytes}
+use Rattle.put_gaps.proofs.Regapped.{plain-append}
+use Rattle.put_gaps.proofs.Pieces.{encode-append}
+use Rattle.put_gaps.proofs.Kept.{plain-short}
+use Rattle.put_gaps.proofs.Lengths.{many-length, items-length, tags-end}
+
+run-bytes : (s : List ℕ) → Bytes s → (n at end : ℕ) (l : List Tag) → decodeMany n decodeTag s at ≡ got l end → at ≤ length s →
+    bytesAt s at (end - at) ≡ encodeAll encodeTag l
+run-bytes s bytes n at end l e h =
+    let found = codec-many {p = anywhere} n (codec-tag {p = anywhere}) .sound s bytes at h l end e tt in
+    rw (found .bytes) (take-at (encodeAll encodeTag l) (drop end s) (end - at) (omega (arith, tags-end s bytes n at end l e)))
+
+pub none-kept : (p old : List ℕ) → length p ≡ 0 → old ≡ overwritten p old
+none-kept [] old h = refl
+none-kept (x ∷ p) old h = absurd (omega arith)
+
+-- The whole list is such a range.
+pub whole : (s : List ℕ) (tags : Items) → ItemsPlaced decodeTag s tags → GapTagsIn s tags tags
+unfolding plainTags
+whole s tags placed = record {
+  pre = [];
+  mid = tagsIn s tags;
+  post = [];
+  before = refl;
+  within = sym (ends-items (decodeMany (tags .count) decodeTag s (tags .at)) (tags .end) placed);
+  after = refl;
+  all = sym (append-nil (tagsIn s tags));
+  plainBefore = refl;
+  plainAfter = refl;
+}
+
+module _ (s : List ℕ) (bytes : Bytes s) (tags range : Items) (inside : ItemsInside decodeTag s tags) (r : GapTagsIn s tags range) where
+  pub placed-range : ItemsPlaced decodeTag s range
+  unfolding ends
+  placed-range = ap ends (r .within)
+
+  tags-range : tagsIn s range ≡ r .mid
+  tags-range = ap itemsOf (r .within)
+
+  plain-pieces : plainTags (tagsIn s tags) ≡ r .pre ++ (plainTags (tagsIn s range) ++ r .post)
+  plain-pieces =
+      ap plainTags (r .all) ∙ plain-append (r .pre) (r .mid ++ r .post) ∙
+      rw (plain-append (r .mid) (r .post), r .plainBefore, r .plainAfter, tags-range) refl
+
+  at-first : range .at ≡ tags .at + length (encodeAll encodeTag (r .pre))
+  at-first = tags-end s bytes (length (r .pre)) (tags .at) (range .at) (r .pre) (r .before)
+
+  at-end : range .end ≡ range .at + length (encodeAll encodeTag (r .mid))
+  at-end = tags-end s bytes (range .count) (range .at) (range .end) (r .mid) (r .within)
+
+  at-last : tags .end ≡ range .end + length (encodeAll encodeTag (r .post))
+  at-last = tags-end s bytes (length (r .post)) (range .end) (tags .end) (r .post) (r .after)
+
+  first-bytes : bytesAt s (tags .at) (range .at - tags .at) ≡ encodeAll encodeTag (r .pre)
+  first-bytes =
+      run-bytes s bytes (length (r .pre)) (tags .at) (range .at) (r .pre) (r .before) (omega (arith, at-first, at-end, at-last, inside .1))
+
+  last-bytes : bytesAt s (range .end) (tags .end - range .end) ≡ encodeAll encodeTag (r .post)
+  last-bytes = run-bytes s bytes (length (r .post)) (range .end) (tags .end) (r .post) (r .after) (omega (arith, at-last, inside .1))
+
+  -- what is copied
+  pub kept-pieces : (bytesAt s (tags .at) (range .at - tags .at) ++ plainBytes (tagsIn s range)) ++ bytesAt s (range .end) (tags .end - range .end) ≡
+      plainBytes (tagsIn s tags)
+  unfolding plainBytes
+  kept-pieces =
+      let plain = plainTags (tagsIn s range) in
+      rw (first-bytes, last-bytes, append-assoc)
+      (ap (λ l. encodeAll encodeTag (r .pre) ++ l) (sym (encode-append plain (r .post))) ∙
+      sym (encode-append (r .pre) (plain ++ r .post)) ∙ ap (encodeAll encodeTag) (sym plain-pieces))
+
+  -- its numbers
+  pub record Spans : Type 0 where
+    pub first : tags .at ≤ range .at
+    pub middle : range .at + length (plainBytes (tagsIn s range)) ≤ range .end
+    pub last : range .end ≤ tags .end
+    pub within : tags .end ≤ length s
+    pub few : range .count ≤ tags .count
+    pub short : length (plainTags (tagsIn s range)) ≤ range .count
+    pub counted : length (plainTags (tagsIn s tags)) ≡ tags .count - range .count + length (plainTags (tagsIn s range))
+    pub run : length (bytesAt s (tags .at) (range .at - tags .at)) ≡ range .at - tags .at
+    pub summed : length (plainBytes (tagsIn s tags)) ≡ range .at - tags .at + length (plainBytes (tagsIn s range)) + (tags .end - range .end)
+
+  pub spans : Spans
+  spans =
+      let first = bytesAt s (tags .at) (range .at - tags .at) in
+      let last = bytesAt s (range .end) (tags .end - range .end) in
+      let short = plain-short (tagsIn s range) in
+      let middle = ap (λ l. length (encodeAll encodeTag l)) tags-range in
+      let in-range = ap length tags-range ∙ many-length decodeTag s (range .count) (range .at) (range .end) (r .mid) (r .within) in
+      let all = items-length decodeTag s tags (inside .0) in
+      let parts = ap length (r .all) ∙ length-append (r .pre) (r .mid ++ r .post) in
+      let later = length-append (r .mid) (r .post) in
+      let plain = ap length plain-pieces ∙ length-append (r .pre) (plainTags (tagsIn s range) ++ r .post) in
+      let plain-later = length-append (plainTags (tagsIn s range)) (r .post) in
+      let mid = ap length tags-range in
+      record {
+        first = omega (arith, at-first);
+        middle = omega (arith, at-end, middle, short .1);
+        last = omega (arith, at-last);
+        within = inside .1;
+        few = omega (arith, all, parts, later, in-range, mid);
+        short = omega (arith, short .0, in-range);
+        counted = omega (arith, plain, plain-later, all, parts, later, in-range, mid);
+        run = omega (arith, ap length first-bytes, at-first);
+        summed =
+            omega (
+              arith,
+              ap length kept-pieces,
+              length-append (first ++ plainBytes (tagsIn s range)) last,
+              length-append first (plainBytes (tagsIn s range)),
+              ap length first-bytes,
+              ap length last-bytes,
+              at-first,
+              at-last,
+            );
+      }
