@@ -38,16 +38,6 @@ pub struct WriteAnswer {
     pub length: usize,
 }
 
-// The numbers of the refusals that no rule of a reader has: above a limit, out of range, no room in the output, and a file that is not the
-// one that was opened.
-pub const LIMIT: u8 = 6;
-
-pub const RANGE: u8 = 8;
-
-pub const ROOM: u8 = 10;
-
-pub const CONFLICT: u8 = 11;
-
 pub fn refused(number: u8) -> WriteAnswer
     ensures { λ r. ⌜ r ≡ refusedBy number ⌝ }
 {

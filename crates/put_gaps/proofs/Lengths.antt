@@ -24,7 +24,7 @@ use Rattle.gap_numbers.specs.NumberSteps.{gapsIn}
 use Rattle.gap_numbers.proofs.Numbers.{at}
 use Rattle.met.specs.declared.PartMet as code
 use Rattle.met.specs.MetAnswers.{partMetIn, tagsPlace}
-use Rattle.put_gaps.specs.Pieces.{headOf, tailOf, tagsAt, PartRead, plainBytes, pairsBytes, pairsLength}
+use Rattle.put_gaps.specs.Pieces.{headOf, tailOf, tagsAt, WasRead, plainBytes, pairsBytes, pairsLength}
 use Rattle.put_gaps.proofs.Pieces.{length-tags, list-pieces, pieces, pieces-withGaps, tags-few}
 use Rattle.put_gaps.proofs.Kept.{plain-short, tag-place}
 use Rattle.put_gaps.proofs.Pairs.{pairs-length}
@@ -72,11 +72,11 @@ unfolding tagsOf
 tags-same s (code.PartMet.E0 e) = refl
 tags-same s (code.PartMet.E1 m) = refl
 
-pub tags-inside : (s : List ℕ) (part : code.PartMet) → PartRead s part → ItemsInside decodeTag s (tagsPlace part)
+pub tags-inside : (s : List ℕ) (part : code.PartMet) → WasRead s part → ItemsInside decodeTag s (tagsPlace part)
 tags-inside s (code.PartMet.E0 e) h = h .placed .1 .1
 tags-inside s (code.PartMet.E1 m) h = h .placed .1 .0
 
-head-length : (s : List ℕ) (part : code.PartMet) → PartRead s part → length (headOf (partMetIn s part)) ≡ tagsAt part
+head-length : (s : List ℕ) (part : code.PartMet) → WasRead s part → length (headOf (partMetIn s part)) ≡ tagsAt part
 unfolding headOf ValidPartMet
 head-length s (code.PartMet.E0 e) h =
     let v = h .valid .content .entry in
@@ -84,7 +84,7 @@ head-length s (code.PartMet.E0 e) h =
     simp (length-append, length-littleEndian) (omega (arith, v .hash .0, hashes-length (itemsIn decodeHash s (e .parts)) (v .parts .1), n))
 head-length s (code.PartMet.E1 m) h = simp (length-append, length-littleEndian) (omega (arith, h .valid .content .hash .0))
 
-module _ (s : List ℕ) (bytes : Bytes s) (part : code.PartMet) (h : PartRead s part) where
+module _ (s : List ℕ) (bytes : Bytes s) (part : code.PartMet) (h : WasRead s part) where
   abbrev file : PartMet
   file = partMetIn s part
 

@@ -1,24 +1,24 @@
 -- The tags that stay of a list whose gap tags lie in a range: all before it, those in it that are no gap tags, and all after it.
 use Prim.Native.Nat.{ℕ, _+_, _-_, _≤_}
 use mathlib.Core.Path.{_≡_, refl, sym, ap, _∙_}
-use mathlib.Core.List.{List, [], _∷_, _++_, append-assoc, append-nil}
+use mathlib.Core.List.{List, [], _∷_, _++_, append-assoc}
 use native.Mathlib.Omega.{arith}
 use lib.ListN.{length, drop, length-append}
 use lib.Seq.{take-at}
 use Rattle.format.specs.Messages.{Tag}
 use Rattle.format.specs.Layout.{encodeAll, encodeTag}
-use Rattle.format.specs.Rules.{Bytes}
+use Rattle.format.specs.Rules.{All, Bytes}
 use Rattle.format.specs.Decoding.{bytesAt, decodeMany, ends, got, itemsOf}
 use Rattle.format.specs.Order.{decodeTag}
 use Rattle.format.specs.PutGaps.{plainTags}
 use Rattle.format.specs.Writing.{overwritten}
 use Rattle.format.proofs.Codec.{anywhere, codec-many}
 use Rattle.format.proofs.Items.{codec-tag}
-use Rattle.format.proofs.Many.{ends-items}
 use Rattle.wire.specs.declared.Items.{Items}
 use Rattle.wire.specs.WireAnswers.{ItemsPlaced, ItemsInside}
 use Rattle.tags.specs.TagAnswers.{tagsIn}
-use Rattle.put_gaps.specs.Pieces.{GapTagsIn, plainBytes}
+use Rattle.part_tags.specs.Survey.{GapTagsIn, Plain}
+use Rattle.put_gaps.specs.Pieces.{plainBytes}
 use Rattle.put_gaps.proofs.Regapped.{plain-append}
 use Rattle.put_gaps.proofs.Pieces.{encode-append}
 use Rattle.put_gaps.proofs.Kept.{plain-short}
@@ -34,49 +34,40 @@ pub none-kept : (p old : List ℕ) → length p ≡ 0 → old ≡ overwritten p 
 none-kept [] old h = refl
 none-kept (x ∷ p) old h = absurd (omega arith)
 
--- The whole list is such a range.
-pub whole : (s : List ℕ) (tags : Items) → ItemsPlaced decodeTag s tags → GapTagsIn s tags tags
+-- Tags that are no gap tags all stay.
+all-plain : (l : List Tag) → All Plain l → plainTags l ≡ l
 unfolding plainTags
-whole s tags placed = record {
-  pre = [];
-  mid = tagsIn s tags;
-  post = [];
-  before = refl;
-  within = sym (ends-items (decodeMany (tags .count) decodeTag s (tags .at)) (tags .end) placed);
-  after = refl;
-  all = sym (append-nil (tagsIn s tags));
-  plainBefore = refl;
-  plainAfter = refl;
-}
+all-plain [] h = refl
+all-plain (t ∷ l) h = rw (h .0) (ap (λ k. t ∷ k) (all-plain l (h .1)))
 
 module _ (s : List ℕ) (bytes : Bytes s) (tags range : Items) (inside : ItemsInside decodeTag s tags) (r : GapTagsIn s tags range) where
   pub placed-range : ItemsPlaced decodeTag s range
   unfolding ends
-  placed-range = ap ends (r .within)
+  placed-range = ap ends (r .mid-read)
 
   tags-range : tagsIn s range ≡ r .mid
-  tags-range = ap itemsOf (r .within)
+  tags-range = ap itemsOf (r .mid-read)
 
   plain-pieces : plainTags (tagsIn s tags) ≡ r .pre ++ (plainTags (tagsIn s range) ++ r .post)
   plain-pieces =
       ap plainTags (r .all) ∙ plain-append (r .pre) (r .mid ++ r .post) ∙
-      rw (plain-append (r .mid) (r .post), r .plainBefore, r .plainAfter, tags-range) refl
+      rw (plain-append (r .mid) (r .post), all-plain (r .pre) (r .pre-plain), all-plain (r .post) (r .post-plain), tags-range) refl
 
   at-first : range .at ≡ tags .at + length (encodeAll encodeTag (r .pre))
-  at-first = tags-end s bytes (length (r .pre)) (tags .at) (range .at) (r .pre) (r .before)
+  at-first = tags-end s bytes (length (r .pre)) (tags .at) (range .at) (r .pre) (r .pre-read)
 
   at-end : range .end ≡ range .at + length (encodeAll encodeTag (r .mid))
-  at-end = tags-end s bytes (range .count) (range .at) (range .end) (r .mid) (r .within)
+  at-end = tags-end s bytes (range .count) (range .at) (range .end) (r .mid) (r .mid-read)
 
   at-last : tags .end ≡ range .end + length (encodeAll encodeTag (r .post))
-  at-last = tags-end s bytes (length (r .post)) (range .end) (tags .end) (r .post) (r .after)
+  at-last = tags-end s bytes (length (r .post)) (range .end) (tags .end) (r .post) (r .post-read)
 
   first-bytes : bytesAt s (tags .at) (range .at - tags .at) ≡ encodeAll encodeTag (r .pre)
   first-bytes =
-      run-bytes s bytes (length (r .pre)) (tags .at) (range .at) (r .pre) (r .before) (omega (arith, at-first, at-end, at-last, inside .1))
+      run-bytes s bytes (length (r .pre)) (tags .at) (range .at) (r .pre) (r .pre-read) (omega (arith, at-first, at-end, at-last, inside .1))
 
   last-bytes : bytesAt s (range .end) (tags .end - range .end) ≡ encodeAll encodeTag (r .post)
-  last-bytes = run-bytes s bytes (length (r .post)) (range .end) (tags .end) (r .post) (r .after) (omega (arith, at-last, inside .1))
+  last-bytes = run-bytes s bytes (length (r .post)) (range .end) (tags .end) (r .post) (r .post-read) (omega (arith, at-last, inside .1))
 
   -- what is copied
   pub kept-pieces : (bytesAt s (tags .at) (range .at - tags .at) ++ plainBytes (tagsIn s range)) ++ bytesAt s (range .end) (tags .end - range .end) ≡
@@ -106,7 +97,7 @@ module _ (s : List ℕ) (bytes : Bytes s) (tags range : Items) (inside : ItemsIn
       let last = bytesAt s (range .end) (tags .end - range .end) in
       let short = plain-short (tagsIn s range) in
       let middle = ap (λ l. length (encodeAll encodeTag l)) tags-range in
-      let in-range = ap length tags-range ∙ many-length decodeTag s (range .count) (range .at) (range .end) (r .mid) (r .within) in
+      let in-range = ap length tags-range ∙ many-length decodeTag s (range .count) (range .at) (range .end) (r .mid) (r .mid-read) in
       let all = items-length decodeTag s tags (inside .0) in
       let parts = ap length (r .all) ∙ length-append (r .pre) (r .mid ++ r .post) in
       let later = length-append (r .mid) (r .post) in

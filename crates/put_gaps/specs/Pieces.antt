@@ -8,8 +8,7 @@ use Rattle.format.specs.Gaps.{Gap, Lawful, sizeLimit}
 use Rattle.format.specs.Messages.{Tag, PartMet, e0, e1, partMet}
 use Rattle.format.specs.Layout.{byte, word, dword, counted, encodeAll, encodeHash, encodeHashBlocks, encodePartMet, encodeTag, encodeTags}
 use Rattle.format.specs.Rules.{GapPair, startTag, endTag, Valid}
-use Rattle.format.specs.Decoding.{bytesAt, decodeMany, got}
-use Rattle.format.specs.Order.{decodeTag}
+use Rattle.format.specs.Decoding.{bytesAt}
 use Rattle.format.specs.GapTags.{role}
 use Rattle.format.specs.PutGaps.{isPlain, plainTags, decimalOf, gapTags, regapped, withGaps}
 use Rattle.wire.specs.declared.Items.{Items}
@@ -44,22 +43,10 @@ abbrev pub LawfulNumbers : List ℕ → Type 0
 LawfulNumbers l = (130 ≤ length l) × LawfulRecord (held l)
 
 -- A part.met that was read from these bytes.
-pub record PartRead (s : List ℕ) (part : code.PartMet) : Type 0 where
+pub record WasRead (s : List ℕ) (part : code.PartMet) : Type 0 where
   pub bytes : s ≡ encodePartMet (partMetIn s part)
   pub valid : Valid partMet (partMetIn s part)
   pub placed : PartMetPlaced s part
-
--- The gap tags of a list lie in the range: those before it and after it are no gap tags.
-pub record GapTagsIn (s : List ℕ) (tags range : Items) : Type 0 where
-  pub pre : List Tag
-  pub mid : List Tag
-  pub post : List Tag
-  pub before : decodeMany (length pre) decodeTag s (tags .at) ≡ got pre (range .at)
-  pub within : decodeMany (range .count) decodeTag s (range .at) ≡ got mid (range .end)
-  pub after : decodeMany (length post) decodeTag s (range .end) ≡ got post (tags .end)
-  pub all : tagsIn s tags ≡ pre ++ (mid ++ post)
-  pub plainBefore : plainTags pre ≡ pre
-  pub plainAfter : plainTags post ≡ post
 
 -- A tag that stays, and its bytes, which lie from one offset up to another; nothing of a gap tag.
 abbrev pub keptTags : Tag → List Tag

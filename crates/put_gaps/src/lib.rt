@@ -23,17 +23,18 @@ ghost use Rattle.gaps.specs.GapRecords.{gapsOf};
 ghost use Rattle.gap_numbers.specs.Numbers.{held, recordIn};
 ghost use Rattle.met.specs.MetAnswers.{partMetIn, tagsPlace};
 ghost use Rattle.output.specs.WriteAnswers.{answered};
+ghost use Rattle.part_tags.specs.Survey.{GapTagsIn};
 ghost use Rattle.put_gaps.specs.PutAnswers.{putRecord};
-ghost use Rattle.put_gaps.specs.Pieces.{PartRead, GapTagsIn, LawfulNumbers, SizesOf};
+ghost use Rattle.put_gaps.specs.Pieces.{WasRead, LawfulNumbers, SizesOf};
 ghost use Rattle.put_gaps.specs.Pieces.{tagsAt, keptTags, keptBytes, plainBytes, pairBytes, pairsBytes, pairsLength};
 use gap_numbers::GAP_NUMBERS;
 use gap_numbers::judge_numbers;
 use gap_numbers::put_record;
 use gaps::GapRecord;
 use met::MET_CEILING;
-use met::PartAnswer;
 use met::PartMet;
-use met::read_part_met;
+use met::PartRead;
+use met::read_part;
 use output::LIMIT;
 use output::RANGE;
 use output::ROOM;
@@ -346,7 +347,7 @@ fn sizes_of(file: usize, at: usize, old: usize, kept: Measured, pairs: usize) ->
 
 // The numbers of the file with the gaps of the record; the part.met was read from it.
 fn measure_file(file: &[u8], part: PartMet, range: Items, gaps: &[u64]) -> Sizes
-    requires { ⌜ PartRead (now file) part × GapTagsIn (now file) (tagsPlace part) range × LawfulNumbers (now gaps) ⌝ }
+    requires { ⌜ WasRead (now file) part × GapTagsIn (now file) (tagsPlace part) range × LawfulNumbers (now gaps) ⌝ }
     ensures { λ r. ⌜ SizesOf (now (file .entry)) part range (held (now (gaps .entry))) r ⌝ }
 {
     let tags = part.tags();
@@ -358,7 +359,7 @@ fn measure_file(file: &[u8], part: PartMet, range: Items, gaps: &[u64]) -> Sizes
 // The new file, if it is not too long for a part.met (6) and for the output (10). The part.met was read from the old one, and its gap tags
 // lie in the range.
 fn put_file(out: &mut [u8], file: &[u8], part: PartMet, range: Items, gaps: &[u64]) -> WriteAnswer
-    requires { ⌜ PartRead (now file) part × GapTagsIn (now file) (tagsPlace part) range × LawfulNumbers (now gaps) ⌝ }
+    requires { ⌜ WasRead (now file) part × GapTagsIn (now file) (tagsPlace part) range × LawfulNumbers (now gaps) ⌝ }
     ensures { λ r. ⌜ answered r (now (out .exit))
         ≡ withinCeiling (encodePartMet (withGaps (gapsOf (held (now (gaps .entry)))) (partMetIn (now (file .entry)) part))) (now (out .entry)) ⌝ }
 {
@@ -391,10 +392,10 @@ fn put_file(out: &mut [u8], file: &[u8], part: PartMet, range: Items, gaps: &[u6
 pub fn put_gap_numbers(file: &[u8], gaps: &[u64], out: &mut [u8]) -> WriteAnswer
     ensures { λ r. ⌜ answered r (now (out .exit)) ≡ putRecord (now (file .entry)) (recordIn (now (gaps .entry))) (now (out .entry)) ⌝ }
 {
-    let read = read_part_met(file);
+    let read = read_part(file);
     match read {
-        PartAnswer::Refused(number) => refused(number),
-        PartAnswer::Accepted(part, size) => {
+        PartRead::Refused(number) => refused(number),
+        PartRead::Accepted(part, size, range) => {
             let judged = judge_numbers(gaps);
             if !judged.lawful {
                 return refused(RANGE);
@@ -402,8 +403,7 @@ pub fn put_gap_numbers(file: &[u8], gaps: &[u64], out: &mut [u8]) -> WriteAnswer
             if gaps[0] != size as u64 {
                 return refused(RANGE);
             }
-            // The whole list is a range in which the gap tags lie; the reader of the file may return a narrower one.
-            put_file(out, file, part, part.tags(), gaps)
+            put_file(out, file, part, range, gaps)
         }
     }
 }

@@ -304,6 +304,18 @@ pub fn whole_tag_end(s: &[u8], at: usize) -> usize
     named_tag_end(s, at, name_len)
 }
 
+// The offset after a tag, by reading it; 0 for one that is refused. It stands apart so that tag_after is short enough to be put into the
+// loops that call it.
+fn read_tag_after(s: &[u8], at: usize) -> usize
+    ensures { λ r. ⌜ r ≡ placeBehind (decodeTag (now (s .entry)) at) ⌝ }
+{
+    let tag_step = read_tag(s, Cursor { at });
+    let TagStep::Got(_, next) = tag_step else {
+        return 0;
+    };
+    next.at
+}
+
 // The offset after a tag; 0 for one that is refused.
 pub fn tag_after(s: &[u8], at: usize) -> usize
     ensures { λ r. ⌜ r ≡ placeBehind (decodeTag (now (s .entry)) at) ⌝ }
@@ -312,11 +324,7 @@ pub fn tag_after(s: &[u8], at: usize) -> usize
     if end != 0 {
         return end;
     }
-    let tag_step = read_tag(s, Cursor { at });
-    let TagStep::Got(_, next) = tag_step else {
-        return 0;
-    };
-    next.at
+    read_tag_after(s, at)
 }
 
 // Tags one after the other, as many as counted.

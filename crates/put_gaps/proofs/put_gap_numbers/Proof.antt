@@ -1,6 +1,4 @@
 use Rattle.put_gaps.proofs.Puts.{reads, put-refused, put-unlawful, put-other-size, put-fitting}
-use Rattle.put_gaps.proofs.Lengths.{tags-inside}
-use Rattle.put_gaps.proofs.Range.{whole}
 use Rattle.put_gaps.specs.PutAnswers.{putRecord}
 use Rattle.gap_numbers.specs.Numbers.{held}
 use Rattle.gap_numbers.proofs.Records.{lawful-numbers}
@@ -16,8 +14,8 @@ use borrow.Author.Needs.{needs}
 use Rattle.put_gaps.proofs.put_gap_numbers.Statement.{statement}
 use Rattle.put_gaps.proofs.put_gap_numbers.Tie as tie
 
-read-part-met-requires : tie.Need-read-part-met-requires
-read-part-met-requires c κs = search needs
+read-part-requires : tie.Need-read-part-requires
+read-part-requires c κs = search needs
 
 enum-known-read : tie.Need-enum-known-read
 enum-known-read c = search needs
@@ -37,7 +35,7 @@ refused-requires-2 c κs = search needs
 returns : tie.Need-returns
 returns c =
     let s = now (c .before .before .before .before .before .before .before .before .before .before .before .args .file) in
-    let part = reads s _ _ _ (c .before .before .before .before .before .read2 .given .1) (c .before .before .before .before .before .before .before .read-part-met .ensures) in
+    let part = reads s _ _ _ _ (c .before .before .before .before .before .read2 .given .1) (c .before .before .before .before .before .before .before .read-part .ensures) in
     let unlawful = sym (c .before .before .before .judge-numbers .ensures .told) ∙ not-true _ (c .before .if1 .taken) in
     rw (c .refused2 .ensures, put-unlawful _ _ _ _ (part .told) unlawful) refl
 
@@ -57,31 +55,27 @@ returns-2 : tie.Need-returns-2
 returns-2 c =
     let j = c .before .before .before .before .before in
     let a = c .before .before .before .before .before .before .before .before .before .before .before .before .before .args in
-    let part = reads (now (a .file)) _ _ _ (c .before .before .before .before .before .before .before .read2 .given .1) (c .before .before .before .before .before .before .before .before .before .read-part-met .ensures) in
+    let part = reads (now (a .file)) _ _ _ _ (c .before .before .before .before .before .before .before .read2 .given .1) (c .before .before .before .before .before .before .before .before .before .read-part .ensures) in
     let l = now (a .gaps) in
     let judged = sym (j .judge-numbers .ensures .told) ∙ not-false _ (c .before .before .before .if1 .left) in
     let there = lawful-numbers l judged in
     let lawful : lawfulRecord sizeLimit (held l) ≡ true = rw (there .1) at judged in
     rw (c .refused3 .ensures, there .1, put-other-size _ (held l) _ _ (part .told) lawful _ (part .sized) (c .before .if2 .taken)) refl
 
-tags-requires : tie.Need-tags-requires
-tags-requires c κs = search needs
-
 put-file-requires : tie.Need-put-file-requires
 put-file-requires c κs =
-    let j = c .before .before .before .before .before .before in
-    let a = c .before .before .before .before .before .before .before .before .before .before .before .before .before .before .args in
-    let part = reads (now (a .file)) _ _ _ (c .before .before .before .before .before .before .before .before .read2 .given .1) (c .before .before .before .before .before .before .before .before .before .before .read-part-met .ensures) in
+    let j = c .before .before .before .before .before in
+    let a = c .before .before .before .before .before .before .before .before .before .before .before .before .before .args in
+    let part = reads (now (a .file)) _ _ _ _ (c .before .before .before .before .before .before .before .read2 .given .1) (c .before .before .before .before .before .before .before .before .before .read-part .ensures) in
     let l = now (a .gaps) in
-    let judged = sym (j .judge-numbers .ensures .told) ∙ not-false _ (c .before .before .before .before .if1 .left) in
+    let judged = sym (j .judge-numbers .ensures .told) ∙ not-false _ (c .before .before .before .if1 .left) in
     let there = lawful-numbers l judged in
     let lawful : lawfulRecord sizeLimit (held l) ≡ true = rw (there .1) at judged in
-    let all = whole _ _ (tags-inside _ _ (part .read) .0) in
-    rw (c .tags .ensures) (part .read, all, (there .0, lawful-record-exactly sizeLimit (held l) .0 lawful))
+    (part .read, part .ranged, (there .0, lawful-record-exactly sizeLimit (held l) .0 lawful))
 
 returns-3 : tie.Need-returns-3
 returns-3 c =
-    let read = rw (c .before .before .read .given .1) at (c .before .before .before .before .read-part-met .ensures .0) in
+    let read = rw (c .before .before .read .given .1) at (c .before .before .before .before .read-part .ensures .0) in
     rw (c .refused .ensures, put-refused _ _ _ _ read) refl
 
 same-length : tie.Need-same-length
@@ -91,7 +85,7 @@ returns-4 : tie.Need-returns-4
 returns-4 c =
     let j = c .before .before .before .before .before .before .before .before .before in
     let a = c .before .before .before .before .before .before .before .before .before .before .before .before .before .before .before .before .before .args in
-    let part = reads (now (a .file)) _ _ _ (c .before .before .before .before .before .before .before .before .before .before .before .read2 .given .1) (c .before .before .before .before .before .before .before .before .before .before .before .before .before .read-part-met .ensures) in
+    let part = reads (now (a .file)) _ _ _ _ (c .before .before .before .before .before .before .before .before .before .before .before .read2 .given .1) (c .before .before .before .before .before .before .before .before .before .before .before .before .before .read-part .ensures) in
     let l = now (a .gaps) in
     let judged = sym (j .judge-numbers .ensures .told) ∙ not-false _ (c .before .before .before .before .before .before .before .if1 .left) in
     let there = lawful-numbers l judged in
@@ -103,7 +97,7 @@ pub put-gap-numbers-spec : {M : Type 1} → statement M
 put-gap-numbers-spec =
     tie.close
     (tie.spec
-    read-part-met-requires
+    read-part-requires
     enum-known-read
     refused-requires
     enum-known-read-2
@@ -114,7 +108,6 @@ put-gap-numbers-spec =
     cast-if2
     refused-requires-3
     returns-2
-    tags-requires
     put-file-requires
     returns-3
     same-length
