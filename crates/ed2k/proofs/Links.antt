@@ -1,6 +1,6 @@
--- The answer of a kind's own reader is an answer of the one reading call.
+-- What the reading calls leave: the numbers of what was read, and the answer of a kind's own reader as an answer of the one reading call.
 use Prim.Native.Nat.{ℕ}
-use mathlib.Core.Path.{_≡_, ap}
+use mathlib.Core.Path.{_≡_, ap, _∙_}
 use mathlib.Core.List.{List}
 use mathlib.Core.Option.{some}
 use Rattle.packets.specs.declared.Link.{Link}
@@ -14,7 +14,11 @@ use Rattle.met.specs.declared.ServerAnswer.{ServerAnswer}
 use Rattle.met.specs.declared.PartAnswer.{PartAnswer}
 use Rattle.met.specs.MetAnswers.{KnownAnswerPlaced, ServerAnswerPlaced, PartAnswerPlaced, PartAnswerSized, knownReply, serverReply, partReply}
 use Rattle.read_any.specs.AnyAnswers.{fromKnown, fromPacket, fromPart, fromServer}
-use Rattle.ed2k.specs.Calls.{MessageRead, Numbered, linkKind, messageRead}
+use Rattle.ed2k.specs.Calls.{MessageRead, Numbered, handedOut, linkKind, messageRead}
+
+-- The numbers l are handed out, and are those of what was read.
+pub handed : (old : List ℕ) {l numbers : List ℕ} {r : Numbered} → r ≡ handedOut l old → l ≡ numbers → r ≡ handedOut numbers old
+handed old e q = e ∙ ap (λ l. handedOut l old) q
 
 pub link-read : (link : Link) (s old : List ℕ) (a : PacketAnswer) (r : Numbered) → packetReply s a ≡ linkReply link s → PacketPlaced s a →
     r ≡ messageRead (fromPacket a) old → MessageRead (linkKind link) s old r

@@ -7,6 +7,7 @@ ghost use Prim.Native.Nat.{_≤_};
 ghost use lib.ListN.{length};
 ghost use Rattle.format.specs.Writing.{overwritten};
 ghost use Rattle.ed2k.specs.Calls.{numbered, handedOut};
+use output::ROOM;
 
 mod compose;
 mod gap_records;
@@ -63,7 +64,7 @@ fn hand_out(numbers: &[u64], fields: &mut [u64]) -> u8
     ensures { λ r. ⌜ numbered r (now (fields .exit)) ≡ handedOut (now (numbers .entry)) (now (fields .entry)) ⌝ }
 {
     if fields.len() < numbers.len() {
-        return 10;
+        return ROOM;
     }
     copy_numbers(fields, numbers);
     0

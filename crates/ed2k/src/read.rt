@@ -12,6 +12,7 @@ use met::KnownAnswer;
 use met::PartAnswer;
 use met::ServerAnswer;
 use met::ServerEntryStep;
+use output::KIND;
 use packets::Link;
 use packets::PacketAnswer;
 use query::NodeStep;
@@ -30,12 +31,12 @@ use wire::Cursor;
 fn read_link(link: Link, bytes: &[u8], fields: &mut [u64]) -> u8
     ensures { λ r. ⌜ MessageRead (linkKind link) (now (bytes .entry)) (now (fields .entry)) (numbered r (now (fields .exit))) ⌝ }
 {
-    let a = packets::read_packet(bytes, link);
-    match a {
-        PacketAnswer::Refused(n) => n,
-        PacketAnswer::Accepted(p) => {
-            let f = fields::packet_fields(p);
-            hand_out(&f, fields)
+    let answer = packets::read_packet(bytes, link);
+    match answer {
+        PacketAnswer::Refused(number) => number,
+        PacketAnswer::Accepted(packet) => {
+            let numbers = fields::packet_fields(packet);
+            hand_out(&numbers, fields)
         }
     }
 }
@@ -43,12 +44,12 @@ fn read_link(link: Link, bytes: &[u8], fields: &mut [u64]) -> u8
 fn read_known(bytes: &[u8], fields: &mut [u64]) -> u8
     ensures { λ r. ⌜ MessageRead knownMet (now (bytes .entry)) (now (fields .entry)) (numbered r (now (fields .exit))) ⌝ }
 {
-    let a = met::read_known_met(bytes);
-    match a {
-        KnownAnswer::Refused(n) => n,
-        KnownAnswer::Accepted(m) => {
-            let f = fields::known_fields(m);
-            hand_out(&f, fields)
+    let answer = met::read_known_met(bytes);
+    match answer {
+        KnownAnswer::Refused(number) => number,
+        KnownAnswer::Accepted(known) => {
+            let numbers = fields::known_fields(known);
+            hand_out(&numbers, fields)
         }
     }
 }
@@ -56,12 +57,12 @@ fn read_known(bytes: &[u8], fields: &mut [u64]) -> u8
 fn read_server(bytes: &[u8], fields: &mut [u64]) -> u8
     ensures { λ r. ⌜ MessageRead serverMet (now (bytes .entry)) (now (fields .entry)) (numbered r (now (fields .exit))) ⌝ }
 {
-    let a = met::read_server_met(bytes);
-    match a {
-        ServerAnswer::Refused(n) => n,
-        ServerAnswer::Accepted(m) => {
-            let f = fields::server_fields(m);
-            hand_out(&f, fields)
+    let answer = met::read_server_met(bytes);
+    match answer {
+        ServerAnswer::Refused(number) => number,
+        ServerAnswer::Accepted(server) => {
+            let numbers = fields::server_fields(server);
+            hand_out(&numbers, fields)
         }
     }
 }
@@ -69,12 +70,12 @@ fn read_server(bytes: &[u8], fields: &mut [u64]) -> u8
 fn read_part(bytes: &[u8], fields: &mut [u64]) -> u8
     ensures { λ r. ⌜ MessageRead partMet (now (bytes .entry)) (now (fields .entry)) (numbered r (now (fields .exit))) ⌝ }
 {
-    let a = met::read_part_met(bytes);
-    match a {
-        PartAnswer::Refused(n) => n,
-        PartAnswer::Accepted(m, size) => {
-            let f = fields::part_fields(m, size);
-            hand_out(&f, fields)
+    let answer = met::read_part_met(bytes);
+    match answer {
+        PartAnswer::Refused(number) => number,
+        PartAnswer::Accepted(part, size) => {
+            let numbers = fields::part_fields(part, size);
+            hand_out(&numbers, fields)
         }
     }
 }
@@ -82,12 +83,12 @@ fn read_part(bytes: &[u8], fields: &mut [u64]) -> u8
 fn read_lone_query(bytes: &[u8], fields: &mut [u64]) -> u8
     ensures { λ r. ⌜ QueryRead (now (bytes .entry)) (now (fields .entry)) (numbered r (now (fields .exit))) ⌝ }
 {
-    let a = query::read_lone_query(bytes);
-    match a {
-        QueryAnswer::Refused(n) => n,
-        QueryAnswer::Accepted(q) => {
-            let f = fields::query_fields(q);
-            hand_out(&f, fields)
+    let answer = query::read_lone_query(bytes);
+    match answer {
+        QueryAnswer::Refused(number) => number,
+        QueryAnswer::Accepted(query) => {
+            let numbers = fields::query_fields(query);
+            hand_out(&numbers, fields)
         }
     }
 }
@@ -95,12 +96,12 @@ fn read_lone_query(bytes: &[u8], fields: &mut [u64]) -> u8
 fn read_lone_tags(bytes: &[u8], fields: &mut [u64]) -> u8
     ensures { λ r. ⌜ TagListRead (now (bytes .entry)) (now (fields .entry)) (numbered r (now (fields .exit))) ⌝ }
 {
-    let a = tags::read_tag_list(bytes);
-    match a {
-        TagListAnswer::Refused(n) => n,
-        TagListAnswer::Accepted(l) => {
-            let f = fields::list_fields(l);
-            hand_out(&f, fields)
+    let answer = tags::read_tag_list(bytes);
+    match answer {
+        TagListAnswer::Refused(number) => number,
+        TagListAnswer::Accepted(list) => {
+            let numbers = fields::list_fields(list);
+            hand_out(&numbers, fields)
         }
     }
 }
@@ -118,7 +119,7 @@ pub extern "C" fn ed2k_read(kind: u8, bytes: &[u8], fields: &mut [u64]) -> u8
         5 => read_part(bytes, fields),
         6 => read_lone_query(bytes, fields),
         7 => read_lone_tags(bytes, fields),
-        _ => 4,
+        _ => KIND,
     }
 }
 
@@ -126,72 +127,72 @@ pub extern "C" fn ed2k_read(kind: u8, bytes: &[u8], fields: &mut [u64]) -> u8
 pub extern "C" fn ed2k_read_tag(bytes: &[u8], at: usize, fields: &mut [u64]) -> u8
     ensures { λ r. ⌜ TagRead (now (bytes .entry)) at (now (fields .entry)) (numbered r (now (fields .exit))) ⌝ }
 {
-    let t = tags::read_tag(bytes, Cursor { at });
-    let TagStep::Got(tag, next) = t else {
-        return t.fault().number();
+    let tag_step = tags::read_tag(bytes, Cursor { at });
+    let TagStep::Got(tag, next) = tag_step else {
+        return tag_step.fault().number();
     };
-    let f = fields::tag_fields(tag, next);
-    hand_out(&f, fields)
+    let numbers = fields::tag_fields(tag, next);
+    hand_out(&numbers, fields)
 }
 
 #[no_mangle]
 pub extern "C" fn ed2k_read_address(bytes: &[u8], at: usize, fields: &mut [u64]) -> u8
     ensures { λ r. ⌜ numbered r (now (fields .exit)) ≡ addressRead (decodeAddress (now (bytes .entry)) at) (now (fields .entry)) ⌝ }
 {
-    let a = records::read_address(bytes, Cursor { at });
-    let AddressStep::Got(address, next) = a else {
-        return a.fault().number();
+    let address_step = records::read_address(bytes, Cursor { at });
+    let AddressStep::Got(address, next) = address_step else {
+        return address_step.fault().number();
     };
-    let f = fields::address_fields(address, next);
-    hand_out(&f, fields)
+    let numbers = fields::address_fields(address, next);
+    hand_out(&numbers, fields)
 }
 
 #[no_mangle]
 pub extern "C" fn ed2k_read_record(bytes: &[u8], at: usize, fields: &mut [u64]) -> u8
     ensures { λ r. ⌜ RecordRead (now (bytes .entry)) at (now (fields .entry)) (numbered r (now (fields .exit))) ⌝ }
 {
-    let r = records::read_record(bytes, Cursor { at });
-    let RecordStep::Got(record, next) = r else {
-        return r.fault().number();
+    let record_step = records::read_record(bytes, Cursor { at });
+    let RecordStep::Got(record, next) = record_step else {
+        return record_step.fault().number();
     };
-    let f = fields::record_fields(record, next);
-    hand_out(&f, fields)
+    let numbers = fields::record_fields(record, next);
+    hand_out(&numbers, fields)
 }
 
 #[no_mangle]
 pub extern "C" fn ed2k_read_file_entry(bytes: &[u8], at: usize, fields: &mut [u64]) -> u8
     ensures { λ r. ⌜ FileEntryRead (now (bytes .entry)) at (now (fields .entry)) (numbered r (now (fields .exit))) ⌝ }
 {
-    let e = met::read_file_entry(bytes, Cursor { at });
-    let FileEntryStep::Got(entry, next) = e else {
-        return e.fault().number();
+    let entry_step = met::read_file_entry(bytes, Cursor { at });
+    let FileEntryStep::Got(entry, next) = entry_step else {
+        return entry_step.fault().number();
     };
-    let f = fields::file_entry_fields(entry, next);
-    hand_out(&f, fields)
+    let numbers = fields::file_entry_fields(entry, next);
+    hand_out(&numbers, fields)
 }
 
 #[no_mangle]
 pub extern "C" fn ed2k_read_server_entry(bytes: &[u8], at: usize, fields: &mut [u64]) -> u8
     ensures { λ r. ⌜ ServerEntryRead (now (bytes .entry)) at (now (fields .entry)) (numbered r (now (fields .exit))) ⌝ }
 {
-    let e = met::read_server_entry(bytes, Cursor { at });
-    let ServerEntryStep::Got(entry, next) = e else {
-        return e.fault().number();
+    let entry_step = met::read_server_entry(bytes, Cursor { at });
+    let ServerEntryStep::Got(entry, next) = entry_step else {
+        return entry_step.fault().number();
     };
-    let f = fields::server_entry_fields(entry, next);
-    hand_out(&f, fields)
+    let numbers = fields::server_entry_fields(entry, next);
+    hand_out(&numbers, fields)
 }
 
 #[no_mangle]
 pub extern "C" fn ed2k_read_query_node(bytes: &[u8], at: usize, fields: &mut [u64]) -> u8
     ensures { λ r. ⌜ NodeRead (now (bytes .entry)) at (now (fields .entry)) (numbered r (now (fields .exit))) ⌝ }
 {
-    let n = query::read_node(bytes, Cursor { at });
-    let NodeStep::Got(node, next) = n else {
-        return n.fault().number();
+    let node_step = query::read_node(bytes, Cursor { at });
+    let NodeStep::Got(node, next) = node_step else {
+        return node_step.fault().number();
     };
-    let f = fields::node_fields(node, next);
-    hand_out(&f, fields)
+    let numbers = fields::node_fields(node, next);
+    hand_out(&numbers, fields)
 }
 
 #[no_mangle]

@@ -3,6 +3,8 @@ ghost use Rattle.format.specs.Tables.{lookup};
 ghost use Rattle.ed2k.specs.Calls.{kinds};
 ghost use Rattle.ed2k.specs.Calls.{leaves};
 ghost use Rattle.ed2k.specs.Calls.{WriteOf, PacketWrites, KnownWrites, ServerWrites, PartWrites, QueryWrites, TagListWrites};
+use output::CHOICE;
+use output::KIND;
 use packets::Link;
 
 // Writing.
@@ -12,86 +14,86 @@ use packets::Link;
 fn write_link(link: Link, bytes: &[u8], given: &[u64], output: &mut [u8], written: &mut usize) -> u8
     ensures { λ r. ⌜ PacketWrites link (now (bytes .entry)) (now (given .entry)) (now (output .entry)) (leaves r (now (written .exit)) (now (output .exit))) ⌝ }
 {
-    let p = fields::packet_given(given);
-    let f = fields::packet_fields(p);
-    if !fields::same_fields(&f, given) {
+    let packet = fields::packet_given(given);
+    let numbers = fields::given_fields(packet);
+    if !fields::same_fields(&numbers, given) {
         *written = 0;
-        return 5;
+        return CHOICE;
     }
-    let a = write_packets::write_packet(bytes, link, p, output);
-    *written = a.length;
-    a.number
+    let wrote = write_packets::write_packet(bytes, link, packet, output);
+    *written = wrote.length;
+    wrote.number
 }
 
 fn write_known(bytes: &[u8], given: &[u64], output: &mut [u8], written: &mut usize) -> u8
     ensures { λ r. ⌜ KnownWrites (now (bytes .entry)) (now (given .entry)) (now (output .entry)) (leaves r (now (written .exit)) (now (output .exit))) ⌝ }
 {
-    let m = fields::known_given(given);
-    let f = fields::known_fields(m);
-    if !fields::same_fields(&f, given) {
+    let known = fields::known_given(given);
+    let numbers = fields::known_fields(known);
+    if !fields::same_fields(&numbers, given) {
         *written = 0;
-        return 5;
+        return CHOICE;
     }
-    let a = write_met::write_known_met(bytes, m, output);
-    *written = a.length;
-    a.number
+    let wrote = write_met::write_known_met(bytes, known, output);
+    *written = wrote.length;
+    wrote.number
 }
 
 fn write_server(bytes: &[u8], given: &[u64], output: &mut [u8], written: &mut usize) -> u8
     ensures { λ r. ⌜ ServerWrites (now (bytes .entry)) (now (given .entry)) (now (output .entry)) (leaves r (now (written .exit)) (now (output .exit))) ⌝ }
 {
-    let m = fields::server_given(given);
-    let f = fields::server_fields(m);
-    if !fields::same_fields(&f, given) {
+    let server = fields::server_given(given);
+    let numbers = fields::server_fields(server);
+    if !fields::same_fields(&numbers, given) {
         *written = 0;
-        return 5;
+        return CHOICE;
     }
-    let a = write_met::write_server_met(bytes, m, output);
-    *written = a.length;
-    a.number
+    let wrote = write_met::write_server_met(bytes, server, output);
+    *written = wrote.length;
+    wrote.number
 }
 
 fn write_part(bytes: &[u8], given: &[u64], output: &mut [u8], written: &mut usize) -> u8
     ensures { λ r. ⌜ PartWrites (now (bytes .entry)) (now (given .entry)) (now (output .entry)) (leaves r (now (written .exit)) (now (output .exit))) ⌝ }
 {
-    let m = fields::part_given(given);
+    let part = fields::part_given(given);
     let size = fields::size_given(given);
-    let f = fields::part_fields(m, size);
-    if !fields::same_fields(&f, given) {
+    let numbers = fields::part_fields(part, size);
+    if !fields::same_fields(&numbers, given) {
         *written = 0;
-        return 5;
+        return CHOICE;
     }
-    let a = write_part::write_part_met(bytes, m, output);
-    *written = a.length;
-    a.number
+    let wrote = write_part::write_part_met(bytes, part, output);
+    *written = wrote.length;
+    wrote.number
 }
 
 fn write_lone_query(bytes: &[u8], given: &[u64], output: &mut [u8], written: &mut usize) -> u8
     ensures { λ r. ⌜ QueryWrites (now (bytes .entry)) (now (given .entry)) (now (output .entry)) (leaves r (now (written .exit)) (now (output .exit))) ⌝ }
 {
-    let q = fields::query_given(given);
-    let f = fields::query_fields(q);
-    if !fields::same_fields(&f, given) {
+    let query = fields::query_given(given);
+    let numbers = fields::query_fields(query);
+    if !fields::same_fields(&numbers, given) {
         *written = 0;
-        return 5;
+        return CHOICE;
     }
-    let a = write_items::write_query(bytes, q, output);
-    *written = a.length;
-    a.number
+    let wrote = write_items::write_query(bytes, query, output);
+    *written = wrote.length;
+    wrote.number
 }
 
 fn write_lone_tags(bytes: &[u8], given: &[u64], output: &mut [u8], written: &mut usize) -> u8
     ensures { λ r. ⌜ TagListWrites (now (bytes .entry)) (now (given .entry)) (now (output .entry)) (leaves r (now (written .exit)) (now (output .exit))) ⌝ }
 {
-    let l = fields::list_given(given);
-    let f = fields::list_fields(l);
-    if !fields::same_fields(&f, given) {
+    let list = fields::list_given(given);
+    let numbers = fields::list_fields(list);
+    if !fields::same_fields(&numbers, given) {
         *written = 0;
-        return 5;
+        return CHOICE;
     }
-    let a = write_items::write_tag_list(bytes, l, output);
-    *written = a.length;
-    a.number
+    let wrote = write_items::write_tag_list(bytes, list, output);
+    *written = wrote.length;
+    wrote.number
 }
 
 #[no_mangle]
@@ -115,7 +117,7 @@ pub extern "C" fn ed2k_write(
         7 => write_lone_tags(bytes, given, output, written),
         _ => {
             *written = 0;
-            4
+            KIND
         }
     }
 }

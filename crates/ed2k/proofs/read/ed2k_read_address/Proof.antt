@@ -1,6 +1,6 @@
 use denote.Ref.{now}
-use mathlib.Core.Path.{refl, ap, _∙_}
-use Rattle.ed2k.specs.Calls.{handedOut}
+use mathlib.Core.Path.{refl}
+use Rattle.ed2k.proofs.Links.{handed}
 use borrow.Author.Needs.{needs}
 use Rattle.ed2k.proofs.read.ed2k_read_address.Statement.{statement}
 use Rattle.ed2k.proofs.read.ed2k_read_address.Tie as tie
@@ -8,8 +8,8 @@ use Rattle.ed2k.proofs.read.ed2k_read_address.Tie as tie
 read-address-requires : tie.Need-read-address-requires
 read-address-requires c κs = search needs
 
-enum-known-a : tie.Need-enum-known-a
-enum-known-a c = search needs
+enum-known-address-step : tie.Need-enum-known-address-step
+enum-known-address-step c = search needs
 
 enum-told : tie.Need-enum-told
 enum-told c = search needs
@@ -22,8 +22,7 @@ number-requires c κs = search needs
 
 returns : tie.Need-returns
 returns c =
-    let a = c .before .before .before .before .read-address in
-    rw (c .number .ensures, c .before .fault .ensures, ← a .ensures, c .before .before .enum-told .given .1) refl
+    rw (c .number .ensures, c .before .fault .ensures, ← c .before .before .before .before .read-address .ensures, c .before .before .enum-told .given .1) refl
 
 address-fields-requires : tie.Need-address-fields-requires
 address-fields-requires c κs = search needs
@@ -39,17 +38,18 @@ same-length c = search needs
 
 returns-2 : tie.Need-returns-2
 returns-2 c =
-    let a = c .before .before .before .before .before .before .before .before .before .read-address in
-    let old = now (c .before .before .before .before .before .before .before .before .before .before .before .before .args .fields) in
-    let out = c .before .before .hand-out .ensures ∙ ap (λ l. handedOut l old) (c .before .before .before .before .before .address-fields .ensures) in
-    rw (← a .ensures, c .before .before .before .before .before .before .before .a .given .1) out
+    let out = c .before .before in
+    let made = out .before .before .before in
+    let read = made .before .before .before .before .read-address in
+    let old = now (made .before .before .before .before .before .before .before .args .fields) in
+    rw (← read .ensures, made .before .before .address-step .given .1) (handed old (out .hand-out .ensures) (made .address-fields .ensures))
 
 pub ed2k-read-address-spec : {M : Type 1} → statement M
 ed2k-read-address-spec =
     tie.close
     (tie.spec
     read-address-requires
-    enum-known-a
+    enum-known-address-step
     enum-told
     fault-requires
     number-requires

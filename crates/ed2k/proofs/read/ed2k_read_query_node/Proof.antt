@@ -1,6 +1,6 @@
 use denote.Ref.{now}
-use mathlib.Core.Path.{refl, ap, _∙_}
-use Rattle.ed2k.specs.Calls.{handedOut}
+use mathlib.Core.Path.{refl}
+use Rattle.ed2k.proofs.Links.{handed}
 use borrow.Author.Needs.{needs}
 use Rattle.ed2k.proofs.read.ed2k_read_query_node.Statement.{statement}
 use Rattle.ed2k.proofs.read.ed2k_read_query_node.Tie as tie
@@ -8,8 +8,8 @@ use Rattle.ed2k.proofs.read.ed2k_read_query_node.Tie as tie
 read-node-requires : tie.Need-read-node-requires
 read-node-requires c κs = search needs
 
-enum-known-n : tie.Need-enum-known-n
-enum-known-n c = search needs
+enum-known-node-step : tie.Need-enum-known-node-step
+enum-known-node-step c = search needs
 
 enum-told : tie.Need-enum-told
 enum-told c = search needs
@@ -22,8 +22,8 @@ number-requires c κs = search needs
 
 returns : tie.Need-returns
 returns c =
-    let a = c .before .before .before .before .read-node in
-    (a .result, a .ensures .0, a .ensures .1, rw (c .number .ensures, c .before .fault .ensures, c .before .before .enum-told .given .1) refl)
+    let read = c .before .before .before .before .read-node in
+    (read .result, read .ensures .0, read .ensures .1, rw (c .number .ensures, c .before .fault .ensures, c .before .before .enum-told .given .1) refl)
 
 node-fields-requires : tie.Need-node-fields-requires
 node-fields-requires c κs = search needs
@@ -39,17 +39,18 @@ same-length c = search needs
 
 returns-2 : tie.Need-returns-2
 returns-2 c =
-    let a = c .before .before .before .before .before .before .before .before .before .read-node in
-    let old = now (c .before .before .before .before .before .before .before .before .before .before .before .before .args .fields) in
-    let out = c .before .before .hand-out .ensures ∙ ap (λ l. handedOut l old) (c .before .before .before .before .before .node-fields .ensures) in
-    (a .result, a .ensures .0, a .ensures .1, rw (c .before .before .before .before .before .before .before .n .given .1) out)
+    let out = c .before .before in
+    let made = out .before .before .before in
+    let read = made .before .before .before .before .read-node in
+    let old = now (made .before .before .before .before .before .before .before .args .fields) in
+    (read .result, read .ensures .0, read .ensures .1, rw (made .before .before .node-step .given .1) (handed old (out .hand-out .ensures) (made .node-fields .ensures)))
 
 pub ed2k-read-query-node-spec : {M : Type 1} → statement M
 ed2k-read-query-node-spec =
     tie.close
     (tie.spec
     read-node-requires
-    enum-known-n
+    enum-known-node-step
     enum-told
     fault-requires
     number-requires

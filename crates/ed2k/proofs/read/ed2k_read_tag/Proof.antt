@@ -1,6 +1,6 @@
 use denote.Ref.{now}
-use mathlib.Core.Path.{refl, ap, _∙_}
-use Rattle.ed2k.specs.Calls.{handedOut}
+use mathlib.Core.Path.{refl}
+use Rattle.ed2k.proofs.Links.{handed}
 use borrow.Author.Needs.{needs}
 use Rattle.ed2k.proofs.read.ed2k_read_tag.Statement.{statement}
 use Rattle.ed2k.proofs.read.ed2k_read_tag.Tie as tie
@@ -8,8 +8,8 @@ use Rattle.ed2k.proofs.read.ed2k_read_tag.Tie as tie
 read-tag-requires : tie.Need-read-tag-requires
 read-tag-requires c κs = search needs
 
-enum-known-t : tie.Need-enum-known-t
-enum-known-t c = search needs
+enum-known-tag-step : tie.Need-enum-known-tag-step
+enum-known-tag-step c = search needs
 
 enum-told : tie.Need-enum-told
 enum-told c = search needs
@@ -22,8 +22,8 @@ number-requires c κs = search needs
 
 returns : tie.Need-returns
 returns c =
-    let a = c .before .before .before .before .read-tag in
-    (a .result, a .ensures .0, a .ensures .1, rw (c .number .ensures, c .before .fault .ensures, c .before .before .enum-told .given .1) refl)
+    let read = c .before .before .before .before .read-tag in
+    (read .result, read .ensures .0, read .ensures .1, rw (c .number .ensures, c .before .fault .ensures, c .before .before .enum-told .given .1) refl)
 
 tag-fields-requires : tie.Need-tag-fields-requires
 tag-fields-requires c κs = search needs
@@ -39,17 +39,18 @@ same-length c = search needs
 
 returns-2 : tie.Need-returns-2
 returns-2 c =
-    let a = c .before .before .before .before .before .before .before .before .before .read-tag in
-    let old = now (c .before .before .before .before .before .before .before .before .before .before .before .before .args .fields) in
-    let out = c .before .before .hand-out .ensures ∙ ap (λ l. handedOut l old) (c .before .before .before .before .before .tag-fields .ensures) in
-    (a .result, a .ensures .0, a .ensures .1, rw (c .before .before .before .before .before .before .before .t .given .1) out)
+    let out = c .before .before in
+    let made = out .before .before .before in
+    let read = made .before .before .before .before .read-tag in
+    let old = now (made .before .before .before .before .before .before .before .args .fields) in
+    (read .result, read .ensures .0, read .ensures .1, rw (made .before .before .tag-step .given .1) (handed old (out .hand-out .ensures) (made .tag-fields .ensures)))
 
 pub ed2k-read-tag-spec : {M : Type 1} → statement M
 ed2k-read-tag-spec =
     tie.close
     (tie.spec
     read-tag-requires
-    enum-known-t
+    enum-known-tag-step
     enum-told
     fault-requires
     number-requires

@@ -1,7 +1,6 @@
 use denote.Ref.{now}
-use mathlib.Core.Path.{refl, ap, _∙_}
-use Rattle.ed2k.specs.Calls.{handedOut}
-use Rattle.ed2k.proofs.Links.{known-read}
+use mathlib.Core.Path.{refl}
+use Rattle.ed2k.proofs.Links.{handed, known-read}
 use borrow.Author.Needs.{needs}
 use Rattle.ed2k.proofs.read.read_known.Statement.{statement}
 use Rattle.ed2k.proofs.read.read_known.Tie as tie
@@ -9,11 +8,11 @@ use Rattle.ed2k.proofs.read.read_known.Tie as tie
 read-known-met-requires : tie.Need-read-known-met-requires
 read-known-met-requires c κs = search needs
 
-enum-known-a : tie.Need-enum-known-a
-enum-known-a c = search needs
+enum-known-answer : tie.Need-enum-known-answer
+enum-known-answer c = search needs
 
-enum-known-a-2 : tie.Need-enum-known-a-2
-enum-known-a-2 c = search needs
+enum-known-answer-2 : tie.Need-enum-known-answer-2
+enum-known-answer-2 c = search needs
 
 known-fields-requires : tie.Need-known-fields-requires
 known-fields-requires c κs = search needs
@@ -26,28 +25,29 @@ hand-out-requires c κs = search needs
 
 returns : tie.Need-returns
 returns c =
-    let a = c .before .before .before .read-known-met in
+    let read = c .before .before .before .read-known-met in
     let given = c .before .before .before .before .before .before .args in
-    known-read (now (given .bytes)) (now (given .fields)) (a .result) _ (a .ensures .0) (a .ensures .1 .0) (rw (c .before .a .given .1) refl)
+    known-read (now (given .bytes)) (now (given .fields)) (read .result) _ (read .ensures .0) (read .ensures .1 .0) (rw (c .before .answer .given .1) refl)
 
 same-length : tie.Need-same-length
 same-length c = search needs
 
 returns-2 : tie.Need-returns-2
 returns-2 c =
-    let a = c .before .before .before .before .before .before .before .before .before .read-known-met in
-    let given = c .before .before .before .before .before .before .before .before .before .before .before .before .args in
-    let old = now (given .fields) in
-    let out = c .before .before .hand-out .ensures ∙ ap (λ l. handedOut l old) (c .before .before .before .before .before .known-fields .ensures) in
-    known-read (now (given .bytes)) old (a .result) _ (a .ensures .0) (a .ensures .1 .0) (rw (c .before .before .before .before .before .before .before .a2 .given .1) out)
+    let out = c .before .before in
+    let made = out .before .before .before in
+    let read = made .before .before .before .before .read-known-met in
+    let given = made .before .before .before .before .before .before .before .args in
+    known-read (now (given .bytes)) (now (given .fields)) (read .result) _ (read .ensures .0) (read .ensures .1 .0)
+    (rw (made .before .before .answer2 .given .1) (handed (now (given .fields)) (out .hand-out .ensures) (made .known-fields .ensures)))
 
 pub read-known-spec : {M : Type 1} → statement M
 read-known-spec =
     tie.close
     (tie.spec
     read-known-met-requires
-    enum-known-a
-    enum-known-a-2
+    enum-known-answer
+    enum-known-answer-2
     known-fields-requires
     slice-aggregate-hand-out
     hand-out-requires

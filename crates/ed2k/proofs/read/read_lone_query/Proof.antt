@@ -1,6 +1,6 @@
 use denote.Ref.{now}
-use mathlib.Core.Path.{refl, ap, _∙_}
-use Rattle.ed2k.specs.Calls.{handedOut}
+use mathlib.Core.Path.{refl}
+use Rattle.ed2k.proofs.Links.{handed}
 use borrow.Author.Needs.{needs}
 use Rattle.ed2k.proofs.read.read_lone_query.Statement.{statement}
 use Rattle.ed2k.proofs.read.read_lone_query.Tie as tie
@@ -8,11 +8,11 @@ use Rattle.ed2k.proofs.read.read_lone_query.Tie as tie
 read-lone-query-requires : tie.Need-read-lone-query-requires
 read-lone-query-requires c κs = search needs
 
-enum-known-a : tie.Need-enum-known-a
-enum-known-a c = search needs
+enum-known-answer : tie.Need-enum-known-answer
+enum-known-answer c = search needs
 
-enum-known-a-2 : tie.Need-enum-known-a-2
-enum-known-a-2 c = search needs
+enum-known-answer-2 : tie.Need-enum-known-answer-2
+enum-known-answer-2 c = search needs
 
 query-fields-requires : tie.Need-query-fields-requires
 query-fields-requires c κs = search needs
@@ -25,26 +25,27 @@ hand-out-requires c κs = search needs
 
 returns : tie.Need-returns
 returns c =
-    let a = c .before .before .before .read-lone-query in
-    (a .result, a .ensures .0, a .ensures .1 .0, rw (c .before .a .given .1) refl)
+    let read = c .before .before .before .read-lone-query in
+    (read .result, read .ensures .0, read .ensures .1 .0, rw (c .before .answer .given .1) refl)
 
 same-length : tie.Need-same-length
 same-length c = search needs
 
 returns-2 : tie.Need-returns-2
 returns-2 c =
-    let a = c .before .before .before .before .before .before .before .before .before .read-lone-query in
-    let old = now (c .before .before .before .before .before .before .before .before .before .before .before .before .args .fields) in
-    let out = c .before .before .hand-out .ensures ∙ ap (λ l. handedOut l old) (c .before .before .before .before .before .query-fields .ensures) in
-    (a .result, a .ensures .0, a .ensures .1 .0, rw (c .before .before .before .before .before .before .before .a2 .given .1) out)
+    let out = c .before .before in
+    let made = out .before .before .before in
+    let read = made .before .before .before .before .read-lone-query in
+    let old = now (made .before .before .before .before .before .before .before .args .fields) in
+    (read .result, read .ensures .0, read .ensures .1 .0, rw (made .before .before .answer2 .given .1) (handed old (out .hand-out .ensures) (made .query-fields .ensures)))
 
 pub read-lone-query-spec : {M : Type 1} → statement M
 read-lone-query-spec =
     tie.close
     (tie.spec
     read-lone-query-requires
-    enum-known-a
-    enum-known-a-2
+    enum-known-answer
+    enum-known-answer-2
     query-fields-requires
     slice-aggregate-hand-out
     hand-out-requires
