@@ -15,7 +15,7 @@ fn write_link(link: Link, bytes: &[u8], given: &[u64], output: &mut [u8], writte
     ensures { λ r. ⌜ PacketWrites link (now (bytes .entry)) (now (given .entry)) (now (output .entry)) (leaves r (now (written .exit)) (now (output .exit))) ⌝ }
 {
     let packet = fields::packet_given(given);
-    let numbers = fields::given_fields(packet);
+    let numbers = fields::packet_fields(packet);
     if !fields::same_fields(&numbers, given) {
         *written = 0;
         return CHOICE;

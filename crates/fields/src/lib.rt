@@ -30,7 +30,6 @@ pub use message::part_given;
 pub use message::query_given;
 pub use message::server_given;
 pub use message::size_given;
-pub use packet::given_fields;
 pub use packet::packet_fields;
 
 fn same_numbers(a: &[u64], b: &[u64]) -> bool
