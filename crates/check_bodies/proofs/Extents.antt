@@ -26,7 +26,7 @@ use Rattle.write_items.specs.There.{bothThere, hashThere, itemsThere, placeTher
 use Rattle.write_items.proofs.There.{is-there, both-second, run-size}
 use Rattle.format.specs.RoundTrip.{IsThere}
 use Rattle.check_bodies.specs.declared.Extent.{Extent}
-use Rattle.check_bodies.specs.Extents.{Adds, BothAdd, Extends, NoEnd, absent, behindBytes, bothExtents, listBound, sized, tooLong}
+use Rattle.check_bodies.specs.Extents.{Adds, BothAdd, Extends, NoEnd, absent, bytesAfter, bothExtents, listBound, sized, tooLong}
 use Rattle.check_bodies.specs.Bodies.{BodyChecked, BodyEnds, BodyRule, EndsAt, bodyThere, bytesOf, queryThere}
 use Rattle.check_bodies.proofs.Places.{QueryListed}
 
@@ -36,10 +36,10 @@ module _ {there : Outcome (Unit {0})} {Fits : Type 0} {size : ℕ} {Ends : ℕ �
   adds k (tooLong t n) h = tt
   adds k (sized n end t f s b p) h = omega arith
 
-  pub behind-extends : {e : Extent} (k : ℕ) → Extends there Fits size Ends bound e → Extends there Fits (k + size) Ends (k + bound) (behindBytes k e)
-  behind-extends k (absent f p) = absent f p
-  behind-extends k (tooLong t n) = tooLong t n
-  behind-extends k (sized n end t f s b p) = sized (k + n) end t f (ap (λ n. k + n) s) (omega arith) p
+  pub after-extends : {e : Extent} (k : ℕ) → Extends there Fits size Ends bound e → Extends there Fits (k + size) Ends (k + bound) (bytesAfter k e)
+  after-extends k (absent f p) = absent f p
+  after-extends k (tooLong t n) = tooLong t n
+  after-extends k (sized n end t f s b p) = sized (k + n) end t f (ap (λ n. k + n) s) (omega arith) p
 
   pub recast : {e : Extent} {Fits′ : Type 0} {Ends′ : ℕ → Type 0} (size′ bound′ : ℕ) → (Fits → Fits′) → (Fits′ → Fits) → size ≡ size′ → ((end : ℕ) → Ends end → Ends′ end) → bound ≤ bound′ →
       Extends there Fits size Ends bound e → Extends there Fits′ size′ Ends′ bound′ e

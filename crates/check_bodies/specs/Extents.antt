@@ -34,16 +34,16 @@ Adds n Extent.TooLong = Unit {0}
 Adds n (Extent.Sized m end) = n + m < 18446744073709551616
 
 -- A part after n more bytes.
-abbrev pub behindBytes : ℕ → Extent → Extent
-behindBytes n (Extent.Absent k) = Extent.Absent k
-behindBytes n Extent.TooLong = Extent.TooLong
-behindBytes n (Extent.Sized m end) = Extent.Sized (n + m) end
+abbrev pub bytesAfter : ℕ → Extent → Extent
+bytesAfter n (Extent.Absent k) = Extent.Absent k
+bytesAfter n Extent.TooLong = Extent.TooLong
+bytesAfter n (Extent.Sized m end) = Extent.Sized (n + m) end
 
 -- A part after one that is too long.
-abbrev pub behindTooLong : Extent → Extent
-behindTooLong (Extent.Absent k) = Extent.Absent k
-behindTooLong Extent.TooLong = Extent.TooLong
-behindTooLong (Extent.Sized m end) = Extent.TooLong
+abbrev pub restTooLong : Extent → Extent
+restTooLong (Extent.Absent k) = Extent.Absent k
+restTooLong Extent.TooLong = Extent.TooLong
+restTooLong (Extent.Sized m end) = Extent.TooLong
 
 abbrev pub BothAdd : Extent → Extent → Type 0
 BothAdd (Extent.Absent k) b = Unit {0}
@@ -53,8 +53,8 @@ BothAdd (Extent.Sized n end) b = Adds n b
 -- Two parts: a place that does not hold what it should comes before a count that does not fit.
 abbrev pub bothExtents : Extent → Extent → Extent
 bothExtents (Extent.Absent k) b = Extent.Absent k
-bothExtents Extent.TooLong b = behindTooLong b
-bothExtents (Extent.Sized n end) b = behindBytes n b
+bothExtents Extent.TooLong b = restTooLong b
+bothExtents (Extent.Sized n end) b = bytesAfter n b
 
 -- The number of the rule that values break. Most bodies cannot break one: what lies at their places was decoded there.
 abbrev pub flagRule : ℕ → ℕ

@@ -14,7 +14,7 @@ ghost use Rattle.wire.specs.WireAnswers.{hashAt, itemsIn, placeBytes};
 ghost use Rattle.query.specs.QueryAnswers.{queryIn};
 ghost use Rattle.bodies.specs.BodyAnswers.{bodyIn};
 ghost use Rattle.write_items.specs.There.{bothThere, hashThere, itemsThere, placeThere};
-ghost use Rattle.check_bodies.specs.Extents.{Adds, BothAdd, Extends, NoEnd, behindBytes, behindTooLong, bothExtents, listBound};
+ghost use Rattle.check_bodies.specs.Extents.{Adds, BothAdd, Extends, NoEnd, bytesAfter, restTooLong, bothExtents, listBound};
 ghost use Rattle.check_bodies.specs.Extents.{Bounded, brokenRule, flagRule, formRule, rangeRule, rangesRule};
 ghost use Rattle.check_bodies.specs.declared.Extent.{Extent};
 ghost use Rattle.check_bodies.specs.Bodies.{BodyChecked, BodyEnds, EndsAt, bodyThere, bytesOf, queryThere};
@@ -65,9 +65,9 @@ enum Extent {
 }
 
 // So many bytes more.
-fn behind_bytes(more: usize, part: Extent) -> Extent
+fn bytes_after(more: usize, part: Extent) -> Extent
     requires { ⌜ Adds more part ⌝ }
-    ensures { λ r. ⌜ r ≡ behindBytes more part ⌝ }
+    ensures { λ r. ⌜ r ≡ bytesAfter more part ⌝ }
 {
     match part {
         Extent::Absent(number) => Extent::Absent(number),
@@ -76,8 +76,8 @@ fn behind_bytes(more: usize, part: Extent) -> Extent
     }
 }
 
-fn behind_too_long(part: Extent) -> Extent
-    ensures { λ r. ⌜ r ≡ behindTooLong part ⌝ }
+fn rest_too_long(part: Extent) -> Extent
+    ensures { λ r. ⌜ r ≡ restTooLong part ⌝ }
 {
     match part {
         Extent::Absent(number) => Extent::Absent(number),
@@ -93,8 +93,8 @@ fn both(first: Extent, second: Extent) -> Extent
 {
     match first {
         Extent::Absent(number) => Extent::Absent(number),
-        Extent::TooLong => behind_too_long(second),
-        Extent::Sized(size, _) => behind_bytes(size, second),
+        Extent::TooLong => rest_too_long(second),
+        Extent::Sized(size, _) => bytes_after(size, second),
     }
 }
 
@@ -333,7 +333,7 @@ fn entry_extent(src: &[u8], hash: usize, tags: Items) -> Extent
 {
     let hash_part = hash_extent(src, hash);
     let tags_part = tags_extent(src, tags);
-    behind_bytes(6, both(hash_part, tags_part))
+    bytes_after(6, both(hash_part, tags_part))
 }
 
 // A part of numbers alone.
@@ -365,17 +365,17 @@ fn body_extent(src: &[u8], b: Body) -> Extent
         Body::HashAddressTags(hash, _, tags) => entry_extent(src, hash, tags),
         Body::Record(file) => entry_extent(src, file.hash, file.tags),
         Body::Records(list) => records_extent(src, list),
-        Body::RecordsFlag(list, _) => behind_bytes(1, records_extent(src, list)),
-        Body::RecordAddress(file, _) => behind_bytes(6, entry_extent(src, file.hash, file.tags)),
-        Body::Hello(client, _) => behind_bytes(7, entry_extent(src, client.hash, client.tags)),
+        Body::RecordsFlag(list, _) => bytes_after(1, records_extent(src, list)),
+        Body::RecordAddress(file, _) => bytes_after(6, entry_extent(src, file.hash, file.tags)),
+        Body::Hello(client, _) => bytes_after(7, entry_extent(src, client.hash, client.tags)),
         Body::HashText(hash, text) => both(hash_extent(src, hash), text_extent(src, text)),
         Body::Hashset(hash, list) => both(hash_extent(src, hash), hashes_extent(src, list)),
-        Body::SendingPart(part) => behind_bytes(
+        Body::SendingPart(part) => bytes_after(
             8,
             both(hash_extent(src, part.hash), place_extent(src, part.data)),
         ),
-        Body::RequestParts(parts) => behind_bytes(24, hash_extent(src, parts.hash)),
-        Body::FileStatus(status) => behind_bytes(
+        Body::RequestParts(parts) => bytes_after(24, hash_extent(src, parts.hash)),
+        Body::FileStatus(status) => bytes_after(
             2,
             both(
                 hash_extent(src, status.hash),

@@ -110,8 +110,8 @@ nine tags = (there, λ h. rw (sole-none (sizes tags) (λ n e. h n (sizes-means n
     there e size h = no-scan size (rw (size-sizes size tags h) at e)
 
 -- 6: a gap tag after 64 whole lawful pairs.
-abbrev GapBehind64 : List GapPair → List Tag → Type 0
-GapBehind64 ps l = (64 ≤ length ps) × ((t : Tag) × ((rest : List Tag) × ((l ≡ t ∷ rest) × (NoGapTag t → ⊥))))
+abbrev GapAfter64 : List GapPair → List Tag → Type 0
+GapAfter64 ps l = (64 ≤ length ps) × ((t : Tag) × ((rest : List Tag) × ((l ≡ t ∷ rest) × (NoGapTag t → ⊥))))
 
 gap-role : (t : Tag) (r : Role) → Means t r → (r ≡ plain → ⊥) → NoGapTag t → ⊥
 gap-role t plain m h k = h refl
@@ -122,30 +122,30 @@ gap-role t (end d n) m h k = k d .1 (ap (λ t. t .name) m)
 not-both : Rule.gapCeiling ≡ Rule.order → ⊥
 not-both e = differ cc
 
-six-sound : (size : ℕ) (l : List Tag) (s : Progress) → scan size s l ≡ violates Rule.gapCeiling → Left size s l GapBehind64
+six-sound : (size : ℕ) (l : List Tag) (s : Progress) → scan size s l ≡ violates Rule.gapCeiling → Left size s l GapAfter64
 unfolding scan Good
 six-sound size [] (between ps) e = absurd (passes-violates e)
 six-sound size [] (within ps d n) e = absurd (not-both (sym (violates-same e)))
 six-sound size (t ∷ l) (between ps) e = go (andCheck-violates (step size (between ps) (role t)) (λ s. scan size s l) Rule.gapCeiling e) (λ s. six-sound size l s)
   where
-    now : Why (between ps) (role t) Rule.gapCeiling → Front size ps (t ∷ l) GapBehind64
+    now : Why (between ps) (role t) Rule.gapCeiling → Front size ps (t ∷ l) GapAfter64
     now (inl e) = absurd (not-both e)
     now (inr e) = record { new = []; front = []; rest = t ∷ l; here = refl; paired = done; good = tt; then = (e .1 .0, (t, (l, (refl, gap-role t (role t) (role-means t) (e .1 .1))))) }
 
     go : (step size (between ps) (role t) ≡ violates Rule.gapCeiling) ⊎ ((a : Progress) × ((step size (between ps) (role t) ≡ passes a) × (scan size a l ≡ violates Rule.gapCeiling))) →
-        ((s : Progress) → scan size s l ≡ violates Rule.gapCeiling → Left size s l GapBehind64) → Front size ps (t ∷ l) GapBehind64
+        ((s : Progress) → scan size s l ≡ violates Rule.gapCeiling → Left size s l GapAfter64) → Front size ps (t ∷ l) GapAfter64
     go (inl e) later = now (step-why size (between ps) (role t) Rule.gapCeiling e)
-    go (inr e) later = back-between size GapBehind64 t l ps (role t) (role-means t) (e .0) (e .1 .0) (later (e .0) (e .1 .1))
+    go (inr e) later = back-between size GapAfter64 t l ps (role t) (role-means t) (e .0) (e .1 .0) (later (e .0) (e .1 .1))
 six-sound size (t ∷ l) (within ps d n) e = go (andCheck-violates (step size (within ps d n) (role t)) (λ s. scan size s l) Rule.gapCeiling e) (λ s. six-sound size l s)
   where
-    now : Why (within ps d n) (role t) Rule.gapCeiling → Half size ps d n (t ∷ l) GapBehind64
+    now : Why (within ps d n) (role t) Rule.gapCeiling → Half size ps d n (t ∷ l) GapAfter64
     now (inl e) = absurd (not-both e)
     now (inr e) = absurd (e .1)
 
     go : (step size (within ps d n) (role t) ≡ violates Rule.gapCeiling) ⊎ ((a : Progress) × ((step size (within ps d n) (role t) ≡ passes a) × (scan size a l ≡ violates Rule.gapCeiling))) →
-        ((s : Progress) → scan size s l ≡ violates Rule.gapCeiling → Left size s l GapBehind64) → Half size ps d n (t ∷ l) GapBehind64
+        ((s : Progress) → scan size s l ≡ violates Rule.gapCeiling → Left size s l GapAfter64) → Half size ps d n (t ∷ l) GapAfter64
     go (inl e) later = now (step-why size (within ps d n) (role t) Rule.gapCeiling e)
-    go (inr e) later = back-within size GapBehind64 t l ps d n (role t) (role-means t) (e .0) (e .1 .0) (later (e .0) (e .1 .1))
+    go (inr e) later = back-within size GapAfter64 t l ps d n (role t) (role-means t) (e .0) (e .1 .0) (later (e .0) (e .1 .1))
 
 step-full : (size : ℕ) (ps : List GapPair) (t : Tag) → 64 ≤ length ps → (NoGapTag t → ⊥) → step size (between ps) (role t) ≡ violates Rule.gapCeiling
 unfolding step

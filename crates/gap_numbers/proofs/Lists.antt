@@ -48,9 +48,9 @@ kept-before x s e r h k =
     let m : min (x .end) s ≡ x .end = omega arith in
     rw (m, some-between (x .start) (x .end) h, none-between (max (x .start) e) (x .end) (omega arith)) refl
 
-kept-behind : (x : Gap) (s e : ℕ) → s < e → x .start < x .end → e ≤ x .start → remaining x s e ≡ x ∷ []
+kept-after : (x : Gap) (s e : ℕ) → s < e → x .start < x .end → e ≤ x .start → remaining x s e ≡ x ∷ []
 unfolding remaining
-kept-behind x s e r h k =
+kept-after x s e r h k =
     let m : max (x .start) e ≡ x .start = omega arith in
     rw (m, some-between (x .start) (x .end) h, none-between (x .start) (min (x .end) s) (omega arith)) refl
 
@@ -58,8 +58,8 @@ kept-behind x s e r h k =
 parts-within : (a b s e : ℕ) → a ≤ s → s < b → s < e → (s - a) + (b - e) + (min b e - s) ≡ b - a
 parts-within a b s e h k t = omega arith
 
-parts-behind : (a b s e : ℕ) → s < a → s < b → (s - a) + (b - max a e) + (min b e - a) ≡ b - a
-parts-behind a b s e h k = go (decLe a e)
+parts-after : (a b s e : ℕ) → s < a → s < b → (s - a) + (b - max a e) + (min b e - a) ≡ b - a
+parts-after a b s e h k = go (decLe a e)
   where
     inside : a ≤ e → (s - a) + (b - e) + (min b e - a) ≡ b - a
     inside t = omega arith
@@ -89,7 +89,7 @@ parts a b s e h = go (decLe b s) (decLe a s)
     go (no k) (no t) =
         let p : min b s ≡ s = omega arith in
         let q : max a s ≡ a = omega arith in
-        rw (p, q) (parts-behind a b s e (omega arith) (omega arith))
+        rw (p, q) (parts-after a b s e (omega arith) (omega arith))
 
 pub total-remaining : (x : Gap) (s e : ℕ) → s < e → total (remaining x s e) + (min (x .end) e - max (x .start) s) ≡ x .end - x .start
 unfolding remaining
@@ -107,18 +107,18 @@ one-remaining x s e h = rw (none-between (x .start) (min (x .end) s) (omega arit
 
 -- What is left of all gaps
 
-pub subtract-behind : (size : ℕ) (l : List Gap) (s e low : ℕ) → s < e → e ≤ low → Ordered size low l → subtract l s e ≡ l
+pub subtract-after : (size : ℕ) (l : List Gap) (s e low : ℕ) → s < e → e ≤ low → Ordered size low l → subtract l s e ≡ l
 unfolding Ordered subtract
-subtract-behind size [] s e low h k o = refl
-subtract-behind size (x ∷ l) s e low h k o =
-    rw (kept-behind x s e h (o .1) (omega arith), subtract-behind size l s e (suc (x .end)) h (omega arith) (o .3)) refl
+subtract-after size [] s e low h k o = refl
+subtract-after size (x ∷ l) s e low h k o =
+    rw (kept-after x s e h (o .1) (omega arith), subtract-after size l s e (suc (x .end)) h (omega arith) (o .3)) refl
 
-few-behind : (size low : ℕ) (l : List Gap) (s e : ℕ) → s ≤ low → Ordered size low l → length (subtract l s e) ≤ length l
+few-after : (size low : ℕ) (l : List Gap) (s e : ℕ) → s ≤ low → Ordered size low l → length (subtract l s e) ≤ length l
 unfolding Ordered subtract
-few-behind size low [] s e h o = omega arith
-few-behind size low (x ∷ l) s e h o =
+few-after size low [] s e h o = omega arith
+few-after size low (x ∷ l) s e h o =
     let r = one-remaining x s e (omega arith) in
-    let i = few-behind size (suc (x .end)) l s e (omega arith) (o .3) in
+    let i = few-after size (suc (x .end)) l s e (omega arith) (o .3) in
     simp length-append (omega arith)
 
 -- at most one gap more
@@ -131,7 +131,7 @@ one-more size low (x ∷ l) s e h o = go (one-more size (suc (x .end)) l s e h (
     go i (yes t) = rw (kept-before x s e h (o .1) (omega arith)) (omega arith)
     go i (no t) =
         let r = two-remaining x s e in
-        let j = few-behind size (suc (x .end)) l s e (omega arith) (o .3) in
+        let j = few-after size (suc (x .end)) l s e (omega arith) (o .3) in
         simp length-append (omega arith)
 
 pub ordered-drop : (size low : ℕ) (l : List Gap) (i : ℕ) → Ordered size low l → Ordered size 0 (drop i l)

@@ -13,7 +13,7 @@ use Rattle.gaps.specs.GapRecords.{lawfulRecord, missingCount}
 use Rattle.gaps.proofs.GapRecords.{gaps-length}
 use Rattle.gap_numbers.specs.Numbers.{pairNumbers, held, Judges}
 use Rattle.gap_numbers.specs.NumberSteps.{gapsIn, Holds, filled, putGap, putPiece, EndBy, Cut, Subtracted}
-use Rattle.gap_numbers.proofs.Lists.{total-append, kept-before, total-remaining, subtract-behind, one-more, ordered-drop}
+use Rattle.gap_numbers.proofs.Lists.{total-append, kept-before, total-remaining, subtract-after, one-more, ordered-drop}
 use Rattle.gap_numbers.proofs.Numbers.{gapAt, at, drop-in, take-in, length-filled, put-filled, put-between}
 
 length-gaps : (l : List ℕ) (n : ℕ) → Holds l n → length (gapsIn l) ≡ n
@@ -160,7 +160,7 @@ module _ (l : List ℕ) (n : ℕ) (h : Holds l n) (s e : ℕ) (r : s < e) (i cou
       go (yes k) =
           let o = in-order l n h i k in
           let p : Ordered (getD l 0 0) e (gapAt l i ∷ drop (i + 1) (gapsIn l)) = (behind k, o .1, o .2, o .3) in
-          rw (first l n h i k) (subtract-behind (getD l 0 0) (gapAt l i ∷ drop (i + 1) (gapsIn l)) s e e r (omega arith) p)
+          rw (first l n h i k) (subtract-after (getD l 0 0) (gapAt l i ∷ drop (i + 1) (gapsIn l)) s e e r (omega arith) p)
       go (no k) = rw (drop-of-length-le (gapsIn l) {i = i} (omega (arith, length-gaps l n h))) refl
 
   all-kept : c .kept ++ drop i (gapsIn l) ≡ subtract (gapsIn l) s e

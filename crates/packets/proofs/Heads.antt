@@ -9,12 +9,12 @@ use Rattle.format.proofs.Differ.{differ}
 use Rattle.wire.proofs.Loops.{ended-got, ended-refused}
 use Rattle.packets.specs.declared.Link.{Link}
 use Rattle.packets.specs.declared.HeadStep.{HeadStep}
-use Rattle.packets.specs.PacketAnswers.{decodeFrame, decodeLink, headMeaning, opcodesOf, packetBehind}
+use Rattle.packets.specs.PacketAnswers.{decodeFrame, decodeLink, headMeaning, opcodesOf, packetAfter}
 
-behind-opcode : (table : Opcodes) (s : List ℕ) (at : ℕ) (r : HeadStep) → headMeaning r ≡ decodeOpcode table s at →
-    packetBehind s r ≡ (decodeOpcode table >>= (λ head. decodeBody (head .1) >>= (λ body. pure (record { opening = 0xE3; opcode = head .0; body = body })))) s at
-behind-opcode table s at (HeadStep.Got n shape c) e = rw (← e) refl
-behind-opcode table s at (HeadStep.Refused f) e = rw (← e) refl
+after-opcode : (table : Opcodes) (s : List ℕ) (at : ℕ) (r : HeadStep) → headMeaning r ≡ decodeOpcode table s at →
+    packetAfter s r ≡ (decodeOpcode table >>= (λ head. decodeBody (head .1) >>= (λ body. pure (record { opening = 0xE3; opcode = head .0; body = body })))) s at
+after-opcode table s at (HeadStep.Got n shape c) e = rw (← e) refl
+after-opcode table s at (HeadStep.Refused f) e = rw (← e) refl
 
 module _ (s : List ℕ) where
   pub no-opening : (link : Link) {f : Fault} → refused f ≡ decodeOpening (0xE3 ∷ []) s 0 → refused f ≡ decodeLink link s 0
@@ -31,8 +31,8 @@ module _ (s : List ℕ) where
     no-frame Link.Udp e = differ cc
 
     pub after-frame : (link : Link) {next : ℕ} (r : HeadStep) → got tt next ≡ decodeFrame link s at →
-        headMeaning r ≡ decodeOpcode (opcodesOf link) s next → packetBehind s r ≡ decodeLink link s 0
+        headMeaning r ≡ decodeOpcode (opcodesOf link) s next → packetAfter s r ≡ decodeLink link s 0
     unfolding decodeTcp decodeUdp
-    after-frame Link.Server r e h = rw (← opened, ← (ended-got _ e .1)) (behind-opcode _ s _ r h)
-    after-frame Link.Client r e h = rw (← opened, ← (ended-got _ e .1)) (behind-opcode _ s _ r h)
-    after-frame Link.Udp {next} r e h = let n : at ≡ next = cc in rw (← opened, n) (behind-opcode _ s _ r h)
+    after-frame Link.Server r e h = rw (← opened, ← (ended-got _ e .1)) (after-opcode _ s _ r h)
+    after-frame Link.Client r e h = rw (← opened, ← (ended-got _ e .1)) (after-opcode _ s _ r h)
+    after-frame Link.Udp {next} r e h = let n : at ≡ next = cc in rw (← opened, n) (after-opcode _ s _ r h)

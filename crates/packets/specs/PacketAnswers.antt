@@ -44,9 +44,9 @@ headMeaning (HeadStep.Got n s c) = got (n, shapeOf s) (c .at)
 headMeaning (HeadStep.Refused f) = refused (faultMeaning f)
 
 -- The packet whose head was read: its body lies after.
-abbrev pub packetBehind : List ℕ → HeadStep → Outcome messages.Packet
-packetBehind s (HeadStep.Got n shape c) = (decodeBody (shapeOf shape) >>= (λ body. pure (record { opening = 0xE3; opcode = n; body = body }))) s (c .at)
-packetBehind s (HeadStep.Refused f) = refused (faultMeaning f)
+abbrev pub packetAfter : List ℕ → HeadStep → Outcome messages.Packet
+packetAfter s (HeadStep.Got n shape c) = (decodeBody (shapeOf shape) >>= (λ body. pure (record { opening = 0xE3; opcode = n; body = body }))) s (c .at)
+packetAfter s (HeadStep.Refused f) = refused (faultMeaning f)
 
 abbrev pub packetIn : List ℕ → Packet → messages.Packet
 packetIn s p = record { opening = p .opening; opcode = p .opcode; body = bodyIn s (p .body) }

@@ -11,7 +11,7 @@ ghost use Rattle.format.specs.Messages as messages;
 ghost use Rattle.format.specs.Decoding.{message, ends};
 ghost use Rattle.format.specs.PacketOrder.{decodeOpening, decodeLength, decodeOpcode};
 ghost use Rattle.wire.specs.WireAnswers.{byteMeaning, doneMeaning};
-ghost use Rattle.packets.specs.PacketAnswers.{opcodesOf, decodeLink, decodeFrame, shapeMeaning, headMeaning, packetBehind};
+ghost use Rattle.packets.specs.PacketAnswers.{opcodesOf, decodeLink, decodeFrame, shapeMeaning, headMeaning, packetAfter};
 ghost use Rattle.packets.specs.PacketAnswers.{packetReply, PacketPlaced, linkReply, LinkAccepts};
 ghost use Rattle.packets.specs.PacketAnswers.{headFault};
 use bodies::Body;
@@ -231,7 +231,7 @@ fn read_opcode(s: &[u8], c: Cursor, link: Link) -> HeadStep
 // The head of a packet. The opcode is read in one call for all links: a function with one caller is compiled into it, so that the code of
 // the opcode goes straight on to that of the body.
 fn read_head(s: &[u8], link: Link) -> HeadStep
-    ensures { λ r. ⌜ packetBehind (now (s .entry)) r ≡ decodeLink link (now (s .entry)) 0 ⌝ }
+    ensures { λ r. ⌜ packetAfter (now (s .entry)) r ≡ decodeLink link (now (s .entry)) 0 ⌝ }
 {
     let opening_step = read_opening(s, Cursor { at: 0 });
     let ByteStep::Got(_, after_opening) = opening_step else {

@@ -26,7 +26,7 @@ use Rattle.format.proofs.PartTags.{same-true}
 use Rattle.gaps.specs.declared.Gap.{Gap as Slot}
 use Rattle.gaps.specs.declared.GapRecord.{GapRecord}
 use Rattle.gaps.specs.GapRecords.{place, placeOf, recordOf}
-use Rattle.tags.specs.Skips.{placeBehind}
+use Rattle.tags.specs.Skips.{offsetAfter}
 use Rattle.part_tags.specs.declared.Key.{Key}
 use Rattle.part_tags.specs.TagBytes.{TagThere, afterAt, digitsAt, dwordAt, nameLength, numberAt, roleAt}
 use Rattle.part_tags.specs.Survey.{Plain}
@@ -255,10 +255,10 @@ module _ (s : List ℕ) (at : ℕ) {size : ℕ} (e : size ≡ nameLength s at) w
   pub after-is : at + 7 + size ≡ afterAt s at
   after-is = ap (λ k. at + 7 + k) e
 
-  pub after-next : (there : TagThere s at) → getD s at 0 ≡ 3 → (at + 7 + size ≡ placeBehind (decodeTag s at)) × (at + 7 + size ≤ length s)
+  pub after-next : (there : TagThere s at) → getD s at 0 ≡ 3 → (at + 7 + size ≡ offsetAfter (decodeTag s at)) × (at + 7 + size ≤ length s)
   after-next there type =
       let b = bytes-of s at there .ends (eq-eqb (getD s at 0) 3 type) in
-      (after-is ∙ sym (b .0) ∙ sym (ap placeBehind (there .1 .1)), omega (arith, after-is, b .1))
+      (after-is ∙ sym (b .0) ∙ sym (ap offsetAfter (there .1 .1)), omega (arith, after-is, b .1))
 
 pub full : (size : ℕ) (ps : List GapPair) (r : Role) → isPlain r ≡ false → leb gapLimit (length ps) ≡ true → step size (between ps) r ≡ violates decoding.gapCeiling
 unfolding step
@@ -291,15 +291,15 @@ scan-front : (size : ℕ) (ps : List GapPair) (k l : List Tag) → All Plain k �
 scan-front size ps [] l h = refl
 scan-front size ps (t ∷ k) l h = scan-plain size ps t (k ++ l) (h .0) ∙ scan-front size ps k l (h .1)
 
-scan-behind : (size : ℕ) (progress : Progress) (l : List Tag) → All Plain l → scan size progress l ≡ scan size progress []
+scan-after : (size : ℕ) (progress : Progress) (l : List Tag) → All Plain l → scan size progress l ≡ scan size progress []
 unfolding scan step
-scan-behind size (between ps) [] h = refl
-scan-behind size (between ps) (t ∷ l) h = scan-plain size ps t l (h .0) ∙ scan-behind size (between ps) l (h .1)
-scan-behind size (within ps d n) [] h = refl
-scan-behind size (within ps d n) (t ∷ l) h = scan-cons size (within ps d n) t l ∙ rw (h .0) refl
+scan-after size (between ps) [] h = refl
+scan-after size (between ps) (t ∷ l) h = scan-plain size ps t l (h .0) ∙ scan-after size (between ps) l (h .1)
+scan-after size (within ps d n) [] h = refl
+scan-after size (within ps d n) (t ∷ l) h = scan-cons size (within ps d n) t l ∙ rw (h .0) refl
 
 scan-back : (size : ℕ) (progress : Progress) (k l : List Tag) → All Plain l → scan size progress (k ++ l) ≡ scan size progress k
-scan-back size progress [] l h = scan-behind size progress l h
+scan-back size progress [] l h = scan-after size progress l h
 scan-back size progress (t ∷ k) l h =
     scan-cons size progress t (k ++ l) ∙ go (step size progress (role t)) (λ later. scan-back size later k l h) ∙ sym (scan-cons size progress t k)
   where

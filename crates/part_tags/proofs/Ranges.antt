@@ -14,7 +14,7 @@ use Rattle.format.specs.PutGaps.{isPlain}
 use Rattle.format.proofs.Differ.{differ}
 use Rattle.format.proofs.Codec.{same-place, same-value, went}
 use Rattle.wire.proofs.Loops.{ReadUpTo, begins, goes-on, refuses, ended-refused}
-use Rattle.tags.specs.Skips.{placeBehind}
+use Rattle.tags.specs.Skips.{offsetAfter}
 use Rattle.part_tags.specs.declared.Leading.{Leading}
 use Rattle.part_tags.specs.declared.Number.{Number}
 use Rattle.part_tags.specs.declared.Sizes.{Sizes}
@@ -59,7 +59,7 @@ pub record Skipped (s : List ℕ) (at : ℕ) (n : Number) (after : ℕ) : Type 0
   pub read : decodeTag s at ≡ got tag after
   pub sizes : listOf n ≡ sizesIn tag
 
-pub skipped : (s : List ℕ) (at : ℕ) (n : Number) {after : ℕ} → after ≡ placeBehind (decodeTag s at) → (after ≡ 0 → ⊥) → listOf n ≡ sizesAt (decodeTag s at) → Skipped s at n after
+pub skipped : (s : List ℕ) (at : ℕ) (n : Number) {after : ℕ} → after ≡ offsetAfter (decodeTag s at) → (after ≡ 0 → ⊥) → listOf n ≡ sizesAt (decodeTag s at) → Skipped s at n after
 skipped s at n e other z = let t = tag-there s at e other in record { tag = t .0; read = t .1; sizes = z ∙ ap sizesAt (t .1) }
 
 pub plain-is : (r : Role) → isPlain r ≡ true → r ≡ plain

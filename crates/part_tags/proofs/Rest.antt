@@ -8,7 +8,7 @@ use native.Mathlib.Omega.{arith}
 use Rattle.format.specs.Decoding.{Decoder, Fault, Outcome, refused, got, andThen, pure, decodeMany, itemsOf, ends}
 use Rattle.format.proofs.Differ.{differ}
 use Rattle.format.proofs.Many.{loop-step, loop-stop}
-use Rattle.tags.specs.Skips.{placeBehind}
+use Rattle.tags.specs.Skips.{offsetAfter}
 
 items-cons : {A : Type 0} (s : List ℕ) (a : A) (o : Outcome (List A)) {end : ℕ} → ends o ≡ got tt end
     → itemsOf (andThen s o (λ l. pure (a ∷ l))) ≡ a ∷ itemsOf o
@@ -65,8 +65,8 @@ module _ {A : Type 0} (d : Decoder A) (s : List ℕ) (n : ℕ) where
         go (got a p) q = (a, (p, q))
 
     -- the next item, by the offset after it alone
-    pub turn-after : {p : ℕ} → p ≡ placeBehind (d s at) → (a : A) × ((d s at ≡ got a p) × Turn first i at a p)
+    pub turn-after : {p : ℕ} → p ≡ offsetAfter (d s at) → (a : A) × ((d s at ≡ got a p) × Turn first i at a p)
     turn-after {p} e =
         let t = next-there in
-        let read : d s at ≡ got (t .0) p = t .1 .1 ∙ ap (got (t .0)) (sym (e ∙ ap placeBehind (t .1 .1))) in
+        let read : d s at ≡ got (t .0) p = t .1 .1 ∙ ap (got (t .0)) (sym (e ∙ ap offsetAfter (t .1 .1))) in
         (t .0, (read, next-turn (sym read)))

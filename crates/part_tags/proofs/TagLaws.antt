@@ -20,7 +20,7 @@ use Rattle.format.proofs.There.{byte-ends, byte-there, dword-ends, part-cons, r
 use Rattle.wire.specs.WireAnswers.{faultMeaning}
 use Rattle.tags.specs.declared.TagStep.{TagStep}
 use Rattle.tags.specs.TagAnswers.{tagMeaning, tagFault}
-use Rattle.tags.specs.Skips.{placeBehind}
+use Rattle.tags.specs.Skips.{offsetAfter}
 use Rattle.part_tags.specs.TagBytes.{TagThere, dwordAt, dwordOf, nameLength, digitsAt, numberAt, afterAt, roleAt}
 
 -- The type
@@ -154,18 +154,18 @@ tag-at s at {t} {next} e =
     }
 
 -- A tag that is refused has no offset after it; one that is there has.
-pub fault-is : (s : List ℕ) (at : ℕ) (r : TagStep) → tagMeaning s r ≡ decodeTag s at → placeBehind (decodeTag s at) ≡ 0 → refused (faultMeaning (tagFault r)) ≡ decodeTag s at
+pub fault-is : (s : List ℕ) (at : ℕ) (r : TagStep) → tagMeaning s r ≡ decodeTag s at → offsetAfter (decodeTag s at) ≡ 0 → refused (faultMeaning (tagFault r)) ≡ decodeTag s at
 fault-is s at (TagStep.Refused f) e z = e
 fault-is s at (TagStep.Got t c) e z = absurd (omega (arith, tag-at s at (sym e) .after, rw (← e) at z))
 
-pub tag-there : (s : List ℕ) (at : ℕ) {after : ℕ} → after ≡ placeBehind (decodeTag s at) → (after ≡ 0 → ⊥) → (t : Tag) × (decodeTag s at ≡ got t after)
+pub tag-there : (s : List ℕ) (at : ℕ) {after : ℕ} → after ≡ offsetAfter (decodeTag s at) → (after ≡ 0 → ⊥) → (t : Tag) × (decodeTag s at ≡ got t after)
 tag-there s at {after} e other = go (decodeTag s at) refl
   where
     go : (o : Outcome Tag) → decodeTag s at ≡ o → (t : Tag) × (decodeTag s at ≡ got t after)
-    go (refused f) q = absurd (other (e ∙ ap placeBehind q))
-    go (got t next) q = (t, q ∙ ap (got t) (sym (ap placeBehind q) ∙ sym e))
+    go (refused f) q = absurd (other (e ∙ ap offsetAfter q))
+    go (got t next) q = (t, q ∙ ap (got t) (sym (ap offsetAfter q) ∙ sym e))
 
-pub there-is : (s : List ℕ) (at : ℕ) {after : ℕ} → after ≡ placeBehind (decodeTag s at) → (after ≡ 0 → ⊥) → TagThere s at
+pub there-is : (s : List ℕ) (at : ℕ) {after : ℕ} → after ≡ offsetAfter (decodeTag s at) → (after ≡ 0 → ⊥) → TagThere s at
 there-is s at {after} e other = let t = tag-there s at e other in (t .0, (after, t .1))
 
 -- What a tag that is there is to the gaps

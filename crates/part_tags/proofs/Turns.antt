@@ -16,7 +16,7 @@ use Rattle.format.specs.PartTagOrder.{between, within, nextStart, scan, step}
 use Rattle.format.specs.PutGaps.{isPlain}
 use Rattle.wire.specs.declared.Items.{Items}
 use Rattle.wire.specs.WireAnswers.{itemsIn, ItemsPlaced}
-use Rattle.tags.specs.Skips.{placeBehind}
+use Rattle.tags.specs.Skips.{offsetAfter}
 use Rattle.part_tags.specs.declared.Progress.{Progress as Reached}
 use Rattle.part_tags.specs.TagBytes.{TagThere, afterAt, digitsAt, numberAt, roleAt}
 use Rattle.part_tags.specs.Pairs.{startOf, pairOf, PairsInside, firstPairs, KeysBelow, Keeps, StartTakes, EndTakes, PairTakes}
@@ -44,7 +44,7 @@ module _ (s : List ℕ) (size : ℕ) (ps : List GapPair) (left : Items) (placed 
       → scan size (between ps) (itemsIn decodeTag s left) ≡ violates rule
   pair-stops e =
       let t = left-there in
-      let turn = turn-after decodeTag s n at placed 0 at some (reached-first decodeTag s n at) (sym (ap placeBehind (t .1 .1))) in
+      let turn = turn-after decodeTag s n at placed 0 at some (reached-first decodeTag s n at) (sym (ap offsetAfter (t .1 .1))) in
       ap (scan size (between ps)) (all ∙ turn .1 .1 .next) ∙ scan-stops size (between ps) (turn .0) _ (ap (λ o. step size (between ps) (roleAt o)) (sym (turn .1 .0)) ∙ e)
 
   module _ {key start second : ℕ} (a : StartTakes s ps at key start second) where
@@ -73,7 +73,7 @@ module _ (s : List ℕ) (size : ℕ) (ps : List GapPair) (left : Items) (placed 
           → scan size (between ps) (itemsIn decodeTag s left) ≡ violates decoding.order
       pair-open e =
           let t = second-there in
-          let turn = turn-after decodeTag s n at placed 1 second (omega arith) (first .1 .1 .reached) (sym (ap placeBehind (t .1 .1))) in
+          let turn = turn-after decodeTag s n at placed 1 second (omega arith) (first .1 .1 .reached) (sym (ap offsetAfter (t .1 .1))) in
           starts ∙ ap (scan size (within ps d start)) (turn .1 .1 .next)
           ∙ scan-stops size (within ps d start) (turn .0) _ (ap (λ o. step size (within ps d start) (roleAt o)) (sym (turn .1 .0)) ∙ e ps)
 
@@ -125,7 +125,7 @@ module _ (s : List ℕ) (size : ℕ) (range : Items) (placed : ItemsPlaced decod
     pub scanning-placed : ends (decodeMany (count - i) decodeTag s next) ≡ got tt (range .end)
     scanning-placed = sym (h .reached .same-end) ∙ placed
 
-    pub scanning-plain : {after : ℕ} → after ≡ placeBehind (decodeTag s next) → isPlain (roleAt (decodeTag s next)) ≡ true
+    pub scanning-plain : {after : ℕ} → after ≡ offsetAfter (decodeTag s next) → isPlain (roleAt (decodeTag s next)) ≡ true
         → Scanning s size count (range .at) starts progress after (i + 1)
     scanning-plain e p =
         let turn = turn-after decodeTag s count (range .at) placed i next more (h .reached) e in

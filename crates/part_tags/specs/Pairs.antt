@@ -10,7 +10,7 @@ use Rattle.format.specs.Tables.{pick}
 use Rattle.format.specs.Decoding.{Check, passes, violates, decodeMany, ends, itemsOf}
 use Rattle.format.specs.Order.{decodeTag}
 use Rattle.format.specs.PartTagOrder.{between, within, nextStart, numbered, scan, step}
-use Rattle.tags.specs.Skips.{placeBehind}
+use Rattle.tags.specs.Skips.{offsetAfter}
 use Rattle.wire.specs.declared.Items.{Items}
 use Rattle.wire.specs.declared.Rule.{Rule}
 use Rattle.wire.specs.WireAnswers.{itemsIn, ruleMeaning}
@@ -83,7 +83,7 @@ pub record StartTakes (s : List ℕ) (ps : List GapPair) (at key start second : 
   pub key-of : key ≡ keyOf (digitsAt s at)
   pub start-of : start ≡ startOf s at
   pub second-of : second ≡ afterAt s at
-  pub next : second ≡ placeBehind (decodeTag s at)
+  pub next : second ≡ offsetAfter (decodeTag s at)
   pub steps : (size : ℕ) → step size (between ps) (roleAt (decodeTag s at)) ≡ passes (within ps (digitsAt s at) start)
 
 abbrev pub StartFound : List ℕ → List GapPair → ℕ → StartStep → Type 0
@@ -95,7 +95,7 @@ pub record EndTakes (s : List ℕ) (size : ℕ) (d : List ℕ) (start at end aft
   pub end-of : end ≡ numberAt s at
   pub after-of : after ≡ afterAt s at
   pub inside : after ≤ length s
-  pub next : after ≡ placeBehind (decodeTag s at)
+  pub next : after ≡ offsetAfter (decodeTag s at)
   pub steps : (ps : List GapPair) → step size (within ps d start) (roleAt (decodeTag s at))
       ≡ passes (between (record { digits = d; start = start; end = end } ∷ ps))
 

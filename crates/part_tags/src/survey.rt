@@ -4,7 +4,7 @@ ghost use Rattle.format.specs.Decoding.{refused};
 ghost use Rattle.format.specs.Order.{decodeTag};
 ghost use Rattle.format.specs.PutGaps.{isPlain};
 ghost use Rattle.wire.specs.WireAnswers.{faultMeaning};
-ghost use Rattle.tags.specs.Skips.{placeBehind};
+ghost use Rattle.tags.specs.Skips.{offsetAfter};
 ghost use Rattle.part_tags.specs.TagBytes.{TagThere, roleAt};
 ghost use Rattle.part_tags.specs.Survey.{listOf, sizesAt, LeadingFound, RangeFound, SurveyFound};
 use crate::DWORD_TYPE;
@@ -58,7 +58,7 @@ fn size_at(s: &[u8], at: usize) -> Number
 
 // The fault of a tag that is refused.
 fn fault_at(s: &[u8], at: usize) -> Fault
-    requires { ⌜ placeBehind (decodeTag (now s) at) ≡ 0 ⌝ }
+    requires { ⌜ offsetAfter (decodeTag (now s) at) ≡ 0 ⌝ }
     ensures { λ r. ⌜ refused (faultMeaning r) ≡ decodeTag (now (s .entry)) at ⌝ }
 {
     let t = read_tag(s, Cursor { at });

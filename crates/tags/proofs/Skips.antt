@@ -17,7 +17,7 @@ use Rattle.format.specs.Order.{decodeCode, decodeDword, decodeHash, decodeName,
 use Rattle.format.proofs.Codec.{never}
 use Rattle.format.proofs.There.{byte-there, dword-there, run-there, value-is, word-there}
 use Rattle.wire.proofs.Loops.{ended-got}
-use Rattle.tags.specs.Skips.{EndsThere, ownSize, placeBehind, textSize, valueSize}
+use Rattle.tags.specs.Skips.{EndsThere, ownSize, offsetAfter, textSize, valueSize}
 
 run-ends : (s : List ℕ) (at n : ℕ) → at + n ≤ length s → ends (decodeRun n s at) ≡ got tt (at + n)
 unfolding ends
@@ -119,14 +119,14 @@ tag-ends s at n code is low high e some-bytes few {own} {text} o x h =
     inr (ends-with s at n (t .0) (t .1 ∙ is) e some-bytes few (omega (arith, h, end)) (rw (← end) (value-ends (t .0) s (at + 3 + n) word refl (omega (arith, h, end)))))
 
 -- What ends there has that offset after it; and what has an offset after it ends there.
-pub ends-behind : {A : Type 0} (o : Outcome A) {r : ℕ} → EndsThere (ends o) r → (r ≡ 0 → ⊥) → r ≡ placeBehind o
-ends-behind o (inl z) other = absurd (other z)
-ends-behind o (inr e) other = rw (← ended-got o (sym e) .1) refl
+pub end-is-after : {A : Type 0} (o : Outcome A) {r : ℕ} → EndsThere (ends o) r → (r ≡ 0 → ⊥) → r ≡ offsetAfter o
+end-is-after o (inl z) other = absurd (other z)
+end-is-after o (inr e) other = rw (← ended-got o (sym e) .1) refl
 
-pub behind-ends : {A : Type 0} (o : Outcome A) {r : ℕ} → r ≡ placeBehind o → EndsThere (ends o) r
+pub after-is-end : {A : Type 0} (o : Outcome A) {r : ℕ} → r ≡ offsetAfter o → EndsThere (ends o) r
 unfolding ends
-behind-ends (refused f) e = inl e
-behind-ends (got a next) e = inr (ap (got tt) (sym e))
+after-is-end (refused f) e = inl e
+after-is-end (got a next) e = inr (ap (got tt) (sym e))
 
 -- An offset that is not 0 is where it ends.
 pub told : {o : Outcome (Unit {0})} {r : ℕ} → EndsThere o r → (r ≡ 0 → ⊥) → got tt r ≡ o

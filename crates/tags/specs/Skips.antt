@@ -12,9 +12,9 @@ abbrev pub EndsThere : Outcome (Unit {0}) → ℕ → Type 0
 EndsThere o r = (r ≡ 0) ⊎ (o ≡ got tt r)
 
 -- The offset after what lies there, or 0 where it is refused.
-abbrev pub placeBehind : {A : Type 0} → Outcome A → ℕ
-placeBehind (refused f) = 0
-placeBehind (got a next) = next
+abbrev pub offsetAfter : {A : Type 0} → Outcome A → ℕ
+offsetAfter (refused f) = 0
+offsetAfter (got a next) = next
 
 -- Something was decoded.
 abbrev pub Lies : {A : Type 0} → Outcome A → Type 0

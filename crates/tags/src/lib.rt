@@ -19,7 +19,7 @@ ghost use Rattle.format.specs.Order.{decodeType, decodeValue, decodeTag, decode
 ghost use Rattle.format.specs.MetOrder.{decode};
 ghost use Rattle.wire.specs.WireAnswers.{itemsMeaning, ItemsStepPlaced, ItemsStepInside};
 ghost use Rattle.tags.specs.TagAnswers.{typeOf, typeMeaning, valueMeaning, ValueStepInside, tagMeaning, TagStepInside, tagListReply, TagListPlaced};
-ghost use Rattle.tags.specs.Skips.{EndsThere, Lies, ownSize, placeBehind, textSize};
+ghost use Rattle.tags.specs.Skips.{EndsThere, Lies, ownSize, offsetAfter, textSize};
 ghost use Rattle.tags.specs.TagAnswers.{typeFault, valueFault, tagFault};
 use wire::ByteStep;
 use wire::Cursor;
@@ -307,7 +307,7 @@ pub fn whole_tag_end(s: &[u8], at: usize) -> usize
 // The offset after a tag, by reading it; 0 for one that is refused. It stands apart so that tag_after is short enough to be put into the
 // loops that call it.
 fn read_tag_after(s: &[u8], at: usize) -> usize
-    ensures { λ r. ⌜ r ≡ placeBehind (decodeTag (now (s .entry)) at) ⌝ }
+    ensures { λ r. ⌜ r ≡ offsetAfter (decodeTag (now (s .entry)) at) ⌝ }
 {
     let tag_step = read_tag(s, Cursor { at });
     let TagStep::Got(_, next) = tag_step else {
@@ -318,7 +318,7 @@ fn read_tag_after(s: &[u8], at: usize) -> usize
 
 // The offset after a tag; 0 for one that is refused.
 pub fn tag_after(s: &[u8], at: usize) -> usize
-    ensures { λ r. ⌜ r ≡ placeBehind (decodeTag (now (s .entry)) at) ⌝ }
+    ensures { λ r. ⌜ r ≡ offsetAfter (decodeTag (now (s .entry)) at) ⌝ }
 {
     let end = tag_end(s, at);
     if end != 0 {
@@ -380,7 +380,7 @@ pub fn tags_from(s: &[u8], first: Cursor, count: u32) -> ItemsStep
 
 // The offset after a tag list; 0 for one that is refused.
 pub fn tag_list_end(s: &[u8], at: usize) -> usize
-    ensures { λ r. ⌜ r ≡ placeBehind (decodeTags (now (s .entry)) at) ⌝ }
+    ensures { λ r. ⌜ r ≡ offsetAfter (decodeTags (now (s .entry)) at) ⌝ }
 {
     let c = Cursor { at };
     let count_step = c.dword(s);

@@ -104,7 +104,7 @@ fn main() {
         \x04\x05\x00girth\x00\x00\x80\x3f",
     );
     show_walk(
-        b"a byte left behind the last tag",
+        b"a byte left after the last tag",
         b"\x01\x00\x00\x00\x03\x04\x00size\x05\x00\x00\x00\x00",
     );
     show_walk(

@@ -55,17 +55,17 @@ module _ (o : Operator) (q r : Query) (s : List ℕ) (at : ℕ) (rest : List ℕ
   unfolding encodeQuery
   whole = e ∙ simp append-assoc
 
-  behind-case : drop (at + length (byte 0)) s ≡ code ++ sides
-  behind-case = behind s at (byte 0) (code ++ sides) whole
+  after-case : drop (at + length (byte 0)) s ≡ code ++ sides
+  after-case = behind s at (byte 0) (code ++ sides) whole
 
   in-case : at + length (byte 0) ≤ length s
   in-case = fits s at (byte 0) (code ++ sides) i whole
 
   left-here : drop left s ≡ sides
-  left-here = behind s (at + length (byte 0)) code sides behind-case
+  left-here = behind s (at + length (byte 0)) code sides after-case
 
   in-left : left ≤ length s
-  in-left = fits s (at + length (byte 0)) code sides in-case behind-case
+  in-left = fits s (at + length (byte 0)) code sides in-case after-case
 
   right-here : drop right s ≡ encodeQuery r ++ rest
   right-here = behind s left (encodeQuery q) (encodeQuery r ++ rest) left-here
@@ -79,7 +79,7 @@ module _ (o : Operator) (q r : Query) (s : List ℕ) (at : ℕ) (rest : List ℕ
       rw (
         query-step d s at,
         codec-case .complete s at isJoin (code ++ sides) tt whole i tt,
-        codec-operator .complete s (at + length (byte 0)) o sides tt behind-case in-case tt,
+        codec-operator .complete s (at + length (byte 0)) o sides tt after-case in-case tt,
       )
       refl
 

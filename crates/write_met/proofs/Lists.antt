@@ -20,7 +20,7 @@ use Rattle.wire.proofs.Replies.{slice-bytes}
 use Rattle.write_items.specs.There.{hashThere, itemsThere}
 use Rattle.write_items.proofs.There.{ends-got, is-there, valid-hash}
 use Rattle.write_items.proofs.Listed.{listed}
-use Rattle.write_met.specs.Lengths.{EndsBehind, itemsEnd}
+use Rattle.write_met.specs.Lengths.{EndsAfter, itemsEnd}
 
 -- The items of a list lie in n bytes from its place on.
 pub record Here {A : Type 0} (encode : A → List ℕ) (Valid : A → Type 0) (s : List ℕ) (l : Items) (items : List A) (n : ℕ) : Type 0 where
@@ -40,12 +40,12 @@ module _ {A : Type 0} {d : Decoder A} {encode : A → List ℕ} {Valid : A → T
       record { count = h .count; all = h .valid; bytes = rw k at (h .bytes); size = h .size ∙ k }
 
   -- What code knows of the end of a list.
-  pub end-behind : {next : ℕ} → got tt next ≡ itemsThere d s l → l .at ≤ next
-  end-behind e = listed L needed s hb l (sym e) .order
+  pub end-after : {next : ℕ} → got tt next ≡ itemsThere d s l → l .at ≤ next
+  end-after e = listed L needed s hb l (sym e) .order
 
-  pub list-behind : (r : ItemsStep) → itemsMeaning d s r ≡ decodeMany (l .count) d s (l .at) → EndsBehind (l .at) r
-  list-behind (ItemsStep.Got k c) e = end-behind (ends-got e)
-  list-behind (ItemsStep.Refused f) e = tt
+  pub list-after : (r : ItemsStep) → itemsMeaning d s r ≡ decodeMany (l .count) d s (l .at) → EndsAfter (l .at) r
+  list-after (ItemsStep.Got k c) e = end-after (ends-got e)
+  list-after (ItemsStep.Refused f) e = tt
 
   pub list-ends : (r : ItemsStep) → itemsMeaning d s r ≡ decodeMany (l .count) d s (l .at) → itemsEnd r ≡ itemsThere d s l
   unfolding ends

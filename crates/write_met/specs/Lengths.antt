@@ -31,9 +31,9 @@ abbrev pub itemsEnd : ItemsStep → Outcome (Unit {0})
 itemsEnd (ItemsStep.Got l c) = got tt (c .at)
 itemsEnd (ItemsStep.Refused f) = refused (faultMeaning f)
 
-abbrev pub EndsBehind : ℕ → ItemsStep → Type 0
-EndsBehind at (ItemsStep.Got l c) = at ≤ c .at
-EndsBehind at (ItemsStep.Refused f) = Unit {0}
+abbrev pub EndsAfter : ℕ → ItemsStep → Type 0
+EndsAfter at (ItemsStep.Got l c) = at ≤ c .at
+EndsAfter at (ItemsStep.Refused f) = Unit {0}
 
 -- The places of an entry are there, and its lists have these lengths.
 abbrev pub EntryMeaning : List ℕ → FileEntry → EntryStep → Type 0

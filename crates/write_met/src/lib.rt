@@ -21,7 +21,7 @@ ghost use Rattle.write_items.specs.There.{hashThere, itemsThere};
 ghost use Rattle.output.specs.WriteAnswers.{answered};
 ghost use Rattle.format.specs.RoundTrip.{RoundTrip, WritesAt};
 ghost use Rattle.write_met.specs.MetWrites.{serverEntryThere, knownThere, serverThere};
-ghost use Rattle.write_met.specs.Lengths.{lengthMeaning, lengthFault, itemsEnd, EndsBehind, EntryMeaning, entryFault, entryHead, openingNumber};
+ghost use Rattle.write_met.specs.Lengths.{lengthMeaning, lengthFault, itemsEnd, EndsAfter, EntryMeaning, entryFault, entryHead, openingNumber};
 ghost use Rattle.write_met.specs.MetEntries.{writeFileEntry, writeServerEntry};
 use met::FileEntry;
 use met::KnownMet;
@@ -82,7 +82,7 @@ impl LengthStep {
 
 // The length of a list that was read from `at` on.
 pub fn length_from(at: usize, read: ItemsStep) -> LengthStep
-    requires { ⌜ EndsBehind at read ⌝ }
+    requires { ⌜ EndsAfter at read ⌝ }
     ensures { λ r. ⌜ lengthMeaning at r ≡ itemsEnd read ⌝ }
 {
     match read {

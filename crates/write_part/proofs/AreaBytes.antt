@@ -30,18 +30,18 @@ pub at-mark : (l : List ℕ) (i : ℕ) → i ≡ 0 → 1 ≡ getD (byte 1 ++ l) 
 unfolding littleEndian
 at-mark l i e = rw e refl
 
-behind-mark : (l : List ℕ) (i : ℕ) → (i ≡ 0 → ⊥) → getD (byte 1 ++ l) i 0 ≡ getD l (i - 1) 0
+after-mark : (l : List ℕ) (i : ℕ) → (i ≡ 0 → ⊥) → getD (byte 1 ++ l) i 0 ≡ getD l (i - 1) 0
 unfolding littleEndian
-behind-mark l zero h = absurd (h refl)
-behind-mark l (suc i) h = ap (λ k. getD l k 0) (omega arith)
+after-mark l zero h = absurd (h refl)
+after-mark l (suc i) h = ap (λ k. getD l k 0) (omega arith)
 
 pub in-list : (k l : List ℕ) (i : ℕ) → (i ≡ 0 → ⊥) → i - 1 < length k → getD k (i - 1) 0 ≡ getD (byte 1 ++ (k ++ l)) i 0
-in-list k l i some h = sym (behind-mark (k ++ l) i some ∙ List·getD-append k l 0 (i - 1) h)
+in-list k l i some h = sym (after-mark (k ++ l) i some ∙ List·getD-append k l 0 (i - 1) h)
 
-pub behind-list : (k l : List ℕ) (i : ℕ) → (i ≡ 0 → ⊥) → length k ≤ i - 1 → getD l (i - 1 - length k) 0 ≡ getD (byte 1 ++ (k ++ l)) i 0
-behind-list k l i some h =
+pub after-list : (k l : List ℕ) (i : ℕ) → (i ≡ 0 → ⊥) → length k ≤ i - 1 → getD l (i - 1 - length k) 0 ≡ getD (byte 1 ++ (k ++ l)) i 0
+after-list k l i some h =
     let e : i - 1 ≡ length k + (i - 1 - length k) = omega arith in
-    sym (behind-mark (k ++ l) i some ∙ ap (λ n. getD (k ++ l) n 0) e ∙ getD-append-add k l (i - 1 - length k) 0)
+    sym (after-mark (k ++ l) i some ∙ ap (λ n. getD (k ++ l) n 0) e ∙ getD-append-add k l (i - 1 - length k) 0)
 
 pub at-closing : (i : ℕ) → 0 ≡ getD (byte 0) i 0
 unfolding littleEndian
@@ -101,5 +101,5 @@ unfolding areaNumber
 lone-second hashes e =
     let size : length (byte 1 ++ (hashes ++ byte 0)) ≡ 18 = simp (length-append, length-littleEndian) (omega arith) in
     let closing : getD (byte 1 ++ (hashes ++ byte 0)) 17 0 ≡ 0 =
-    sym (at-closing (16 - length hashes) ∙ behind-list hashes (byte 0) 17 (λ z. omega arith) (omega arith)) in
+    sym (at-closing (16 - length hashes) ∙ after-list hashes (byte 0) 17 (λ z. omega arith) (omega arith)) in
     rw (size, closing) refl

@@ -5,7 +5,7 @@ use native.Mathlib.Omega.{arith}
 use lib.ListN.{length-append}
 use Rattle.format.specs.Layout.{encodeAddress, encodeExtendedStatus, encodeFileStatus, encodeRecord, encodeRequestParts, encodeSendingPart, encodeTags}
 use Rattle.format.proofs.Codec.{length-littleEndian}
-use Rattle.check_bodies.proofs.Extents.{adds, behind-extends, both-adds, both-extends, held-fits, held-size, held-word, plain-extends, recast}
+use Rattle.check_bodies.proofs.Extents.{adds, after-extends, both-adds, both-extends, held-fits, held-size, held-word, plain-extends, recast}
 use borrow.Author.Needs.{needs}
 use Rattle.check_bodies.proofs.body_extent.Statement.{statement}
 use Rattle.check_bodies.proofs.body_extent.Tie as tie
@@ -112,8 +112,8 @@ enum-known-b-10 c = search needs
 records-extent-requires-2 : tie.Need-records-extent-requires-2
 records-extent-requires-2 c κs = search needs
 
-behind-bytes-requires : tie.Need-behind-bytes-requires
-behind-bytes-requires c κs = adds 1 (c .records-extent2 .ensures) (omega arith)
+bytes-after-requires : tie.Need-bytes-after-requires
+bytes-after-requires c κs = adds 1 (c .records-extent2 .ensures) (omega arith)
 
 enum-known-b-11 : tie.Need-enum-known-b-11
 enum-known-b-11 c = search needs
@@ -121,8 +121,8 @@ enum-known-b-11 c = search needs
 entry-extent-requires-3 : tie.Need-entry-extent-requires-3
 entry-extent-requires-3 c κs = search needs
 
-behind-bytes-requires-2 : tie.Need-behind-bytes-requires-2
-behind-bytes-requires-2 c κs = adds 6 (c .entry-extent3 .ensures) (omega arith)
+bytes-after-requires-2 : tie.Need-bytes-after-requires-2
+bytes-after-requires-2 c κs = adds 6 (c .entry-extent3 .ensures) (omega arith)
 
 enum-known-b-12 : tie.Need-enum-known-b-12
 enum-known-b-12 c = search needs
@@ -130,8 +130,8 @@ enum-known-b-12 c = search needs
 entry-extent-requires-4 : tie.Need-entry-extent-requires-4
 entry-extent-requires-4 c κs = search needs
 
-behind-bytes-requires-3 : tie.Need-behind-bytes-requires-3
-behind-bytes-requires-3 c κs = adds 7 (c .entry-extent4 .ensures) (omega arith)
+bytes-after-requires-3 : tie.Need-bytes-after-requires-3
+bytes-after-requires-3 c κs = adds 7 (c .entry-extent4 .ensures) (omega arith)
 
 enum-known-b-13 : tie.Need-enum-known-b-13
 enum-known-b-13 c = search needs
@@ -169,8 +169,8 @@ place-extent-requires c κs = search needs
 both-requires-5 : tie.Need-both-requires-5
 both-requires-5 c κs = both-adds (c .before .hash-extent5 .ensures) (c .place-extent .ensures) (omega arith)
 
-behind-bytes-requires-4 : tie.Need-behind-bytes-requires-4
-behind-bytes-requires-4 c κs = rw (c .both5 .ensures) (adds 8 (both-extends (c .before .before .hash-extent5 .ensures) (c .before .place-extent .ensures)) (omega arith))
+bytes-after-requires-4 : tie.Need-bytes-after-requires-4
+bytes-after-requires-4 c κs = rw (c .both5 .ensures) (adds 8 (both-extends (c .before .before .hash-extent5 .ensures) (c .before .place-extent .ensures)) (omega arith))
 
 enum-known-b-16 : tie.Need-enum-known-b-16
 enum-known-b-16 c = search needs
@@ -178,8 +178,8 @@ enum-known-b-16 c = search needs
 hash-extent-requires-6 : tie.Need-hash-extent-requires-6
 hash-extent-requires-6 c κs = search needs
 
-behind-bytes-requires-5 : tie.Need-behind-bytes-requires-5
-behind-bytes-requires-5 c κs = adds 24 (c .hash-extent6 .ensures) (omega arith)
+bytes-after-requires-5 : tie.Need-bytes-after-requires-5
+bytes-after-requires-5 c κs = adds 24 (c .hash-extent6 .ensures) (omega arith)
 
 enum-known-b-17 : tie.Need-enum-known-b-17
 enum-known-b-17 c = search needs
@@ -193,8 +193,8 @@ bits-extent-requires c κs = search needs
 both-requires-6 : tie.Need-both-requires-6
 both-requires-6 c κs = both-adds (c .before .hash-extent7 .ensures) (c .bits-extent .ensures) (omega arith)
 
-behind-bytes-requires-6 : tie.Need-behind-bytes-requires-6
-behind-bytes-requires-6 c κs = rw (c .both6 .ensures) (adds 2 (both-extends (c .before .before .hash-extent7 .ensures) (c .before .bits-extent .ensures)) (omega arith))
+bytes-after-requires-6 : tie.Need-bytes-after-requires-6
+bytes-after-requires-6 c κs = rw (c .both6 .ensures) (adds 2 (both-extends (c .before .before .hash-extent7 .ensures) (c .before .bits-extent .ensures)) (omega arith))
 
 enum-told-6 : tie.Need-enum-told-6
 enum-told-6 c = search needs
@@ -266,20 +266,20 @@ returns-14 c = rw (c .before .before .b9 .given .1) (recast _ _ (λ f. f) (λ f.
 
 returns-15 : tie.Need-returns-15
 returns-15 c =
-    rw (c .before .before .before .b10 .given .1, c .behind-bytes .ensures)
-    (recast _ _ (λ f. f) (λ f. f) (simp (length-append, length-littleEndian) (omega arith)) (λ _ h. h) (omega arith) (behind-extends 1 (c .before .records-extent2 .ensures)))
+    rw (c .before .before .before .b10 .given .1, c .bytes-after .ensures)
+    (recast _ _ (λ f. f) (λ f. f) (simp (length-append, length-littleEndian) (omega arith)) (λ _ h. h) (omega arith) (after-extends 1 (c .before .records-extent2 .ensures)))
 
 returns-16 : tie.Need-returns-16
 unfolding encodeAddress encodeRecord encodeTags
 returns-16 c =
-    rw (c .before .before .before .b11 .given .1, c .behind-bytes2 .ensures)
-    (recast _ _ (λ f. f .1) (λ f. (tt, f)) (simp (length-append, length-littleEndian) (omega arith)) (λ _ h. h) (omega arith) (behind-extends 6 (c .before .entry-extent3 .ensures)))
+    rw (c .before .before .before .b11 .given .1, c .bytes-after2 .ensures)
+    (recast _ _ (λ f. f .1) (λ f. (tt, f)) (simp (length-append, length-littleEndian) (omega arith)) (λ _ h. h) (omega arith) (after-extends 6 (c .before .entry-extent3 .ensures)))
 
 returns-17 : tie.Need-returns-17
 unfolding encodeAddress encodeRecord encodeTags
 returns-17 c =
-    rw (c .before .before .before .b12 .given .1, c .behind-bytes3 .ensures)
-    (recast _ _ (λ f. f .1) (λ f. (tt, f)) (simp (length-append, length-littleEndian) (omega arith)) (λ _ h. h) (omega arith) (behind-extends 7 (c .before .entry-extent4 .ensures)))
+    rw (c .before .before .before .b12 .given .1, c .bytes-after3 .ensures)
+    (recast _ _ (λ f. f .1) (λ f. (tt, f)) (simp (length-append, length-littleEndian) (omega arith)) (λ _ h. h) (omega arith) (after-extends 7 (c .before .entry-extent4 .ensures)))
 
 returns-18 : tie.Need-returns-18
 returns-18 c =
@@ -294,14 +294,14 @@ returns-19 c =
 returns-20 : tie.Need-returns-20
 unfolding encodeSendingPart
 returns-20 c =
-    rw (c .before .before .before .before .before .b15 .given .1, c .behind-bytes4 .ensures, c .before .both5 .ensures)
-    (recast _ _ (λ _. tt) (λ _. (tt, tt)) (simp (length-append, length-littleEndian) (omega arith)) (λ _ _. tt) (omega arith) (behind-extends 8 (both-extends (c .before .before .before .hash-extent5 .ensures) (c .before .before .place-extent .ensures))))
+    rw (c .before .before .before .before .before .b15 .given .1, c .bytes-after4 .ensures, c .before .both5 .ensures)
+    (recast _ _ (λ _. tt) (λ _. (tt, tt)) (simp (length-append, length-littleEndian) (omega arith)) (λ _ _. tt) (omega arith) (after-extends 8 (both-extends (c .before .before .before .hash-extent5 .ensures) (c .before .before .place-extent .ensures))))
 
 returns-21 : tie.Need-returns-21
 unfolding encodeRequestParts
 returns-21 c =
-    rw (c .before .before .before .b16 .given .1, c .behind-bytes5 .ensures)
-    (recast _ _ (λ _. tt) (λ _. tt) (simp (length-append, length-littleEndian) (omega arith)) (λ _ _. tt) (omega arith) (behind-extends 24 (c .before .hash-extent6 .ensures)))
+    rw (c .before .before .before .b16 .given .1, c .bytes-after5 .ensures)
+    (recast _ _ (λ _. tt) (λ _. tt) (simp (length-append, length-littleEndian) (omega arith)) (λ _ _. tt) (omega arith) (after-extends 24 (c .before .hash-extent6 .ensures)))
 
 returns-22 : tie.Need-returns-22
 unfolding encodeFileStatus
@@ -310,10 +310,10 @@ returns-22 c =
     let start = b17-at .before .before .before in
     let s = now (start .args .src) in
     let p = b17-at .b17 .given .0 .0 in
-    rw (b17-at .b17 .given .1, c .behind-bytes6 .ensures, c .before .both6 .ensures)
+    rw (b17-at .b17 .given .1, c .bytes-after6 .ensures, c .before .both6 .ensures)
     (recast _ _ (λ f. held-fits (p .parts) s (p .bits) (f .1)) (λ f. (tt, held-word (p .parts) s (p .bits) f))
     (simp (length-append, length-littleEndian, held-size) (omega arith)) (λ _ _. tt) (omega arith)
-    (behind-extends 2 (both-extends (c .before .before .before .hash-extent7 .ensures) (c .before .before .bits-extent .ensures))))
+    (after-extends 2 (both-extends (c .before .before .before .hash-extent7 .ensures) (c .before .before .bits-extent .ensures))))
 
 returns-23 : tie.Need-returns-23
 returns-23 c = rw (c .before .enum-told6 .given .1, c .fixed6 .ensures) (plain-extends 4 tt tt (simp length-littleEndian) (omega arith))
@@ -363,13 +363,13 @@ body-extent-spec =
     records-extent-requires
     enum-known-b-10
     records-extent-requires-2
-    behind-bytes-requires
+    bytes-after-requires
     enum-known-b-11
     entry-extent-requires-3
-    behind-bytes-requires-2
+    bytes-after-requires-2
     enum-known-b-12
     entry-extent-requires-4
-    behind-bytes-requires-3
+    bytes-after-requires-3
     enum-known-b-13
     hash-extent-requires-3
     text-extent-requires-4
@@ -382,15 +382,15 @@ body-extent-spec =
     hash-extent-requires-5
     place-extent-requires
     both-requires-5
-    behind-bytes-requires-4
+    bytes-after-requires-4
     enum-known-b-16
     hash-extent-requires-6
-    behind-bytes-requires-5
+    bytes-after-requires-5
     enum-known-b-17
     hash-extent-requires-7
     bits-extent-requires
     both-requires-6
-    behind-bytes-requires-6
+    bytes-after-requires-6
     enum-told-6
     fixed-requires-6
     enum-told-7

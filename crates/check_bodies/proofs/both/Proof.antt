@@ -9,14 +9,14 @@ enum-known-first c = search needs
 enum-told : tie.Need-enum-told
 enum-told c = search needs
 
-behind-too-long-requires : tie.Need-behind-too-long-requires
-behind-too-long-requires c κs = search needs
+rest-too-long-requires : tie.Need-rest-too-long-requires
+rest-too-long-requires c κs = search needs
 
 enum-known-first-2 : tie.Need-enum-known-first-2
 enum-known-first-2 c = search needs
 
-behind-bytes-requires : tie.Need-behind-bytes-requires
-behind-bytes-requires c κs = rw (c .before .first2 .given .1) at (c .before .before .before .pre)
+bytes-after-requires : tie.Need-bytes-after-requires
+bytes-after-requires c κs = rw (c .before .first2 .given .1) at (c .before .before .before .pre)
 
 returns : tie.Need-returns
 returns c = rw (c .before .first .given .1) refl
@@ -25,7 +25,7 @@ returns-2 : tie.Need-returns-2
 returns-2 c = search needs
 
 returns-3 : tie.Need-returns-3
-returns-3 c = rw (c .before .before .first2 .given .1) (c .behind-bytes .ensures)
+returns-3 c = rw (c .before .before .first2 .given .1) (c .bytes-after .ensures)
 
 pub both-spec : {M : Type 1} → statement M
 both-spec =
@@ -33,9 +33,9 @@ both-spec =
     (tie.spec
     enum-known-first
     enum-told
-    behind-too-long-requires
+    rest-too-long-requires
     enum-known-first-2
-    behind-bytes-requires
+    bytes-after-requires
     returns
     returns-2
     returns-3)

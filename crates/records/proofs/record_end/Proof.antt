@@ -3,7 +3,7 @@ use mathlib.Core.Logic.{inl}
 use native.Mathlib.Omega.{arith}
 use denote.Ref.{now}
 use Rattle.format.specs.Order.{decodeTags}
-use Rattle.tags.proofs.Skips.{behind-ends}
+use Rattle.tags.proofs.Skips.{after-is-end}
 use Rattle.records.proofs.Skips.{record-ends}
 use borrow.Author.Needs.{needs}
 use Rattle.records.proofs.record_end.Statement.{statement}
@@ -28,7 +28,7 @@ returns-3 : tie.Need-returns-3
 returns-3 c =
     let start = c .before .before .before .before in
     record-ends (now (start .args .s)) (start .args .at) (omega (arith, c .before .if2 .left, c .before .before .if1 .left))
-    (behind-ends (decodeTags _ _) (c .tag-list-end .ensures))
+    (after-is-end (decodeTags _ _) (c .tag-list-end .ensures))
 
 pub record-end-spec : {M : Type 1} → statement M
 record-end-spec = tie.close (tie.spec returns sub-if2 returns-2 add-tag-list-end tag-list-end-requires returns-3)

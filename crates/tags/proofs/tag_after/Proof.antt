@@ -1,6 +1,6 @@
 use denote.Ref.{now}
 use Rattle.format.specs.Order.{decodeTag}
-use Rattle.tags.proofs.Skips.{ends-behind}
+use Rattle.tags.proofs.Skips.{end-is-after}
 use borrow.Author.Needs.{needs}
 use Rattle.tags.proofs.tag_after.Statement.{statement}
 use Rattle.tags.proofs.tag_after.Tie as tie
@@ -11,7 +11,7 @@ tag-end-requires c κs = search needs
 returns : tie.Need-returns
 returns c =
     let a = c .before .before .before .args in
-    ends-behind (decodeTag (now (a .s)) (a .at)) (c .before .tag-end .ensures) (c .if1 .taken)
+    end-is-after (decodeTag (now (a .s)) (a .at)) (c .before .tag-end .ensures) (c .if1 .taken)
 
 read-tag-after-requires : tie.Need-read-tag-after-requires
 read-tag-after-requires c κs = search needs

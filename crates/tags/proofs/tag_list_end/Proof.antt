@@ -2,7 +2,7 @@ use mathlib.Core.Path.{refl}
 use denote.Ref.{now}
 use Rattle.format.specs.Decoding.{decodeMany}
 use Rattle.format.specs.Order.{decodeCounted, decodeTag, decodeTags}
-use Rattle.tags.proofs.Skips.{ends-behind}
+use Rattle.tags.proofs.Skips.{end-is-after}
 use borrow.Author.Needs.{needs}
 use Rattle.tags.proofs.tag_list_end.Statement.{statement}
 use Rattle.tags.proofs.tag_list_end.Tie as tie
@@ -30,7 +30,7 @@ returns-2 c =
     let s = now (b .before .before .before .before .args .s) in
     let read = b .count-step .given .0 in
     rw (← b .before .before .dword .ensures, b .count-step .given .1)
-    (ends-behind (decodeMany (read .0) decodeTag s (read .1 .0 .at)) (c .before .tags-end .ensures) (c .if1 .taken))
+    (end-is-after (decodeMany (read .0) decodeTag s (read .1 .0 .at)) (c .before .tags-end .ensures) (c .if1 .taken))
 
 tag-by-tag-requires : tie.Need-tag-by-tag-requires
 tag-by-tag-requires c κs = search needs

@@ -1,4 +1,4 @@
--- The tags end after their offset: `end-behind` of Lists.
+-- The tags end after their offset: `end-after` of Lists.
 use Prim.Native.Nat.{ℕ}
 use mathlib.Core.Path.{ap, _∙_}
 use native.Mathlib.Omega.{arith}
@@ -6,7 +6,7 @@ use denote.Ref.{now}
 use Rattle.format.specs.Decoding.{got}
 use Rattle.format.proofs.Items.{codec-tag}
 use Rattle.format.proofs.Writing.{tag-needed}
-use Rattle.write_met.proofs.Lists.{end-behind}
+use Rattle.write_met.proofs.Lists.{end-after}
 use borrow.Author.Needs.{needs}
 use Rattle.write_met.proofs.tags_length.Statement.{statement}
 use Rattle.write_met.proofs.tags_length.Tie as tie
@@ -32,14 +32,14 @@ sub-t9 : tie.Need-sub-t9
 sub-t9 c =
     let start = c .before .before .before .before .before in
     let a = start .args in
-    end-behind codec-tag tag-needed (now (a .s)) (c .before .before .before .before .shared-slice-known .given) (a .list) (rw (c .before .step .given .1) at (c .before .before .before .tags-end .ensures))
+    end-after codec-tag tag-needed (now (a .s)) (c .before .before .before .before .shared-slice-known .given) (a .list) (rw (c .before .step .given .1) at (c .before .before .before .tags-end .ensures))
 
 returns-2 : tie.Need-returns-2
 returns-2 c =
     let start = c .before .before .before .before .before in
     let a = start .args in
     let read = rw (c .before .step .given .1) at (c .before .before .before .tags-end .ensures) in
-    let behind = end-behind codec-tag tag-needed (now (a .s)) (c .before .before .before .before .shared-slice-known .given) (a .list) read in
+    let behind = end-after codec-tag tag-needed (now (a .s)) (c .before .before .before .before .shared-slice-known .given) (a .list) read in
     ap (λ (n : ℕ). got tt n) (omega (arith, behind)) ∙ read
 
 pub tags-length-spec : {M : Type 1} → statement M

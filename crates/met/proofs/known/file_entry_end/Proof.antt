@@ -3,7 +3,7 @@ use mathlib.Core.Logic.{inl}
 use native.Mathlib.Omega.{arith}
 use denote.Ref.{now}
 use Rattle.format.specs.Order.{decodeTags}
-use Rattle.tags.proofs.Skips.{behind-ends}
+use Rattle.tags.proofs.Skips.{after-is-end}
 use Rattle.met.proofs.Skips.{file-entry-ends}
 use borrow.Author.Needs.{needs}
 use Rattle.met.proofs.known.file_entry_end.Statement.{statement}
@@ -59,7 +59,7 @@ returns-4 c =
     let there = c .before .before .before .before .before in
     let start = there .before .before .before in
     file-entry-ends (now (start .args .s)) (start .args .at) _ (c .before .before .pair .ensures)
-    (omega (arith, there .if2 .left, there .before .if1 .left, c .before .if3 .left)) (behind-ends (decodeTags _ _) (c .tag-list-end .ensures))
+    (omega (arith, there .if2 .left, there .before .if1 .left, c .before .if3 .left)) (after-is-end (decodeTags _ _) (c .tag-list-end .ensures))
 
 pub file-entry-end-spec : {M : Type 1} → statement M
 file-entry-end-spec =

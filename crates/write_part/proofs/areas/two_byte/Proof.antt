@@ -3,7 +3,7 @@ use mathlib.Core.Path.{_∙_}
 use mathlib.Core.List.{_++_}
 use denote.Ref.{now}
 use Rattle.format.specs.Layout.{byte}
-use Rattle.write_part.proofs.AreaBytes.{at-mark, behind-list, in-list}
+use Rattle.write_part.proofs.AreaBytes.{at-mark, after-list, in-list}
 use borrow.Author.Needs.{needs}
 use Rattle.write_part.proofs.areas.two_byte.Statement.{statement}
 use Rattle.write_part.proofs.areas.two_byte.Tie as tie
@@ -33,7 +33,7 @@ returns-3 : tie.Need-returns-3
 returns-3 c =
     let start = c .before .before .before .before .before in
     let a = start .args in
-    c .last-byte .ensures ∙ behind-list (now (a .first)) (byte 1 ++ (now (a .second) ++ byte 0)) (a .i) (c .before .before .if1 .left) (c .before .if2 .left)
+    c .last-byte .ensures ∙ after-list (now (a .first)) (byte 1 ++ (now (a .second) ++ byte 0)) (a .i) (c .before .before .if1 .left) (c .before .if2 .left)
 
 pub two-byte-spec : {M : Type 1} → statement M
 two-byte-spec =

@@ -1,8 +1,8 @@
 use mathlib.Core.Path.{refl}
 use native.Mathlib.Omega.{arith}
 use borrow.Author.Needs.{needs}
-use Rattle.check_bodies.proofs.behind_bytes.Statement.{statement}
-use Rattle.check_bodies.proofs.behind_bytes.Tie as tie
+use Rattle.check_bodies.proofs.bytes_after.Statement.{statement}
+use Rattle.check_bodies.proofs.bytes_after.Tie as tie
 
 enum-known-part : tie.Need-enum-known-part
 enum-known-part c = search needs
@@ -25,7 +25,7 @@ returns-2 c = search needs
 returns-3 : tie.Need-returns-3
 returns-3 c = rw (c .before .part2 .given .1) refl
 
-pub behind-bytes-spec : {M : Type 1} → statement M
-behind-bytes-spec =
+pub bytes-after-spec : {M : Type 1} → statement M
+bytes-after-spec =
     tie.close
     (tie.spec enum-known-part enum-told enum-known-part-2 add-t7 returns returns-2 returns-3)
