@@ -55,11 +55,11 @@ fn within(n: usize, size: usize) -> usize
 fn put_tags(out: &mut [u8], name: &[u8], size: u32) -> usize
     ensures { λ r. ⌜ r ≤ length (now (out .entry)) ⌝ }
 {
-    let a = write_text_tag(&NAME, name, out);
-    let at = within(a.length, out.len());
-    let b = write_dword_tag(&SIZE, size, &mut out[at..]);
+    let named = write_text_tag(&NAME, name, out);
+    let at = within(named.length, out.len());
+    let sized = write_dword_tag(&SIZE, size, &mut out[at..]);
     let rest = out.len() - at;
-    at + within(b.length, rest)
+    at + within(sized.length, rest)
 }
 
 // The tags of a file, after the hash that a scratch buffer begins with: how many bytes they have.
@@ -70,10 +70,10 @@ fn put_file_tags(scratch: &mut [u8], name: &[u8], size: u32) -> usize
 }
 
 // The two tags after the hash.
-fn file_tags(n: usize) -> Items {
+fn file_tags(tags_end: usize) -> Items {
     Items {
         at: TAGS_AT,
-        end: n,
+        end: tags_end,
         count: 2,
     }
 }
@@ -82,74 +82,80 @@ fn file_tags(n: usize) -> Items {
 fn put_file(scratch: &[u8], tags: Items, out: &mut [u8]) -> usize
     ensures { λ r. ⌜ r ≤ length (now (out .entry)) ⌝ }
 {
-    let r = Record {
+    let record = Record {
         hash: 0,
         client: 0,
         port: 0,
         tags,
     };
-    let a = write_record(scratch, r, out);
-    say(b"record written; bytes: ", a.length as u64);
-    within(a.length, out.len())
+    let wrote = write_record(scratch, record, out);
+    say(b"record written; bytes: ", wrote.length as u64);
+    within(wrote.length, out.len())
 }
 
 // The records of two files, one after the other: how many bytes they have.
-fn put_files(first: &[u8], n: usize, second: &[u8], m: usize, out: &mut [u8]) -> usize {
-    let at = put_file(first, file_tags(n), out);
-    let more = put_file(second, file_tags(m), &mut out[at..]);
+fn put_files(
+    first: &[u8],
+    first_end: usize,
+    second: &[u8],
+    second_end: usize,
+    out: &mut [u8],
+) -> usize {
+    let at = put_file(first, file_tags(first_end), out);
+    let more = put_file(second, file_tags(second_end), &mut out[at..]);
     at + more
 }
 
 // The offer of two files, over the records of both.
-fn put_offer(records: &[u8], n: usize, out: &mut [u8]) -> usize {
-    let l = Items {
+fn put_offer(records: &[u8], records_end: usize, out: &mut [u8]) -> usize {
+    let list = Items {
         at: 0,
-        end: n,
+        end: records_end,
         count: 2,
     };
-    let p = Packet {
+    let packet = Packet {
         opening: 0xE3,
         opcode: opcode::OFFER_FILES,
-        body: Body::Records(l),
+        body: Body::Records(list),
     };
-    let a = write_packet(records, Link::Server, p, out);
-    say(b"offer written; bytes: ", a.length as u64);
-    a.length
+    let wrote = write_packet(records, Link::Server, packet, out);
+    say(b"offer written; bytes: ", wrote.length as u64);
+    wrote.length
 }
 
 // A query for files whose name has `left` in it and that have at least 20,000,000 bytes.
 fn put_query(out: &mut [u8]) -> usize {
     let mut word = [0u8; 32];
     let mut limit = [0u8; 32];
-    let a = write_keyword(b"left", &mut word);
-    let b = write_limit(20000000, Bound::AtLeast, &SIZE, &mut limit);
-    let left = bytes_at(&word, 0, a.length);
-    let right = bytes_at(&limit, 0, b.length);
-    let c = write_join(Operator::And, left, right, out);
-    c.length
+    let keyword = write_keyword(b"left", &mut word);
+    let bound = write_limit(20000000, Bound::AtLeast, &SIZE, &mut limit);
+    let left = bytes_at(&word, 0, keyword.length);
+    let right = bytes_at(&limit, 0, bound.length);
+    let join = write_join(Operator::And, left, right, out);
+    join.length
 }
 
 fn put_search(query: &[u8], out: &mut [u8]) -> usize {
-    let q = Query {
+    let whole = Query {
         at: 0,
         end: 0,
         depth: 0,
     };
-    let p = Packet {
+    let packet = Packet {
         opening: 0xE3,
         opcode: opcode::SEARCH_FILE,
-        body: Body::Query(q),
+        body: Body::Query(whole),
     };
-    let a = write_packet(query, Link::Server, p, out);
-    say(b"search written; bytes: ", a.length as u64);
-    a.length
+    let wrote = write_packet(query, Link::Server, packet, out);
+    say(b"search written; bytes: ", wrote.length as u64);
+    wrote.length
 }
 
 // Reading back
 
-fn show_text(s: &[u8], at: usize, n: usize) {
+fn show_text(s: &[u8], at: usize, length: usize) {
     io::write_all(1, b"  name: ");
-    io::write_all(1, bytes_at(s, at, n));
+    io::write_all(1, bytes_at(s, at, length));
     io::write_all(1, b"\n");
 }
 
@@ -162,11 +168,11 @@ fn show_value(s: &[u8], value: TagValue) {
     }
 }
 
-// The tag at a place: the offset after it.
+// The tag at an offset: the offset after it.
 fn show_tag(s: &[u8], at: usize) -> usize {
-    let t = read_tag(s, Cursor { at });
-    let TagStep::Got(tag, next) = t else {
-        say(b"  tag refused: ", t.fault().number() as u64);
+    let tag_step = read_tag(s, Cursor { at });
+    let TagStep::Got(tag, next) = tag_step else {
+        say(b"  tag refused: ", tag_step.fault().number() as u64);
         return at;
     };
     let value = tag.value;
@@ -174,11 +180,11 @@ fn show_tag(s: &[u8], at: usize) -> usize {
     next.at
 }
 
-// The record of a file at a place, with its two tags: the offset after it.
+// The record of a file at an offset, with its two tags: the offset after it.
 fn show_record(s: &[u8], at: usize) -> usize {
-    let r = read_record(s, Cursor { at });
-    let RecordStep::Got(record, next) = r else {
-        say(b"record refused: ", r.fault().number() as u64);
+    let record_step = read_record(s, Cursor { at });
+    let RecordStep::Got(record, next) = record_step else {
+        say(b"record refused: ", record_step.fault().number() as u64);
         return at;
     };
     let tags = record.tags;
@@ -200,22 +206,22 @@ fn show_body(s: &[u8], body: Body) {
 }
 
 fn show_packet(s: &[u8]) {
-    let a = read_packet(s, Link::Server);
-    let PacketAnswer::Accepted(p) = a else {
+    let answer = read_packet(s, Link::Server);
+    let PacketAnswer::Accepted(packet) = answer else {
         io::write_all(1, b"packet refused\n");
         return;
     };
-    say(b"read back; opcode: ", p.opcode as u64);
-    let body = p.body;
+    say(b"read back; opcode: ", packet.opcode as u64);
+    let body = packet.body;
     show_body(s, body);
 }
 
 // Whether the query finds a file by its tags.
 fn show_truth(query: &[u8], scratch: &[u8], tags: Items) {
     let mut list = [0u8; 128];
-    let a = write_tag_list(scratch, tags, &mut list);
-    let t = truth_of(query, bytes_at(&list, 0, a.length));
-    if t.holds {
+    let wrote = write_tag_list(scratch, tags, &mut list);
+    let truth = truth_of(query, bytes_at(&list, 0, wrote.length));
+    if truth.holds {
         io::write_all(1, b"the search finds the file\n");
     } else {
         io::write_all(1, b"the search does not find the file\n");
@@ -223,35 +229,35 @@ fn show_truth(query: &[u8], scratch: &[u8], tags: Items) {
 }
 
 // Composes the offer and reads it back.
-fn offer(first: &[u8], n: usize, second: &[u8], m: usize) {
+fn offer(first: &[u8], first_end: usize, second: &[u8], second_end: usize) {
     let mut records = [0u8; 256];
     let mut packet = [0u8; 256];
-    let end = put_files(first, n, second, m, &mut records);
+    let end = put_files(first, first_end, second, second_end, &mut records);
     let size = put_offer(&records, end, &mut packet);
     show_packet(bytes_at(&packet, 0, size));
 }
 
 // Composes the search, reads it back, and asks it of both files.
-fn search(first: &[u8], n: usize, second: &[u8], m: usize) {
+fn search(first: &[u8], first_end: usize, second: &[u8], second_end: usize) {
     let mut query = [0u8; 64];
     let mut packet = [0u8; 256];
-    let q = put_query(&mut query);
-    let asked = bytes_at(&query, 0, q);
+    let query_length = put_query(&mut query);
+    let asked = bytes_at(&query, 0, query_length);
     let size = put_search(asked, &mut packet);
     show_packet(bytes_at(&packet, 0, size));
-    show_truth(asked, first, file_tags(n));
-    show_truth(asked, second, file_tags(m));
+    show_truth(asked, first, file_tags(first_end));
+    show_truth(asked, second, file_tags(second_end));
 }
 
-fn show(first: &[u8], n: usize, second: &[u8], m: usize) {
-    offer(first, n, second, m);
-    search(first, n, second, m);
+fn show(first: &[u8], first_end: usize, second: &[u8], second_end: usize) {
+    offer(first, first_end, second, second_end);
+    search(first, first_end, second, second_end);
 }
 
 fn main() {
     let mut first = [0xA1u8; 128];
     let mut second = [0xB2u8; 128];
-    let n = put_file_tags(&mut first, b"last 41 left.stl", 48211004);
-    let m = put_file_tags(&mut second, b"last 41 right.stl", 48307212);
-    show(&first, n, &second, m);
+    let first_end = put_file_tags(&mut first, b"last 41 left.stl", 48211004);
+    let second_end = put_file_tags(&mut second, b"last 41 right.stl", 48307212);
+    show(&first, first_end, &second, second_end);
 }

@@ -75,20 +75,26 @@ fn say(words: &[u8], n: u64) {
 fn edit(opened: &[u8], start: u64, end: u64, out: &mut [u8]) -> usize {
     let read = read_gaps(opened);
     let given = read.gaps;
-    let m = mark(given, start, end);
-    let after = m.after;
-    say(b"window marks; bytes missing: ", m.missing);
-    let p = put_gaps(opened, after, out);
-    say(b"window puts its gaps; answer: ", p.number as u64);
-    p.length
+    let marked = mark(given, start, end);
+    let after = marked.after;
+    say(b"window marks; bytes missing: ", marked.missing);
+    let wrote = put_gaps(opened, after, out);
+    say(b"window puts its gaps; answer: ", wrote.number as u64);
+    wrote.length
 }
 
 // Saves the first n bytes of what a window made, over what is stored.
-fn save_window(stored: &[u8], opened: &[u8], made: &[u8], n: usize, out: &mut [u8]) -> WriteAnswer {
-    let new = bytes_at(made, 0, n);
-    let a = save(stored, opened, new, out);
-    say(b"save: answer ", a.number as u64);
-    a
+fn save_window(
+    stored: &[u8],
+    opened: &[u8],
+    made: &[u8],
+    length: usize,
+    out: &mut [u8],
+) -> WriteAnswer {
+    let new = bytes_at(made, 0, length);
+    let saved = save(stored, opened, new, out);
+    say(b"save: answer ", saved.number as u64);
+    saved
 }
 
 fn show_same(a: &[u8], b: &[u8]) {
@@ -104,11 +110,14 @@ fn main() {
     let mut second = [0; 128];
     let mut stored = [0; 128];
     let mut unused = [0; 128];
-    let n = edit(&OPENED, 0, 40, &mut first);
-    let m = edit(&OPENED, 60, 100, &mut second);
-    let a = save_window(&OPENED, &OPENED, &first, n, &mut stored);
-    let now = bytes_at(&stored, 0, a.length);
-    let b = save_window(now, &OPENED, &second, m, &mut unused);
-    say(b"bytes written by the second save: ", b.length as u64);
-    show_same(now, bytes_at(&first, 0, n));
+    let first_length = edit(&OPENED, 0, 40, &mut first);
+    let second_length = edit(&OPENED, 60, 100, &mut second);
+    let first_save = save_window(&OPENED, &OPENED, &first, first_length, &mut stored);
+    let now = bytes_at(&stored, 0, first_save.length);
+    let second_save = save_window(now, &OPENED, &second, second_length, &mut unused);
+    say(
+        b"bytes written by the second save: ",
+        second_save.length as u64,
+    );
+    show_same(now, bytes_at(&first, 0, first_length));
 }

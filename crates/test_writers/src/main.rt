@@ -65,14 +65,14 @@ fn items(at: usize, count: u32) -> Items {
 }
 
 // Prints an answer; where it is a refusal, also whether a byte of the output, which held 0 before, has changed.
-fn show(words: &[u8], a: WriteAnswer, out: &[u8]) {
+fn show(words: &[u8], answer: WriteAnswer, out: &[u8]) {
     io::write_all(1, words);
     io::write_all(1, b": answer ");
-    io::print_decimal(1, a.number as u64);
+    io::print_decimal(1, answer.number as u64);
     io::write_all(1, b", bytes ");
-    io::print_decimal(1, a.length as u64);
+    io::print_decimal(1, answer.length as u64);
     let before = [0u8; 64];
-    if a.number != 0 && !same(out, bytes_at(&before, 0, out.len())) {
+    if answer.number != 0 && !same(out, bytes_at(&before, 0, out.len())) {
         io::write_all(1, b", output changed");
     }
     io::write_all(1, b"\n");
@@ -81,46 +81,46 @@ fn show(words: &[u8], a: WriteAnswer, out: &[u8]) {
 // A packet into an output of 64 bytes.
 fn show_packet(words: &[u8], src: &[u8], link: Link, code: u8, body: Body) {
     let mut out = [0u8; 64];
-    let p = Packet {
+    let packet = Packet {
         opening: 0xE3,
         opcode: code,
         body,
     };
-    let a = write_packet(src, link, p, &mut out);
-    show(words, a, &out);
+    let answer = write_packet(src, link, packet, &mut out);
+    show(words, answer, &out);
 }
 
 fn show_short_room() {
     let mut out = [0u8; 13];
-    let p = Packet {
+    let packet = Packet {
         opening: 0xE3,
         opcode: opcode::SERVER_STATUS,
         body: Body::TwoDwords(3, 5),
     };
-    let a = write_packet(&SOURCE, Link::Server, p, &mut out);
-    show(b"two numbers into 13 bytes", a, &out);
+    let answer = write_packet(&SOURCE, Link::Server, packet, &mut out);
+    show(b"two numbers into 13 bytes", answer, &out);
 }
 
 fn show_opening() {
     let mut out = [0u8; 64];
-    let p = Packet {
+    let packet = Packet {
         opening: 0xC5,
         opcode: opcode::SERVER_STATUS,
         body: Body::TwoDwords(3, 5),
     };
-    let a = write_packet(&SOURCE, Link::Server, p, &mut out);
-    show(b"a packet that opens with C5", a, &out);
+    let answer = write_packet(&SOURCE, Link::Server, packet, &mut out);
+    show(b"a packet that opens with C5", answer, &out);
 }
 
 // 96 with a number: whether it is the plain or the extended request is in the number.
 fn show_status_request(words: &[u8], form: Form, number: u32) {
-    let r = StatusRequest { form, number };
+    let request = StatusRequest { form, number };
     show_packet(
         words,
         &SOURCE,
         Link::Udp,
         opcode::UDP_SERVER_STATUS_REQUEST,
-        Body::StatusRequest(r),
+        Body::StatusRequest(request),
     );
 }
 
@@ -128,25 +128,25 @@ fn show_status_request(words: &[u8], form: Form, number: u32) {
 fn show_part(words: &[u8], blocks: HashBlocks) {
     let mut out = [0u8; 64];
     let tags = items(16, 1);
-    let m = PartE1 {
+    let part = PartE1 {
         date: 0,
         hash: 0,
         tags,
         blocks,
     };
-    let a = write_part_met(&SOURCE, PartMet::E1(m), &mut out);
-    show(words, a, &out);
+    let answer = write_part_met(&SOURCE, PartMet::E1(part), &mut out);
+    show(words, answer, &out);
 }
 
 fn show_addresses(words: &[u8], count: u32) {
     let source = [7u8; 1536];
-    let l = items(0, count);
+    let list = items(0, count);
     show_packet(
         words,
         &source,
         Link::Server,
         opcode::SERVER_LIST,
-        Body::Addresses(l),
+        Body::Addresses(list),
     );
 }
 
