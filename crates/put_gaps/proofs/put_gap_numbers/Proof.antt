@@ -83,14 +83,17 @@ same-length c = search needs
 
 returns-4 : tie.Need-returns-4
 returns-4 c =
-    let j = c .before .before .before .before .before .before .before .before .before in
-    let a = c .before .before .before .before .before .before .before .before .before .before .before .before .before .before .before .before .before .args in
-    let part = reads (now (a .file)) _ _ _ _ (c .before .before .before .before .before .before .before .before .before .before .before .read2 .given .1) (c .before .before .before .before .before .before .before .before .before .before .before .before .before .read-part .ensures) in
+    let sized = c .before .before .before .before in
+    let lawful-test = sized .before .before in
+    let accepted = lawful-test .before .before .before .before in
+    let read = accepted .before .before in
+    let a = read .before .before .before .before .args in
+    let part = reads (now (a .file)) _ _ _ _ (accepted .read2 .given .1) (read .read-part .ensures) in
     let l = now (a .gaps) in
-    let judged = sym (j .judge-numbers .ensures .told) ∙ not-false _ (c .before .before .before .before .before .before .before .if1 .left) in
+    let judged = sym (lawful-test .before .before .judge-numbers .ensures .told) ∙ not-false _ (lawful-test .if1 .left) in
     let there = lawful-numbers l judged in
     let lawful : lawfulRecord sizeLimit (held l) ≡ true = rw (there .1) at judged in
-    let fitting = put-fitting _ (held l) _ _ (part .told) lawful _ (part .sized) (c .before .before .before .before .before .if2 .left) in
+    let fitting = put-fitting _ (held l) _ _ (part .told) lawful _ (part .sized) (sized .if2 .left) in
     c .before .before .put-file .ensures ∙ sym (ap (λ g. putRecord (now (a .file)) g (now (a .out))) (there .1) ∙ fitting)
 
 pub put-gap-numbers-spec : {M : Type 1} → statement M
