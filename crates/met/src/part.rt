@@ -64,9 +64,9 @@ fn block_hash_by_block_hash(s: &[u8], first: Cursor, n: u32) -> ItemsStep
     let mut next = first;
     let mut i: u32 = 0;
     while i < n {
-        let h = next.run(s, 8);
-        let PlaceStep::Got(_, after) = h else {
-            return ItemsStep::Refused(h.fault());
+        let hash_step = next.run(s, 8);
+        let PlaceStep::Got(_, after) = hash_step else {
+            return ItemsStep::Refused(hash_step.fault());
         };
         next = after;
         i += 1;
@@ -101,9 +101,9 @@ pub fn block_hashes_from(s: &[u8], first: Cursor, n: u32) -> ItemsStep
 fn read_mark(s: &[u8], c: Cursor) -> MarkStep
     ensures { λ r. ⌜ markMeaning r ≡ decodeCode marks (now (s .entry)) (c .at) ⌝ }
 {
-    let b = c.byte(s);
-    let ByteStep::Got(code, next) = b else {
-        return MarkStep::Refused(b.fault());
+    let code_step = c.byte(s);
+    let ByteStep::Got(code, next) = code_step else {
+        return MarkStep::Refused(code_step.fault());
     };
     match code {
         0x00 => MarkStep::Got(Mark::Stop, next),
@@ -124,20 +124,20 @@ fn read_second_block(s: &[u8], c: Cursor, size: u32, parts: Items) -> BlocksStep
         (decodeSecondBlock size (itemsIn decodeHash (now (s .entry)) parts)) ⌝ }
     ensures placed { λ r. ⌜ BlocksStepPlaced (now (s .entry)) r ⌝ }
 {
-    let m = read_mark(s, c);
-    let MarkStep::Got(mark, after_mark) = m else {
-        return BlocksStep::Refused(m.fault());
+    let mark_step = read_mark(s, c);
+    let MarkStep::Got(mark, after_mark) = mark_step else {
+        return BlocksStep::Refused(mark_step.fault());
     };
     let Mark::More = mark else {
         return BlocksStep::Got(HashBlocks::Parts(parts), after_mark);
     };
-    let b = block_hashes_from(s, after_mark, block_count(size));
-    let ItemsStep::Got(blocks, after_blocks) = b else {
-        return BlocksStep::Refused(b.fault());
+    let blocks_step = block_hashes_from(s, after_mark, block_count(size));
+    let ItemsStep::Got(blocks, after_blocks) = blocks_step else {
+        return BlocksStep::Refused(blocks_step.fault());
     };
-    let z = after_blocks.fixed(s, 0x00);
-    let DoneStep::Got(next) = z else {
-        return BlocksStep::Refused(z.fault());
+    let closing_step = after_blocks.fixed(s, 0x00);
+    let DoneStep::Got(next) = closing_step else {
+        return BlocksStep::Refused(closing_step.fault());
     };
     BlocksStep::Got(HashBlocks::Both(parts, blocks), next)
 }
@@ -147,16 +147,16 @@ fn read_blocks(s: &[u8], c: Cursor, size: u32) -> BlocksStep
     ensures meaning { λ r. ⌜ blocksMeaning (now (s .entry)) r ≡ decodeHashBlocks size (now (s .entry)) (c .at) ⌝ }
     ensures placed { λ r. ⌜ BlocksStepPlaced (now (s .entry)) r ⌝ }
 {
-    let m = read_mark(s, c);
-    let MarkStep::Got(mark, after_mark) = m else {
-        return BlocksStep::Refused(m.fault());
+    let mark_step = read_mark(s, c);
+    let MarkStep::Got(mark, after_mark) = mark_step else {
+        return BlocksStep::Refused(mark_step.fault());
     };
     let Mark::More = mark else {
         return BlocksStep::Got(HashBlocks::Nothing, after_mark);
     };
-    let p = hashes_from(s, after_mark, part_count(size));
-    let ItemsStep::Got(parts, after_parts) = p else {
-        return BlocksStep::Refused(p.fault());
+    let parts_step = hashes_from(s, after_mark, part_count(size));
+    let ItemsStep::Got(parts, after_parts) = parts_step else {
+        return BlocksStep::Refused(parts_step.fault());
     };
     read_second_block(s, after_parts, size, parts)
 }
@@ -164,9 +164,9 @@ fn read_blocks(s: &[u8], c: Cursor, size: u32) -> BlocksStep
 fn read_edition(s: &[u8], c: Cursor) -> EditionStep
     ensures { λ r. ⌜ editionMeaning r ≡ decodeEdition (now (s .entry)) (c .at) ⌝ }
 {
-    let b = c.byte(s);
-    let ByteStep::Got(code, next) = b else {
-        return EditionStep::Refused(b.fault());
+    let code_step = c.byte(s);
+    let ByteStep::Got(code, next) = code_step else {
+        return EditionStep::Refused(code_step.fault());
     };
     match code {
         0xE0 => EditionStep::Got(Edition::E0, next),
@@ -185,15 +185,15 @@ fn read_part_tags(s: &[u8], c: Cursor) -> PartTagsStep
     ensures placed { λ r. ⌜ PartTagsStepPlaced (now (s .entry)) r ⌝ }
     ensures sized { λ r. ⌜ PartTagsStepSized (now (s .entry)) r ⌝ }
 {
-    let d = c.dword(s);
-    let DwordStep::Got(count, first) = d else {
-        return PartTagsStep::Refused(d.fault());
+    let count_step = c.dword(s);
+    let DwordStep::Got(count, first) = count_step else {
+        return PartTagsStep::Refused(count_step.fault());
     };
     let at = first.at;
     let mut starts: [usize; 64] = [0; 64];
-    let t = part_tags_from(s, at, count, &mut starts);
-    let CheckedStep::Got(checked) = t else {
-        return PartTagsStep::Refused(t.fault());
+    let tags_step = part_tags_from(s, at, count, &mut starts);
+    let CheckedStep::Got(checked) = tags_step else {
+        return PartTagsStep::Refused(tags_step.fault());
     };
     let end = checked.end;
     let range = checked.range;
@@ -216,21 +216,21 @@ fn read_part_e0(s: &[u8], c: Cursor) -> PartMetStep
     ensures placed { λ r. ⌜ PartMetStepPlaced (now (s .entry)) r ⌝ }
     ensures sized { λ r. ⌜ PartMetStepSized (now (s .entry)) r ⌝ }
 {
-    let d = c.dword(s);
-    let DwordStep::Got(date, after_date) = d else {
-        return PartMetStep::Refused(d.fault());
+    let date_step = c.dword(s);
+    let DwordStep::Got(date, after_date) = date_step else {
+        return PartMetStep::Refused(date_step.fault());
     };
-    let h = after_date.hash(s);
-    let HashStep::Got(hash, after_hash) = h else {
-        return PartMetStep::Refused(h.fault());
+    let hash_step = after_date.hash(s);
+    let HashStep::Got(hash, after_hash) = hash_step else {
+        return PartMetStep::Refused(hash_step.fault());
     };
-    let p = read_hashes(s, after_hash);
-    let ItemsStep::Got(parts, after_parts) = p else {
-        return PartMetStep::Refused(p.fault());
+    let parts_step = read_hashes(s, after_hash);
+    let ItemsStep::Got(parts, after_parts) = parts_step else {
+        return PartMetStep::Refused(parts_step.fault());
     };
-    let t = read_part_tags(s, after_parts);
-    let PartTagsStep::Got(tags, size, range, next) = t else {
-        return PartMetStep::Refused(t.fault());
+    let tags_step = read_part_tags(s, after_parts);
+    let PartTagsStep::Got(tags, size, range, next) = tags_step else {
+        return PartMetStep::Refused(tags_step.fault());
     };
     let entry = FileEntry {
         date,
@@ -247,25 +247,25 @@ fn read_part_e1(s: &[u8], c: Cursor) -> PartMetStep
     ensures placed { λ r. ⌜ PartMetStepPlaced (now (s .entry)) r ⌝ }
     ensures sized { λ r. ⌜ PartMetStepSized (now (s .entry)) r ⌝ }
 {
-    let f = c.fixed(s, 0x02);
-    let DoneStep::Got(after_fixed) = f else {
-        return PartMetStep::Refused(f.fault());
+    let fixed_step = c.fixed(s, 0x02);
+    let DoneStep::Got(after_fixed) = fixed_step else {
+        return PartMetStep::Refused(fixed_step.fault());
     };
-    let d = after_fixed.dword(s);
-    let DwordStep::Got(date, after_date) = d else {
-        return PartMetStep::Refused(d.fault());
+    let date_step = after_fixed.dword(s);
+    let DwordStep::Got(date, after_date) = date_step else {
+        return PartMetStep::Refused(date_step.fault());
     };
-    let h = after_date.hash(s);
-    let HashStep::Got(hash, after_hash) = h else {
-        return PartMetStep::Refused(h.fault());
+    let hash_step = after_date.hash(s);
+    let HashStep::Got(hash, after_hash) = hash_step else {
+        return PartMetStep::Refused(hash_step.fault());
     };
-    let t = read_part_tags(s, after_hash);
-    let PartTagsStep::Got(tags, size, range, after_tags) = t else {
-        return PartMetStep::Refused(t.fault());
+    let tags_step = read_part_tags(s, after_hash);
+    let PartTagsStep::Got(tags, size, range, after_tags) = tags_step else {
+        return PartMetStep::Refused(tags_step.fault());
     };
-    let b = read_blocks(s, after_tags, size);
-    let BlocksStep::Got(blocks, next) = b else {
-        return PartMetStep::Refused(b.fault());
+    let blocks_step = read_blocks(s, after_tags, size);
+    let BlocksStep::Got(blocks, next) = blocks_step else {
+        return PartMetStep::Refused(blocks_step.fault());
     };
     let file = PartE1 {
         date,
@@ -281,9 +281,9 @@ fn read_part_met_at(s: &[u8], c: Cursor) -> PartMetStep
     ensures placed { λ r. ⌜ PartMetStepPlaced (now (s .entry)) r ⌝ }
     ensures sized { λ r. ⌜ PartMetStepSized (now (s .entry)) r ⌝ }
 {
-    let e = read_edition(s, c);
-    let EditionStep::Got(edition, next) = e else {
-        return PartMetStep::Refused(e.fault());
+    let edition_step = read_edition(s, c);
+    let EditionStep::Got(edition, next) = edition_step else {
+        return PartMetStep::Refused(edition_step.fault());
     };
     match edition {
         Edition::E0 => read_part_e0(s, next),
@@ -302,10 +302,10 @@ pub fn read_part(s: &[u8]) -> PartRead
     if MET_CEILING < s.len() {
         return PartRead::Refused(number(Rule::BytesCeiling));
     }
-    let m = read_part_met_at(s, Cursor { at: 0 });
-    let PartMetStep::Got(file, size, range, next) = m else {
-        let f = m.fault();
-        let rule = f.rule;
+    let part_step = read_part_met_at(s, Cursor { at: 0 });
+    let PartMetStep::Got(file, size, range, next) = part_step else {
+        let fault = part_step.fault();
+        let rule = fault.rule;
         return PartRead::Refused(number(rule));
     };
     let end = next.at;
@@ -331,8 +331,8 @@ pub fn read_part_met(s: &[u8]) -> PartAnswer
 pub fn read_gaps(s: &[u8]) -> GapsAnswer
     ensures { λ r. ⌜ r ≡ gapsAnswer (reply (decode partMet (now (s .entry)))) ⌝ }
 {
-    let a = read_part(s);
-    match a {
+    let read = read_part(s);
+    match read {
         PartRead::Refused(n) => GapsAnswer {
             number: n,
             gaps: none_missing(0),

@@ -237,8 +237,8 @@ fn dword_at(s: &[u8], at: usize) -> u32
     ensures { λ r. ⌜ r ≡ dwordAt (now (s .entry)) at ⌝ }
 {
     let c = Cursor { at };
-    let d = c.dword(s);
-    let DwordStep::Got(number, _) = d else {
+    let dword_step = c.dword(s);
+    let DwordStep::Got(number, _) = dword_step else {
         return 0;
     };
     number
@@ -257,9 +257,9 @@ pub fn part_tags_from(s: &[u8], at: usize, count: u32, starts: &mut [usize; 64])
     requires { ⌜ length (now starts) ≡ 64 ⌝ }
     ensures { λ r. ⌜ CheckedFound (now (s .entry)) at count (now (starts .exit)) r ⌝ }
 {
-    let v = survey::survey(s, at, count);
-    let SurveyStep::Got(surveyed) = v else {
-        return CheckedStep::Refused(v.fault());
+    let survey_step = survey::survey(s, at, count);
+    let SurveyStep::Got(surveyed) = survey_step else {
+        return CheckedStep::Refused(survey_step.fault());
     };
     let range = surveyed.range;
     let end = surveyed.end;
@@ -341,8 +341,8 @@ pub fn check_part_tags(s: &[u8], tags: Items) -> PartTags
     ensures gaps { λ r. ⌜ r .gaps ≡ gapsMeaning (itemsIn decodeTag (now (s .entry)) tags) (r .verdict) ⌝ }
 {
     let mut starts: [usize; 64] = [0; 64];
-    let t = part_tags_from(s, tags.at, tags.count, &mut starts);
-    let CheckedStep::Got(checked) = t else {
+    let tags_step = part_tags_from(s, tags.at, tags.count, &mut starts);
+    let CheckedStep::Got(checked) = tags_step else {
         // Never taken: the list was read before.
         return PartTags {
             verdict: TagsVerdict::Violates(Rule::SizeTag),

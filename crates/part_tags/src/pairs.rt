@@ -126,8 +126,8 @@ fn start_tag(s: &[u8], at: usize, starts: &[usize; 64], progress: Progress) -> S
         return StartStep::Violates(Rule::Order);
     }
     let digits = digits_at(s, at);
-    let k = digits_key(digits);
-    let Key::Some(key) = k else {
+    let key_found = digits_key(digits);
+    let Key::Some(key) = key_found else {
         return StartStep::Violates(Rule::Order);
     };
     if is_taken(s, digits, key, starts, progress) {
@@ -175,15 +175,15 @@ fn take_pair(s: &[u8], left: Items, size: u32, starts: &[usize; 64], progress: P
     ensures { λ r. ⌜ PairFound (now (s .entry)) size (firstPairs (now (s .entry)) (progress .count) (now (starts .entry))) left r ⌝ }
 {
     let at = left.at;
-    let a = start_tag(s, at, starts, progress);
-    let StartStep::Takes(key, start, second) = a else {
-        return PairStep::Violates(a.rule());
+    let start_step = start_tag(s, at, starts, progress);
+    let StartStep::Takes(key, start, second) = start_step else {
+        return PairStep::Violates(start_step.rule());
     };
     if left.count < 2 {
         return PairStep::Violates(Rule::Order);
     }
-    let b = end_tag(s, size, digits_at(s, at), start, second);
-    let EndStep::Takes(end, after) = b else {
+    let end_step = end_tag(s, size, digits_at(s, at), start, second);
+    let EndStep::Takes(end, after) = end_step else {
         return PairStep::Violates(Rule::Order);
     };
     PairStep::Takes(key, end, after)
@@ -220,10 +220,10 @@ pub fn scan_gaps(s: &[u8], range: Items, size: u32, starts: &mut [usize; 64]) ->
                 end: range_end,
                 count: count - i,
             };
-            let p = take_pair(s, left, size, starts, progress);
-            let PairStep::Takes(key, end, after) = p else {
+            let pair_step = take_pair(s, left, size, starts, progress);
+            let PairStep::Takes(key, end, after) = pair_step else {
                 return Scanned {
-                    verdict: Verdict::Violates(p.rule()),
+                    verdict: Verdict::Violates(pair_step.rule()),
                     count: 0,
                 };
             };

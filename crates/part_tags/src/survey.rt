@@ -61,8 +61,8 @@ fn fault_at(s: &[u8], at: usize) -> Fault
     requires { ⌜ offsetAfter (decodeTag (now s) at) ≡ 0 ⌝ }
     ensures { λ r. ⌜ refused (faultMeaning r) ≡ decodeTag (now (s .entry)) at ⌝ }
 {
-    let t = read_tag(s, Cursor { at });
-    t.fault()
+    let tag_step = read_tag(s, Cursor { at });
+    tag_step.fault()
 }
 
 // The tags before the first gap tag.
@@ -135,9 +135,9 @@ fn gap_range(s: &[u8], at: usize, count: u32, before: Sizes) -> SurveyStep
 pub fn survey(s: &[u8], at: usize, count: u32) -> SurveyStep
     ensures { λ r. ⌜ SurveyFound (now (s .entry)) at count r ⌝ }
 {
-    let l = leading_tags(s, at, count);
-    let LeadingStep::Got(leading) = l else {
-        return SurveyStep::Refused(l.fault());
+    let leading_step = leading_tags(s, at, count);
+    let LeadingStep::Got(leading) = leading_step else {
+        return SurveyStep::Refused(leading_step.fault());
     };
     let passed = leading.count;
     let sizes = leading.sizes;

@@ -8,8 +8,8 @@ use Rattle.part_tags.proofs.part_tags_from.Tie as tie
 survey-requires : tie.Need-survey-requires
 survey-requires c κs = search needs
 
-enum-known-v : tie.Need-enum-known-v
-enum-known-v c = search needs
+enum-known-survey-step : tie.Need-enum-known-survey-step
+enum-known-survey-step c = search needs
 
 enum-told : tie.Need-enum-told
 enum-told c = search needs
@@ -34,13 +34,13 @@ returns-2 c =
     let v = c .before .before .before .before .before in
     let a = v .before .before .before .before .args in
     let one = sym (c .enum-told2 .given .1) ∙ c .before .before .only .ensures in
-    checked-unsized (now (a .s)) (a .at) (a .count) (v .v .given .0 .0) (rw (v .v .given .1) at (v .before .before .survey .ensures)) _ one
+    checked-unsized (now (a .s)) (a .at) (a .count) (v .survey-step .given .0 .0) (rw (v .survey-step .given .1) at (v .before .before .survey .ensures)) _ one
 
 scan-gaps-requires : tie.Need-scan-gaps-requires
 scan-gaps-requires c κs =
     let v = c .before .before .before .before .before .before .before in
     let b = v .before .before .before .before in
-    (range-placed (now (b .args .s)) (b .args .at) (b .args .count) (v .v .given .0 .0) (rw (v .v .given .1) at (v .before .before .survey .ensures)), b .pre)
+    (range-placed (now (b .args .s)) (b .args .at) (b .args .count) (v .survey-step .given .0 .0) (rw (v .survey-step .given .1) at (v .before .before .survey .ensures)), b .pre)
 
 enum-told-3 : tie.Need-enum-told-3
 enum-told-3 c = search needs
@@ -55,7 +55,7 @@ returns-3 c =
     let a = v .before .before .before .before .args in
     let one = sym (o .only2 .given .1) ∙ o .before .before .only .ensures in
     let r = c .before .before in
-    checked-passes (now (a .s)) (a .at) (a .count) (v .v .given .0 .0) (rw (v .v .given .1) at (v .before .before .survey .ensures)) _ _ one (r .scan-gaps .result) (r .scan-gaps .ensures) (c .enum-told3 .given .1)
+    checked-passes (now (a .s)) (a .at) (a .count) (v .survey-step .given .0 .0) (rw (v .survey-step .given .1) at (v .before .before .survey .ensures)) _ _ one (r .scan-gaps .result) (r .scan-gaps .ensures) (c .enum-told3 .given .1)
 
 returns-4 : tie.Need-returns-4
 returns-4 c =
@@ -64,14 +64,14 @@ returns-4 c =
     let v = o .before .before .before .before .before in
     let a = v .before .before .before .before .args in
     let one = sym (o .only2 .given .1) ∙ o .before .before .only .ensures in
-    checked-stopped (now (a .s)) (a .at) (a .count) (v .v .given .0 .0) (rw (v .v .given .1) at (v .before .before .survey .ensures)) _ _ one (r .scan-gaps .result) (r .scan-gaps .ensures) (c .before .verdict .given .0 .0) (c .before .verdict .given .1)
+    checked-stopped (now (a .s)) (a .at) (a .count) (v .survey-step .given .0 .0) (rw (v .survey-step .given .1) at (v .before .before .survey .ensures)) _ _ one (r .scan-gaps .result) (r .scan-gaps .ensures) (c .before .verdict .given .0 .0) (c .before .verdict .given .1)
 
 pub part-tags-from-spec : {M : Type 1} → statement M
 part-tags-from-spec =
     tie.close
     (tie.spec
     survey-requires
-    enum-known-v
+    enum-known-survey-step
     enum-told
     fault-requires
     returns

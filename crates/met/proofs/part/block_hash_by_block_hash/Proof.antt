@@ -17,8 +17,8 @@ loop-holds c = begins (decodeRun 8) _ _ _
 run-requires : tie.Need-run-requires Inv-loop μ-loop
 run-requires c κs = search needs
 
-enum-known-h : tie.Need-enum-known-h Inv-loop μ-loop
-enum-known-h c = search needs
+enum-known-hash-step : tie.Need-enum-known-hash-step Inv-loop μ-loop
+enum-known-hash-step c = search needs
 
 enum-told : tie.Need-enum-told Inv-loop μ-loop
 enum-told c = search needs
@@ -41,7 +41,7 @@ loop-less c = search needs
 
 loop-again : tie.Need-loop-again Inv-loop μ-loop
 loop-again c =
-    let read = rw (c .before .h .given .1) at (c .before .before .before .run .ensures .0) in
+    let read = rw (c .before .hash-step .given .1) at (c .before .before .before .run .ensures .0) in
     let l = c .before .before .before .before in
     goes-on (decodeRun 8) _ _ _ _ _ (l .loop-test .taken) (l .before .loop .inv) read
 
@@ -56,7 +56,7 @@ block-hash-by-block-hash-spec =
     μ-loop
     loop-holds
     run-requires
-    enum-known-h
+    enum-known-hash-step
     enum-told
     fault-requires
     returns

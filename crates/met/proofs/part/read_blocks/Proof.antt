@@ -11,8 +11,8 @@ use Rattle.met.proofs.part.read_blocks.Tie as tie
 read-mark-requires : tie.Need-read-mark-requires
 read-mark-requires c κs = search needs
 
-enum-known-m : tie.Need-enum-known-m
-enum-known-m c = search needs
+enum-known-mark-step : tie.Need-enum-known-mark-step
+enum-known-mark-step c = search needs
 
 enum-told : tie.Need-enum-told
 enum-told c = search needs
@@ -34,7 +34,7 @@ returns-2 : tie.Need-returns-2
 unfolding decodeHashBlocks
 returns-2 c =
     let m = c .before .before .before in
-    (rw (← m .before .before .read-mark .ensures, m .m .given .1, c .enum-told3 .given .1) refl, tt)
+    (rw (← m .before .before .read-mark .ensures, m .mark-step .given .1, c .enum-told3 .given .1) refl, tt)
 
 part-count-requires : tie.Need-part-count-requires
 part-count-requires c κs = search needs
@@ -42,8 +42,8 @@ part-count-requires c κs = search needs
 hashes-from-requires : tie.Need-hashes-from-requires
 hashes-from-requires c κs = search needs
 
-enum-known-p : tie.Need-enum-known-p
-enum-known-p c = search needs
+enum-known-parts-step : tie.Need-enum-known-parts-step
+enum-known-parts-step c = search needs
 
 enum-told-4 : tie.Need-enum-told-4
 enum-told-4 c = search needs
@@ -59,7 +59,7 @@ returns-3 c =
       rw (
         c .fault2 .ensures,
         ← m .before .before .read-mark .ensures,
-        m .m .given .1,
+        m .mark-step .given .1,
         more .enum-told2 .given .1,
         ← c .before .before .before .before .part-count .ensures,
         ← c .before .before .before .hashes-from .ensures .0,
@@ -73,9 +73,9 @@ read-second-block-requires : tie.Need-read-second-block-requires
 read-second-block-requires c κs =
     let p = c .before .before .before in
     let m = p .before .before .before .before .before in
-    let marked = mark-inside _ _ (rw (m .m .given .1) at (m .before .before .read-mark .ensures)) in
+    let marked = mark-inside _ _ (rw (m .mark-step .given .1) at (m .before .before .read-mark .ensures)) in
     let list = p .hashes-from in
-    rw (c .before .p .given .1) at
+    rw (c .before .parts-step .given .1) at
     (items-inside codec-hash (now (m .before .before .before .before .args .s)) (m .before .before .before .shared-slice-known .given) (list .result) (p .before .part-count .result) _ marked (list .ensures .0) (list .ensures .1))
 
 returns-4 : tie.Need-returns-4
@@ -86,11 +86,11 @@ returns-4 c =
     let m = more .before .before .before in (
       rw (
         ← m .before .before .read-mark .ensures,
-        m .m .given .1,
+        m .mark-step .given .1,
         more .enum-told2 .given .1,
         ← parts .before .before .before .part-count .ensures,
         ← parts .before .before .hashes-from .ensures .0,
-        parts .p .given .1,
+        parts .parts-step .given .1,
       )
           (c .read-second-block .ensures .0),
       c .read-second-block .ensures .1,
@@ -101,7 +101,7 @@ read-blocks-spec =
     tie.close
     (tie.spec
     read-mark-requires
-    enum-known-m
+    enum-known-mark-step
     enum-told
     fault-requires
     returns
@@ -110,7 +110,7 @@ read-blocks-spec =
     returns-2
     part-count-requires
     hashes-from-requires
-    enum-known-p
+    enum-known-parts-step
     enum-told-4
     fault-requires-2
     returns-3

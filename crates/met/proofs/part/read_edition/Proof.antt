@@ -8,8 +8,8 @@ use Rattle.met.proofs.part.read_edition.Tie as tie
 byte-requires : tie.Need-byte-requires
 byte-requires c κs = search needs
 
-enum-known-b : tie.Need-enum-known-b
-enum-known-b c = search needs
+enum-known-code-step : tie.Need-enum-known-code-step
+enum-known-code-step c = search needs
 
 enum-told : tie.Need-enum-told
 enum-told c = search needs
@@ -23,24 +23,24 @@ returns c = rw (c .fault .ensures, ← c .before .before .before .byte .ensures,
 
 returns-2 : tie.Need-returns-2
 unfolding decodeEdition
-returns-2 c = rw (← c .before .before .before .before .byte .ensures, c .before .before .b .given .1, c .match2 .keys1) refl
+returns-2 c = rw (← c .before .before .before .before .byte .ensures, c .before .before .code-step .given .1, c .match2 .keys1) refl
 
 returns-3 : tie.Need-returns-3
 unfolding decodeEdition
-returns-3 c = rw (← c .before .before .before .before .byte .ensures, c .before .before .b .given .1, c .match2 .keys2) refl
+returns-3 c = rw (← c .before .before .before .before .byte .ensures, c .before .before .code-step .given .1, c .match2 .keys2) refl
 
 returns-4 : tie.Need-returns-4
 unfolding decodeEdition
 returns-4 c =
     let others = c .match2 .rest in
-    rw (← c .before .before .before .before .byte .ensures, c .before .before .b .given .1, ne-eqb _ _ (others .0 .1), ne-eqb _ _ (others .1)) refl
+    rw (← c .before .before .before .before .byte .ensures, c .before .before .code-step .given .1, ne-eqb _ _ (others .0 .1), ne-eqb _ _ (others .1)) refl
 
 pub read-edition-spec : {M : Type 1} → statement M
 read-edition-spec =
     tie.close
     (tie.spec
     byte-requires
-    enum-known-b
+    enum-known-code-step
     enum-told
     fault-requires
     returns

@@ -9,19 +9,19 @@ use Rattle.met.proofs.part.read_gaps.Tie as tie
 read-part-requires : tie.Need-read-part-requires
 read-part-requires c κs = search needs
 
-enum-known-a : tie.Need-enum-known-a
-enum-known-a c = search needs
+enum-known-read : tie.Need-enum-known-read
+enum-known-read c = search needs
 
 none-missing-requires : tie.Need-none-missing-requires
 none-missing-requires c κs = search needs
 
-enum-known-a-2 : tie.Need-enum-known-a-2
-enum-known-a-2 c = search needs
+enum-known-read-2 : tie.Need-enum-known-read-2
+enum-known-read-2 c = search needs
 
 gap-starts-requires : tie.Need-gap-starts-requires
 gap-starts-requires c κs =
     let a = c .before .before in
-    let f = a .a2 .given in
+    let f = a .read2 .given in
     let s = now (a .before .before .before .before .args .s) in
     let h = rw (f .1) at (a .before .before .read-part .ensures .1 .1 .0) in
     (range-placed s (f .0 .0) (f .0 .1 .0) (f .0 .1 .1 .0) h, refl)
@@ -29,19 +29,19 @@ gap-starts-requires c κs =
 record-of-requires : tie.Need-record-of-requires
 record-of-requires c κs =
     let a = c .before .before .before .before in
-    let f = a .a2 .given in
+    let f = a .read2 .given in
     let s = now (a .before .before .before .before .args .s) in
     let h = rw (f .1) at (a .before .before .read-part .ensures .1 .1 .0) in
     let held = c .before .gap-starts .ensures (tagsPlace (f .0 .0)) (h .1) (file-passes s (f .0 .0) (f .0 .1 .0) (f .0 .1 .1 .0) h) in
     (held .few, held .inside)
 
 returns : tie.Need-returns
-returns c = rw (c .none-missing .ensures, ← c .before .before .before .before .read-part .ensures .0, c .before .before .a .given .1) refl
+returns c = rw (c .none-missing .ensures, ← c .before .before .before .before .read-part .ensures .0, c .before .before .read .given .1) refl
 
 returns-2 : tie.Need-returns-2
 returns-2 c =
     let a = c .before .before .before .before .before in
-    let f = a .a2 .given in
+    let f = a .read2 .given in
     let s = now (a .before .before .before .before .args .s) in
     let h = rw (f .1) at (a .before .before .read-part .ensures .1 .1 .0) in
     let found = c .before .before .gap-starts in
@@ -53,9 +53,9 @@ read-gaps-spec =
     tie.close
     (tie.spec
     read-part-requires
-    enum-known-a
+    enum-known-read
     none-missing-requires
-    enum-known-a-2
+    enum-known-read-2
     gap-starts-requires
     record-of-requires
     returns

@@ -24,8 +24,8 @@ returns c =
 read-part-met-at-requires : tie.Need-read-part-met-at-requires
 read-part-met-at-requires c κs = search needs
 
-enum-known-m : tie.Need-enum-known-m
-enum-known-m c = search needs
+enum-known-part-step : tie.Need-enum-known-part-step
+enum-known-part-step c = search needs
 
 enum-told : tie.Need-enum-told
 enum-told c = search needs
@@ -56,7 +56,7 @@ returns-3 : tie.Need-returns-3
 unfolding decode
 returns-3 c =
     let b = c .before .before .before .before in
-    let m = c .before .before .m .given .1 in
+    let m = c .before .before .part-step .given .1 in
     exact-sized partMet (now (b .before .before .before .args .s)) (b .before .before .shared-slice-known .given)
     (rw (le-leb _ metCeiling (b .before .if1 .left), ← b .read-part-met-at .ensures .0, m, eq-eqb _ _ (c .if2 .taken)) refl)
     (rw m at (b .read-part-met-at .ensures .1 .0))
@@ -74,7 +74,7 @@ returns-4 c =
       c .number3 .ensures,
       le-leb _ metCeiling (b .before .if1 .left),
       ← b .read-part-met-at .ensures .0,
-      c .before .before .before .m .given .1,
+      c .before .before .before .part-step .given .1,
       ne-eqb _ _ (c .before .if2 .left),
     )
     refl)
@@ -88,7 +88,7 @@ read-part-spec =
     number-requires
     returns
     read-part-met-at-requires
-    enum-known-m
+    enum-known-part-step
     enum-told
     fault-requires
     number-requires-2

@@ -8,8 +8,8 @@ use Rattle.met.proofs.part.read_part_e0.Tie as tie
 dword-requires : tie.Need-dword-requires
 dword-requires c κs = search needs
 
-enum-known-d : tie.Need-enum-known-d
-enum-known-d c = search needs
+enum-known-date-step : tie.Need-enum-known-date-step
+enum-known-date-step c = search needs
 
 enum-told : tie.Need-enum-told
 enum-told c = search needs
@@ -24,8 +24,8 @@ returns c = (rw (c .fault .ensures, ← c .before .before .before .dword .ensure
 hash-requires : tie.Need-hash-requires
 hash-requires c κs = search needs
 
-enum-known-h : tie.Need-enum-known-h
-enum-known-h c = search needs
+enum-known-hash-step : tie.Need-enum-known-hash-step
+enum-known-hash-step c = search needs
 
 enum-told-2 : tie.Need-enum-told-2
 enum-told-2 c = search needs
@@ -40,7 +40,7 @@ returns-2 c =
       rw (
         c .fault2 .ensures,
         ← date .before .before .dword .ensures,
-        date .d .given .1,
+        date .date-step .given .1,
         ← c .before .before .before .hash .ensures,
         c .before .enum-told2 .given .1,
       )
@@ -51,8 +51,8 @@ returns-2 c =
 read-hashes-requires : tie.Need-read-hashes-requires
 read-hashes-requires c κs = search needs
 
-enum-known-p : tie.Need-enum-known-p
-enum-known-p c = search needs
+enum-known-parts-step : tie.Need-enum-known-parts-step
+enum-known-parts-step c = search needs
 
 enum-told-3 : tie.Need-enum-told-3
 enum-told-3 c = search needs
@@ -68,9 +68,9 @@ returns-3 c =
       rw (
         c .fault3 .ensures,
         ← date .before .before .dword .ensures,
-        date .d .given .1,
+        date .date-step .given .1,
         ← hash .before .before .hash .ensures,
-        hash .h .given .1,
+        hash .hash-step .given .1,
         ← c .before .before .before .read-hashes .ensures .0,
         c .before .enum-told3 .given .1,
       )
@@ -81,8 +81,8 @@ returns-3 c =
 read-part-tags-requires : tie.Need-read-part-tags-requires
 read-part-tags-requires c κs = search needs
 
-enum-known-t : tie.Need-enum-known-t
-enum-known-t c = search needs
+enum-known-tags-step : tie.Need-enum-known-tags-step
+enum-known-tags-step c = search needs
 
 enum-told-4 : tie.Need-enum-told-4
 enum-told-4 c = search needs
@@ -99,11 +99,11 @@ returns-4 c =
       rw (
         c .fault4 .ensures,
         ← date .before .before .dword .ensures,
-        date .d .given .1,
+        date .date-step .given .1,
         ← hash .before .before .hash .ensures,
-        hash .h .given .1,
+        hash .hash-step .given .1,
         ← parts .before .before .read-hashes .ensures .0,
-        parts .p .given .1,
+        parts .parts-step .given .1,
         ← c .before .before .before .read-part-tags .ensures .0,
         c .before .enum-told4 .given .1,
       )
@@ -119,24 +119,24 @@ returns-5 c =
     let date = hash .before .before .before .before in (
       rw (
         ← date .before .before .dword .ensures,
-        date .d .given .1,
+        date .date-step .given .1,
         ← hash .before .before .hash .ensures,
-        hash .h .given .1,
+        hash .hash-step .given .1,
         ← parts .before .before .read-hashes .ensures .0,
-        parts .p .given .1,
+        parts .parts-step .given .1,
         ← c .before .before .before .read-part-tags .ensures .0,
-        c .before .t .given .1,
+        c .before .tags-step .given .1,
       )
           refl,
       (
         (
-          hash-inside _ _ _ (rw (hash .h .given .1) at (hash .before .before .hash .ensures)),
+          hash-inside _ _ _ (rw (hash .hash-step .given .1) at (hash .before .before .hash .ensures)),
           (
-            rw (parts .p .given .1) at (parts .before .before .read-hashes .ensures .1),
-            rw (c .before .t .given .1) at (c .before .before .before .read-part-tags .ensures .1 .0),
+            rw (parts .parts-step .given .1) at (parts .before .before .read-hashes .ensures .1),
+            rw (c .before .tags-step .given .1) at (c .before .before .before .read-part-tags .ensures .1 .0),
           ),
         ),
-        rw (c .before .t .given .1) at (c .before .before .before .read-part-tags .ensures .1 .1),
+        rw (c .before .tags-step .given .1) at (c .before .before .before .read-part-tags .ensures .1 .1),
       ),
     )
 
@@ -145,22 +145,22 @@ read-part-e0-spec =
     tie.close
     (tie.spec
     dword-requires
-    enum-known-d
+    enum-known-date-step
     enum-told
     fault-requires
     returns
     hash-requires
-    enum-known-h
+    enum-known-hash-step
     enum-told-2
     fault-requires-2
     returns-2
     read-hashes-requires
-    enum-known-p
+    enum-known-parts-step
     enum-told-3
     fault-requires-3
     returns-3
     read-part-tags-requires
-    enum-known-t
+    enum-known-tags-step
     enum-told-4
     fault-requires-4
     returns-4

@@ -8,8 +8,8 @@ use Rattle.met.proofs.part.read_part_e1.Tie as tie
 fixed-requires : tie.Need-fixed-requires
 fixed-requires c κs = search needs
 
-enum-known-f : tie.Need-enum-known-f
-enum-known-f c = search needs
+enum-known-fixed-step : tie.Need-enum-known-fixed-step
+enum-known-fixed-step c = search needs
 
 enum-told : tie.Need-enum-told
 enum-told c = search needs
@@ -24,8 +24,8 @@ returns c = (rw (c .fault .ensures, ← c .before .before .before .fixed .ensure
 dword-requires : tie.Need-dword-requires
 dword-requires c κs = search needs
 
-enum-known-d : tie.Need-enum-known-d
-enum-known-d c = search needs
+enum-known-date-step : tie.Need-enum-known-date-step
+enum-known-date-step c = search needs
 
 enum-told-2 : tie.Need-enum-told-2
 enum-told-2 c = search needs
@@ -40,7 +40,7 @@ returns-2 c =
       rw (
         c .fault2 .ensures,
         ← fixed .before .before .fixed .ensures,
-        fixed .f .given .1,
+        fixed .fixed-step .given .1,
         ← c .before .before .before .dword .ensures,
         c .before .enum-told2 .given .1,
       )
@@ -51,8 +51,8 @@ returns-2 c =
 hash-requires : tie.Need-hash-requires
 hash-requires c κs = search needs
 
-enum-known-h : tie.Need-enum-known-h
-enum-known-h c = search needs
+enum-known-hash-step : tie.Need-enum-known-hash-step
+enum-known-hash-step c = search needs
 
 enum-told-3 : tie.Need-enum-told-3
 enum-told-3 c = search needs
@@ -68,9 +68,9 @@ returns-3 c =
       rw (
         c .fault3 .ensures,
         ← fixed .before .before .fixed .ensures,
-        fixed .f .given .1,
+        fixed .fixed-step .given .1,
         ← date .before .before .dword .ensures,
-        date .d .given .1,
+        date .date-step .given .1,
         ← c .before .before .before .hash .ensures,
         c .before .enum-told3 .given .1,
       )
@@ -81,8 +81,8 @@ returns-3 c =
 read-part-tags-requires : tie.Need-read-part-tags-requires
 read-part-tags-requires c κs = search needs
 
-enum-known-t : tie.Need-enum-known-t
-enum-known-t c = search needs
+enum-known-tags-step : tie.Need-enum-known-tags-step
+enum-known-tags-step c = search needs
 
 enum-told-4 : tie.Need-enum-told-4
 enum-told-4 c = search needs
@@ -99,11 +99,11 @@ returns-4 c =
       rw (
         c .fault4 .ensures,
         ← fixed .before .before .fixed .ensures,
-        fixed .f .given .1,
+        fixed .fixed-step .given .1,
         ← date .before .before .dword .ensures,
-        date .d .given .1,
+        date .date-step .given .1,
         ← hash .before .before .hash .ensures,
-        hash .h .given .1,
+        hash .hash-step .given .1,
         ← c .before .before .before .read-part-tags .ensures .0,
         c .before .enum-told4 .given .1,
       )
@@ -114,8 +114,8 @@ returns-4 c =
 read-blocks-requires : tie.Need-read-blocks-requires
 read-blocks-requires c κs = search needs
 
-enum-known-b : tie.Need-enum-known-b
-enum-known-b c = search needs
+enum-known-blocks-step : tie.Need-enum-known-blocks-step
+enum-known-blocks-step c = search needs
 
 enum-told-5 : tie.Need-enum-told-5
 enum-told-5 c = search needs
@@ -133,13 +133,13 @@ returns-5 c =
       rw (
         c .fault5 .ensures,
         ← fixed .before .before .fixed .ensures,
-        fixed .f .given .1,
+        fixed .fixed-step .given .1,
         ← date .before .before .dword .ensures,
-        date .d .given .1,
+        date .date-step .given .1,
         ← hash .before .before .hash .ensures,
-        hash .h .given .1,
+        hash .hash-step .given .1,
         ← tags .before .before .read-part-tags .ensures .0,
-        tags .t .given .1,
+        tags .tags-step .given .1,
         ← c .before .before .before .read-blocks .ensures .0,
         c .before .enum-told5 .given .1,
       )
@@ -156,26 +156,26 @@ returns-6 c =
     let fixed = date .before .before .before .before in (
       rw (
         ← fixed .before .before .fixed .ensures,
-        fixed .f .given .1,
+        fixed .fixed-step .given .1,
         ← date .before .before .dword .ensures,
-        date .d .given .1,
+        date .date-step .given .1,
         ← hash .before .before .hash .ensures,
-        hash .h .given .1,
+        hash .hash-step .given .1,
         ← tags .before .before .read-part-tags .ensures .0,
-        tags .t .given .1,
+        tags .tags-step .given .1,
         ← c .before .before .before .read-blocks .ensures .0,
-        c .before .b .given .1,
+        c .before .blocks-step .given .1,
       )
           refl,
       (
         (
-          hash-inside _ _ _ (rw (hash .h .given .1) at (hash .before .before .hash .ensures)),
+          hash-inside _ _ _ (rw (hash .hash-step .given .1) at (hash .before .before .hash .ensures)),
           (
-            rw (tags .t .given .1) at (tags .before .before .read-part-tags .ensures .1 .0),
-            rw (c .before .b .given .1) at (c .before .before .before .read-blocks .ensures .1),
+            rw (tags .tags-step .given .1) at (tags .before .before .read-part-tags .ensures .1 .0),
+            rw (c .before .blocks-step .given .1) at (c .before .before .before .read-blocks .ensures .1),
           ),
         ),
-        rw (tags .t .given .1) at (tags .before .before .read-part-tags .ensures .1 .1),
+        rw (tags .tags-step .given .1) at (tags .before .before .read-part-tags .ensures .1 .1),
       ),
     )
 
@@ -184,27 +184,27 @@ read-part-e1-spec =
     tie.close
     (tie.spec
     fixed-requires
-    enum-known-f
+    enum-known-fixed-step
     enum-told
     fault-requires
     returns
     dword-requires
-    enum-known-d
+    enum-known-date-step
     enum-told-2
     fault-requires-2
     returns-2
     hash-requires
-    enum-known-h
+    enum-known-hash-step
     enum-told-3
     fault-requires-3
     returns-3
     read-part-tags-requires
-    enum-known-t
+    enum-known-tags-step
     enum-told-4
     fault-requires-4
     returns-4
     read-blocks-requires
-    enum-known-b
+    enum-known-blocks-step
     enum-told-5
     fault-requires-5
     returns-5

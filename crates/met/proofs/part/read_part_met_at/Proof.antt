@@ -7,8 +7,8 @@ use Rattle.met.proofs.part.read_part_met_at.Tie as tie
 read-edition-requires : tie.Need-read-edition-requires
 read-edition-requires c κs = search needs
 
-enum-known-e : tie.Need-enum-known-e
-enum-known-e c = search needs
+enum-known-edition-step : tie.Need-enum-known-edition-step
+enum-known-edition-step c = search needs
 
 enum-told : tie.Need-enum-told
 enum-told c = search needs
@@ -36,7 +36,7 @@ returns-2 : tie.Need-returns-2
 unfolding decodePartMet
 returns-2 c =
     let e = c .before .before .before .before in (
-      rw (← e .before .before .read-edition .ensures, e .e .given .1, c .before .enum-told2 .given .1) (c .read-part-e0 .ensures .0),
+      rw (← e .before .before .read-edition .ensures, e .edition-step .given .1, c .before .enum-told2 .given .1) (c .read-part-e0 .ensures .0),
       c .read-part-e0 .ensures .1,
     )
 
@@ -44,7 +44,7 @@ returns-3 : tie.Need-returns-3
 unfolding decodePartMet
 returns-3 c =
     let e = c .before .before .before .before in (
-      rw (← e .before .before .read-edition .ensures, e .e .given .1, c .before .enum-told3 .given .1) (c .read-part-e1 .ensures .0),
+      rw (← e .before .before .read-edition .ensures, e .edition-step .given .1, c .before .enum-told3 .given .1) (c .read-part-e1 .ensures .0),
       c .read-part-e1 .ensures .1,
     )
 
@@ -53,7 +53,7 @@ read-part-met-at-spec =
     tie.close
     (tie.spec
     read-edition-requires
-    enum-known-e
+    enum-known-edition-step
     enum-told
     fault-requires
     returns

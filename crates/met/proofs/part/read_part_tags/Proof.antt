@@ -10,8 +10,8 @@ use Rattle.met.proofs.part.read_part_tags.Tie as tie
 dword-requires : tie.Need-dword-requires
 dword-requires c κs = search needs
 
-enum-known-d : tie.Need-enum-known-d
-enum-known-d c = search needs
+enum-known-count-step : tie.Need-enum-known-count-step
+enum-known-count-step c = search needs
 
 enum-told : tie.Need-enum-told
 enum-told c = search needs
@@ -26,8 +26,8 @@ returns c = (rw (c .fault .ensures, ← c .before .before .before .dword .ensure
 part-tags-from-requires : tie.Need-part-tags-from-requires
 part-tags-from-requires c κs = search needs
 
-enum-known-t : tie.Need-enum-known-t
-enum-known-t c = search needs
+enum-known-tags-step : tie.Need-enum-known-tags-step
+enum-known-tags-step c = search needs
 
 enum-told-2 : tie.Need-enum-told-2
 enum-told-2 c = search needs
@@ -40,7 +40,7 @@ returns-2 c =
     let t = c .before .before .before in
     let d = t .before .before .before in
     let b = d .before .before .before .before in
-    let counted = rw (d .d .given .1) at (d .before .before .dword .ensures) in
+    let counted = rw (d .count-step .given .1) at (d .before .before .dword .ensures) in
     let told = c .before .enum-told2 .given .1 in
     (rw (c .fault2 .ensures, told) (tags-refused (now (b .args .s)) (b .args .c .at) _ _ counted (rw told at (t .part-tags-from .ensures))), (tt, tt))
 
@@ -58,32 +58,32 @@ returns-3 c =
     let t = c .before .before .before .before .before in
     let d = t .before .before .before .before .before in
     let b = d .before .before .before .before in
-    let counted = rw (d .d .given .1) at (d .before .before .dword .ensures) in
-    let h = rw (t .t .given .1) at (t .before .before .part-tags-from .ensures) in
+    let counted = rw (d .count-step .given .1) at (d .before .before .dword .ensures) in
+    let h = rw (t .tags-step .given .1) at (t .before .before .part-tags-from .ensures) in
     let v = c .before .verdict .given in
-    tags-pass (now (b .args .s)) (b .args .c .at) _ _ counted _ (t .t .given .0 .0) h (d .before .before .before .shared-slice-known .given) (v .0 .0) (v .1)
+    tags-pass (now (b .args .s)) (b .args .c .at) _ _ counted _ (t .tags-step .given .0 .0) h (d .before .before .before .shared-slice-known .given) (v .0 .0) (v .1)
 
 returns-4 : tie.Need-returns-4
 returns-4 c =
     let t = c .before .before .before .before .before .before in
     let d = t .before .before .before .before .before in
     let b = d .before .before .before .before in
-    let counted = rw (d .d .given .1) at (d .before .before .dword .ensures) in
-    let h = rw (t .t .given .1) at (t .before .before .part-tags-from .ensures) in
+    let counted = rw (d .count-step .given .1) at (d .before .before .dword .ensures) in
+    let h = rw (t .tags-step .given .1) at (t .before .before .part-tags-from .ensures) in
     let v = c .before .before .verdict2 .given in
-    (tags-violate (now (b .args .s)) (b .args .c .at) _ _ counted _ (t .t .given .0 .0) h (v .0 .0) _ (v .1) (c .length-between .ensures), (tt, tt))
+    (tags-violate (now (b .args .s)) (b .args .c .at) _ _ counted _ (t .tags-step .given .0 .0) h (v .0 .0) _ (v .1) (c .length-between .ensures), (tt, tt))
 
 pub read-part-tags-spec : {M : Type 1} → statement M
 read-part-tags-spec =
     tie.close
     (tie.spec
     dword-requires
-    enum-known-d
+    enum-known-count-step
     enum-told
     fault-requires
     returns
     part-tags-from-requires
-    enum-known-t
+    enum-known-tags-step
     enum-told-2
     fault-requires-2
     returns-2

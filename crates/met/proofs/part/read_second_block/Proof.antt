@@ -10,8 +10,8 @@ use Rattle.met.proofs.part.read_second_block.Tie as tie
 read-mark-requires : tie.Need-read-mark-requires
 read-mark-requires c κs = search needs
 
-enum-known-m : tie.Need-enum-known-m
-enum-known-m c = search needs
+enum-known-mark-step : tie.Need-enum-known-mark-step
+enum-known-mark-step c = search needs
 
 enum-told : tie.Need-enum-told
 enum-told c = search needs
@@ -31,7 +31,7 @@ enum-told-3 c = search needs
 returns-2 : tie.Need-returns-2
 returns-2 c =
     let m = c .before .before .before in
-    (rw (← m .before .before .read-mark .ensures, m .m .given .1, c .enum-told3 .given .1) refl, m .before .before .before .before .pre)
+    (rw (← m .before .before .read-mark .ensures, m .mark-step .given .1, c .enum-told3 .given .1) refl, m .before .before .before .before .pre)
 
 block-count-requires : tie.Need-block-count-requires
 block-count-requires c κs = search needs
@@ -39,8 +39,8 @@ block-count-requires c κs = search needs
 block-hashes-from-requires : tie.Need-block-hashes-from-requires
 block-hashes-from-requires c κs = search needs
 
-enum-known-b : tie.Need-enum-known-b
-enum-known-b c = search needs
+enum-known-blocks-step : tie.Need-enum-known-blocks-step
+enum-known-blocks-step c = search needs
 
 enum-told-4 : tie.Need-enum-told-4
 enum-told-4 c = search needs
@@ -55,7 +55,7 @@ returns-3 c =
       rw (
         c .fault2 .ensures,
         ← m .before .before .read-mark .ensures,
-        m .m .given .1,
+        m .mark-step .given .1,
         more .enum-told2 .given .1,
         ← c .before .before .before .before .block-count .ensures,
         ← c .before .before .before .block-hashes-from .ensures .0,
@@ -68,8 +68,8 @@ returns-3 c =
 fixed-requires : tie.Need-fixed-requires
 fixed-requires c κs = search needs
 
-enum-known-z : tie.Need-enum-known-z
-enum-known-z c = search needs
+enum-known-closing-step : tie.Need-enum-known-closing-step
+enum-known-closing-step c = search needs
 
 enum-told-5 : tie.Need-enum-told-5
 enum-told-5 c = search needs
@@ -85,11 +85,11 @@ returns-4 c =
       rw (
         c .fault3 .ensures,
         ← m .before .before .read-mark .ensures,
-        m .m .given .1,
+        m .mark-step .given .1,
         more .enum-told2 .given .1,
         ← blocks .before .before .before .block-count .ensures,
         ← blocks .before .before .block-hashes-from .ensures .0,
-        blocks .b .given .1,
+        blocks .blocks-step .given .1,
         ← c .before .before .before .fixed .ensures,
         c .before .enum-told5 .given .1,
       )
@@ -102,22 +102,22 @@ returns-5 c =
     let blocks = c .before .before .before .before .before in
     let more = blocks .before .before .before .before in
     let m = more .before .before .before in
-    let marked = mark-inside _ _ (rw (m .m .given .1) at (m .before .before .read-mark .ensures)) in
+    let marked = mark-inside _ _ (rw (m .mark-step .given .1) at (m .before .before .read-mark .ensures)) in
     let list = blocks .before .before .block-hashes-from in
     let a = m .before .before .before in
     let inside = items-inside (codec-run {p = anywhere} 8) (now (a .before .args .s)) (a .shared-slice-known .given) (list .result) (blocks .before .before .before .block-count .result) _ marked (list .ensures .0) (list .ensures .1) in (
       rw (
         ← m .before .before .read-mark .ensures,
-        m .m .given .1,
+        m .mark-step .given .1,
         more .enum-told2 .given .1,
         ← blocks .before .before .before .block-count .ensures,
         ← blocks .before .before .block-hashes-from .ensures .0,
-        blocks .b .given .1,
+        blocks .blocks-step .given .1,
         ← c .before .before .before .fixed .ensures,
-        c .before .z .given .1,
+        c .before .closing-step .given .1,
       )
           refl,
-      (m .before .before .before .before .pre, rw (blocks .b .given .1) at inside),
+      (m .before .before .before .before .pre, rw (blocks .blocks-step .given .1) at inside),
     )
 
 pub read-second-block-spec : {M : Type 1} → statement M
@@ -125,7 +125,7 @@ read-second-block-spec =
     tie.close
     (tie.spec
     read-mark-requires
-    enum-known-m
+    enum-known-mark-step
     enum-told
     fault-requires
     returns
@@ -134,12 +134,12 @@ read-second-block-spec =
     returns-2
     block-count-requires
     block-hashes-from-requires
-    enum-known-b
+    enum-known-blocks-step
     enum-told-4
     fault-requires-2
     returns-3
     fixed-requires
-    enum-known-z
+    enum-known-closing-step
     enum-told-5
     fault-requires-3
     returns-4

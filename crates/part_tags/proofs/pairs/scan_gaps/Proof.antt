@@ -23,10 +23,10 @@ abbrev μ-loop : tie.MeasureT-loop
 pair : (c : tie.After-known-told Inv-loop μ-loop)
     → let l = c .before .before .before .before .before .before .before .before in
     let b = l .before .before in
-    let p = c .before .p .given .0 in
+    let p = c .before .pair-step .given .0 in
     PairTakes (now (b .args .s)) (b .args .size) (firstPairs (now (b .args .s)) (l .loop .progress .count) (l .loop .starts))
     (record { at = l .loop .next; end = b .args .range .end; count = b .args .range .count - l .loop .i }) (p .0) (p .1 .0) (p .1 .1 .0)
-pair c = rw (c .before .p .given .1) at (c .before .before .before .take-pair .ensures)
+pair c = rw (c .before .pair-step .given .1) at (c .before .before .before .take-pair .ensures)
 
 few : (c : tie.After-known-told Inv-loop μ-loop) → c .before .before .before .before .before .before .before .before .loop .progress .count < 64
 few c = let l = c .before .before .before .before .before .before .before .before in omega (arith, pair c .room, pairs-length (now (l .before .before .args .s)) (l .loop .progress .count) (l .loop .starts))
@@ -64,8 +64,8 @@ take-pair-requires c κs =
     let more = p .before .loop-test .taken in
     (scanning-placed (now (b .args .s)) (b .args .size) (b .args .range) (b .pre .0) (l .loop .inv) more, omega (arith, more), sym (p .is-plain .ensures) ∙ c .before .if1 .left, l .loop .inv .keeps)
 
-enum-known-p : tie.Need-enum-known-p Inv-loop μ-loop
-enum-known-p c = search needs
+enum-known-pair-step : tie.Need-enum-known-pair-step Inv-loop μ-loop
+enum-known-pair-step c = search needs
 
 enum-told : tie.Need-enum-told Inv-loop μ-loop
 enum-told c = search needs
@@ -139,7 +139,7 @@ scan-gaps-spec =
     loop-again
     sub-t19
     take-pair-requires
-    enum-known-p
+    enum-known-pair-step
     enum-told
     rule-requires
     returns

@@ -42,8 +42,8 @@ type c = c .before .if3 .left
 abbrev digits-of : tie.After-known-told → tie.After-digits-at
 digits-of c = c .before .before .before .before
 
-key : (c : tie.After-known-told) → let a = start (fits (digits-of c)) .args in let d = digitsAt (now (a .s)) (a .at) in (numbered d ≡ true) × (c .before .k .given .0 .0 ≡ keyOf d)
-key c = key-some _ (rw (digits-of c .digits-at .ensures) at (sym (c .before .k .given .1) ∙ c .before .before .before .digits-key .ensures))
+key : (c : tie.After-known-told) → let a = start (fits (digits-of c)) .args in let d = digitsAt (now (a .s)) (a .at) in (numbered d ≡ true) × (c .before .key-found .given .0 .0 ≡ keyOf d)
+key c = key-some _ (rw (digits-of c .digits-at .ensures) at (sym (c .before .key-found .given .1) ∙ c .before .before .before .digits-key .ensures))
 
 taken : (c : tie.After-is-taken) {t : Bool} → c .is-taken .result ≡ t
     → let b = start (fits (digits-of (c .before))) in used (digitsAt (now (b .args .s)) (b .args .at)) (pairs b) ≡ t
@@ -79,8 +79,8 @@ digits-at-requires c κs = let b = c .before .before .before .before .before .be
 digits-key-requires : tie.Need-digits-key-requires
 digits-key-requires c κs = search needs
 
-enum-known-k : tie.Need-enum-known-k
-enum-known-k c = search needs
+enum-known-key-found : tie.Need-enum-known-key-found
+enum-known-key-found c = search needs
 
 enum-told : tie.Need-enum-told
 enum-told c = search needs
@@ -93,7 +93,7 @@ returns-4 c =
     λ size. starts-unnumbered (now (b .args .s)) (b .args .at) (b .pre .0) (pairs b) (room (fits d)) size (name d) (type d) none
 
 is-taken-requires : tie.Need-is-taken-requires
-is-taken-requires c κs = let d = digits-of c in (start (fits d) .pre .2, key-some _ (sym (c .before .k .given .1) ∙ c .before .before .before .digits-key .ensures) .1)
+is-taken-requires c κs = let d = digits-of c in (start (fits d) .pre .2, key-some _ (sym (c .before .key-found .given .1) ∙ c .before .before .before .digits-key .ensures) .1)
 
 returns-5 : tie.Need-returns-5
 returns-5 c =
@@ -165,7 +165,7 @@ start-tag-spec =
     returns-3
     digits-at-requires
     digits-key-requires
-    enum-known-k
+    enum-known-key-found
     enum-told
     returns-4
     is-taken-requires
