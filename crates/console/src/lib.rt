@@ -24,11 +24,11 @@ pub fn read_all(fd: i32, out: &mut [u8]) -> usize
 {
     let mut at = 0;
     while at < out.len() {
-        let n = read_some(fd, &mut out[at..]);
-        if n == 0 {
+        let came = read_some(fd, &mut out[at..]);
+        if came == 0 {
             return at;
         }
-        at += n;
+        at += came;
     }
     at
 }
@@ -54,19 +54,19 @@ pub fn next_input(fd: i32, bytes: &mut [u8]) -> Input {
         return Input::End;
     }
     let first = Cursor { at: 0 };
-    let b = first.byte(bytes);
-    let ByteStep::Got(letter, after) = b else {
+    let letter_step = first.byte(bytes);
+    let ByteStep::Got(letter, after) = letter_step else {
         return Input::End;
     };
-    let d = after.dword(bytes);
-    let DwordStep::Got(count, _) = d else {
+    let count_step = after.dword(bytes);
+    let DwordStep::Got(count, _) = count_step else {
         return Input::End;
     };
-    let n = count as usize;
-    if !read_front(fd, bytes, n) {
+    let length = count as usize;
+    if !read_front(fd, bytes, length) {
         return Input::End;
     }
-    Input::Of(letter, n)
+    Input::Of(letter, length)
 }
 
 // A file of cases is lines of fields, with a space after each but the last. Bytes are a field of two hexadecimal digits each; `-` is no

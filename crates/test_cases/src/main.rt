@@ -75,12 +75,12 @@ fn show_answer(words: &[u8], start: u64, end: u64, number: u8) {
 
 // Marks a range, and prints the number of the answer, how many gaps are left and how many bytes are missing.
 fn show_mark(g: GapRecord, start: u64, end: u64) -> GapRecord {
-    let m = mark(g, start, end);
-    let after = m.after;
-    show_answer(b"mark ", start, end, m.number);
+    let marked = mark(g, start, end);
+    let after = marked.after;
+    show_answer(b"mark ", start, end, marked.number);
     io::write_all(1, b", gaps ");
     io::print_decimal(1, after.count as u64);
-    say(b", missing ", m.missing);
+    say(b", missing ", marked.missing);
     after
 }
 
@@ -111,12 +111,12 @@ fn is_same_gap(a: GapRecord, b: GapRecord, i: usize) -> bool {
     if 64 <= i {
         return true;
     }
-    let x = a.gaps[i];
-    let y = b.gaps[i];
-    if x.start != y.start {
+    let first = a.gaps[i];
+    let second = b.gaps[i];
+    if first.start != second.start {
         return false;
     }
-    x.end == y.end
+    first.end == second.end
 }
 
 fn is_same(a: GapRecord, b: GapRecord) -> bool {
@@ -146,14 +146,14 @@ fn show_same(a: GapRecord, b: GapRecord) {
 
 // A file of 640 bytes of which every tenth has arrived: 64 gaps.
 fn many_gaps() -> GapRecord {
-    let mut g = all_missing(640);
+    let mut record = all_missing(640);
     let mut at = 9;
     while at < 640 {
-        let m = mark(g, at, at + 1);
-        g = m.after;
+        let marked = mark(record, at, at + 1);
+        record = marked.after;
         at += 10;
     }
-    g
+    record
 }
 
 // The marking in place: a refusal leaves the record equal.

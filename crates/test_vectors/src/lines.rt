@@ -9,15 +9,15 @@ use wire::bytes_at;
 
 // Prints the line for the next input of a file: whether there is one.
 fn print_next(fd: i32, bytes: &mut [u8]) -> bool {
-    let i = next_input(fd, bytes);
-    let Input::Of(letter, n) = i else {
+    let input = next_input(fd, bytes);
+    let Input::Of(letter, length) = input else {
         return false;
     };
     let lettered = kind_of_letter(letter);
     let Lettered::Is(kind) = lettered else {
         return false;
     };
-    print_summary(summarize(kind, bytes_at(bytes, 0, n)));
+    print_summary(summarize(kind, bytes_at(bytes, 0, length)));
     true
 }
 

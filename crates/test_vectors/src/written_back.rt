@@ -43,29 +43,32 @@ fn write_message(kind: Kind, s: &[u8], m: Message, out: &mut [u8]) -> WriteAnswe
 }
 
 // Counts the message that is read from the bytes of s, if there is one, and whether it is written as these.
-fn tally_message(t: Tally, kind: Kind, s: &[u8], out: &mut [u8]) -> Tally {
-    let a = read(kind, s);
-    let Answer::Accepted(m) = a else {
-        return t;
+fn tally_message(tally: Tally, kind: Kind, s: &[u8], out: &mut [u8]) -> Tally {
+    let answer = read(kind, s);
+    let Answer::Accepted(message) = answer else {
+        return tally;
     };
-    let w = write_message(kind, s, m, out);
-    let read = wrapping_add_u64(t.read, 1);
-    let length = w.length;
-    if w.number == 0 && same(bytes_at(out, 0, length), s) {
+    let written = write_message(kind, s, message, out);
+    let read = wrapping_add_u64(tally.read, 1);
+    let length = written.length;
+    if written.number == 0 && same(bytes_at(out, 0, length), s) {
         return Tally {
             read,
-            same: wrapping_add_u64(t.same, 1),
+            same: wrapping_add_u64(tally.same, 1),
         };
     }
-    Tally { read, same: t.same }
+    Tally {
+        read,
+        same: tally.same,
+    }
 }
 
 // The same for an input that is of the kind, or is not.
-fn tally_input(t: Tally, of_kind: bool, kind: Kind, s: &[u8], out: &mut [u8]) -> Tally {
+fn tally_input(tally: Tally, of_kind: bool, kind: Kind, s: &[u8], out: &mut [u8]) -> Tally {
     if of_kind {
-        return tally_message(t, kind, s, out);
+        return tally_message(tally, kind, s, out);
     }
-    t
+    tally
 }
 
 // A loop must end, and nothing says that a file does: it counts its turns down, from a number that no file uses up.
@@ -77,21 +80,27 @@ fn tally_inputs(
     bytes: &mut [u8],
     out: &mut [u8],
 ) -> Tally {
-    let mut t = tally;
+    let mut so_far = tally;
     let mut turns = u64::MAX;
     while turns > 0 {
-        let i = next_input(fd, bytes);
-        let Input::Of(found, n) = i else {
-            return t;
+        let input = next_input(fd, bytes);
+        let Input::Of(found, length) = input else {
+            return so_far;
         };
-        t = tally_input(t, found == letter, kind, bytes_at(bytes, 0, n), out);
+        so_far = tally_input(
+            so_far,
+            found == letter,
+            kind,
+            bytes_at(bytes, 0, length),
+            out,
+        );
         turns -= 1;
     }
-    t
+    so_far
 }
 
 fn tally_file(
-    t: Tally,
+    tally: Tally,
     path: &[u8],
     letter: u8,
     kind: Kind,
@@ -101,9 +110,9 @@ fn tally_file(
     let fd = os::open_read(path);
     if fd < 0 {
         os::fail(path);
-        return t;
+        return tally;
     }
-    let after = tally_inputs(t, fd, letter, kind, bytes, out);
+    let after = tally_inputs(tally, fd, letter, kind, bytes, out);
     libc::close(fd);
     after
 }

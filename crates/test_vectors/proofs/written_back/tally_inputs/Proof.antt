@@ -17,8 +17,8 @@ loop-holds c = (refl, refl)
 next-input-requires : tie.Need-next-input-requires Inv-loop μ-loop
 next-input-requires c κs = search needs
 
-enum-known-i : tie.Need-enum-known-i Inv-loop μ-loop
-enum-known-i c = search needs
+enum-known-input : tie.Need-enum-known-input Inv-loop μ-loop
+enum-known-input c = search needs
 
 enum-told : tie.Need-enum-told Inv-loop μ-loop
 enum-told c = search needs
@@ -64,7 +64,7 @@ tally-inputs-spec =
     μ-loop
     loop-holds
     next-input-requires
-    enum-known-i
+    enum-known-input
     enum-told
     same-length
     same-length-2
