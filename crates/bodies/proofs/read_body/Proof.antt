@@ -1,16 +1,9 @@
-use Prim.Native.Nat.{ℕ}
-use mathlib.Core.Path.{_≡_, refl}
-use mathlib.Core.List.{List}
-use Rattle.format.specs.Messages.{nothingBody}
-use Rattle.format.specs.Decoding.{got}
-use Rattle.format.specs.PacketOrder.{decodeBody}
+-- Each arm calls the reader of its shape, whose contract is the answer.
+use mathlib.Core.Path.{refl}
+use Rattle.bodies.proofs.Bodies.{body-is}
 use borrow.Author.Needs.{needs}
 use Rattle.bodies.proofs.read_body.Statement.{statement}
 use Rattle.bodies.proofs.read_body.Tie as tie
-
-no-body : (s : List ℕ) (at : ℕ) → decodeBody nothingBody s at ≡ got (nothingBody, tt) at
-unfolding decodeBody
-no-body s at = refl
 
 enum-told : tie.Need-enum-told
 enum-told c = search needs
@@ -154,7 +147,7 @@ read-status-requires : tie.Need-read-status-requires
 read-status-requires c κs = search needs
 
 returns : tie.Need-returns
-returns c = rw (c .enum-told .given .1, no-body) (refl, tt)
+returns c = rw (c .enum-told .given .1, body-is) (refl, tt)
 
 returns-2 : tie.Need-returns-2
 returns-2 c = rw (c .before .enum-told2 .given .1) (c .read-query-body .ensures)

@@ -1,5 +1,6 @@
+-- An address alone: the body is what its reader says.
 use mathlib.Core.Path.{refl}
-use Rattle.format.specs.PacketOrder.{decodeBody}
+use Rattle.bodies.proofs.Bodies.{body-is}
 use borrow.Author.Needs.{needs}
 use Rattle.bodies.proofs.items.read_address_body.Statement.{statement}
 use Rattle.bodies.proofs.items.read_address_body.Tie as tie
@@ -17,12 +18,10 @@ fault-requires : tie.Need-fault-requires
 fault-requires c κs = search needs
 
 returns : tie.Need-returns
-unfolding decodeBody
-returns c = rw (c .fault .ensures, ← c .before .before .before .read-address .ensures, c .before .enum-told .given .1) (refl, tt)
+returns c = rw (c .fault .ensures, body-is, ← c .before .before .before .read-address .ensures, c .before .enum-told .given .1) (refl, tt)
 
 returns-2 : tie.Need-returns-2
-unfolding decodeBody
-returns-2 c = rw (← c .before .before .before .read-address .ensures, c .before .address-step .given .1) (refl, tt)
+returns-2 c = rw (body-is, ← c .before .before .before .read-address .ensures, c .before .address-step .given .1) (refl, tt)
 
 pub read-address-body-spec : {M : Type 1} → statement M
 read-address-body-spec =

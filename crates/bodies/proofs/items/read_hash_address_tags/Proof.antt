@@ -1,9 +1,23 @@
-use mathlib.Core.Path.{refl}
-use Rattle.format.specs.PacketOrder.{decodeBody}
+-- A hash, an address and tags: each is named once it is read, and the returns after it rewrite by that.
+use mathlib.Core.Path.{refl, _≡_, sym}
+use denote.Ref.{now}
+use Rattle.format.specs.Decoding.{got}
+use Rattle.format.specs.Order.{decodeAddress, decodeHash}
 use Rattle.wire.proofs.Inside.{hash-inside}
+use Rattle.wire.specs.WireAnswers.{hashAt}
+use Rattle.records.specs.RecordAnswers.{addressOf}
+use Rattle.bodies.proofs.Bodies.{body-is}
 use borrow.Author.Needs.{needs}
 use Rattle.bodies.proofs.items.read_hash_address_tags.Statement.{statement}
 use Rattle.bodies.proofs.items.read_hash_address_tags.Tie as tie
+
+hash-read : (c : tie.After-hash-step) → let start = c .before .before .before .before .args in
+    decodeHash (now (start .s)) (start .c .at) ≡ got (hashAt (now (start .s)) (c .hash-step .given .0 .0)) (c .hash-step .given .0 .1 .0 .at)
+hash-read c = rw (← c .before .before .hash .ensures, c .hash-step .given .1) refl
+
+address-read : (c : tie.After-address-step) → let hash = c .before .before .before .before in
+    decodeAddress (now (hash .before .before .before .before .args .s)) (hash .hash-step .given .0 .1 .0 .at) ≡ got (addressOf (c .address-step .given .0 .0)) (c .address-step .given .0 .1 .0 .at)
+address-read c = rw (← c .before .before .read-address .ensures, c .address-step .given .1) refl
 
 hash-requires : tie.Need-hash-requires
 hash-requires c κs = search needs
@@ -18,8 +32,7 @@ fault-requires : tie.Need-fault-requires
 fault-requires c κs = search needs
 
 returns : tie.Need-returns
-unfolding decodeBody
-returns c = rw (c .fault .ensures, ← c .before .before .before .hash .ensures, c .before .enum-told .given .1) (refl, tt)
+returns c = rw (c .fault .ensures, body-is, ← c .before .before .before .hash .ensures, c .before .enum-told .given .1) (refl, tt)
 
 read-address-requires : tie.Need-read-address-requires
 read-address-requires c κs = search needs
@@ -34,17 +47,7 @@ fault-requires-2 : tie.Need-fault-requires-2
 fault-requires-2 c κs = search needs
 
 returns-2 : tie.Need-returns-2
-unfolding decodeBody
-returns-2 c =
-    let hash = c .before .before .before .before .before in
-    rw (
-      c .fault2 .ensures,
-      ← hash .before .before .hash .ensures,
-      hash .hash-step .given .1,
-      ← c .before .before .before .read-address .ensures,
-      c .before .enum-told2 .given .1,
-    )
-    (refl, tt)
+returns-2 c = rw (c .fault2 .ensures, body-is, hash-read, ← c .before .before .before .read-address .ensures, c .before .enum-told2 .given .1) (refl, tt)
 
 read-tags-requires : tie.Need-read-tags-requires
 read-tags-requires c κs = search needs
@@ -59,36 +62,13 @@ fault-requires-3 : tie.Need-fault-requires-3
 fault-requires-3 c κs = search needs
 
 returns-3 : tie.Need-returns-3
-unfolding decodeBody
-returns-3 c =
-    let address = c .before .before .before .before .before in
-    let hash = address .before .before .before .before in
-    rw (
-      c .fault3 .ensures,
-      ← hash .before .before .hash .ensures,
-      hash .hash-step .given .1,
-      ← address .before .before .read-address .ensures,
-      address .address-step .given .1,
-      ← c .before .before .before .read-tags .ensures .0,
-      c .before .enum-told3 .given .1,
-    )
-    (refl, tt)
+returns-3 c = rw (c .fault3 .ensures, body-is, hash-read, address-read, ← c .before .before .before .read-tags .ensures .0, c .before .enum-told3 .given .1) (refl, tt)
 
 returns-4 : tie.Need-returns-4
-unfolding decodeBody
 returns-4 c =
-    let tags = c .before in
-    let address = tags .before .before .before .before in
-    let hash = address .before .before .before .before in
-    rw (
-      ← hash .before .before .hash .ensures,
-      hash .hash-step .given .1,
-      ← address .before .before .read-address .ensures,
-      address .address-step .given .1,
-      ← tags .before .before .read-tags .ensures .0,
-      tags .tags-step .given .1,
-    )
-    (refl, (hash-inside _ _ _ (rw (hash .hash-step .given .1) at (hash .before .before .hash .ensures)), rw (tags .tags-step .given .1) at (tags .before .before .read-tags .ensures .1)))
+    let told = c .before .tags-step .given .1 in
+    let read = c .before .before .before .read-tags .ensures in
+    rw (body-is, hash-read, address-read, ← read .0, told) (refl, (hash-inside _ _ _ (sym (hash-read (c .before .before .before .before .before .before .before .before .before))), rw told at (read .1)))
 
 pub read-hash-address-tags-spec : {M : Type 1} → statement M
 read-hash-address-tags-spec =

@@ -1,6 +1,7 @@
+-- A hash alone: the body is what its reader says.
 use mathlib.Core.Path.{refl}
-use Rattle.format.specs.PacketOrder.{decodeBody}
 use Rattle.wire.proofs.Inside.{hash-inside}
+use Rattle.bodies.proofs.Bodies.{body-is}
 use borrow.Author.Needs.{needs}
 use Rattle.bodies.proofs.items.read_hash_body.Statement.{statement}
 use Rattle.bodies.proofs.items.read_hash_body.Tie as tie
@@ -18,12 +19,10 @@ fault-requires : tie.Need-fault-requires
 fault-requires c κs = search needs
 
 returns : tie.Need-returns
-unfolding decodeBody
-returns c = rw (c .fault .ensures, ← c .before .before .before .hash .ensures, c .before .enum-told .given .1) (refl, tt)
+returns c = rw (c .fault .ensures, body-is, ← c .before .before .before .hash .ensures, c .before .enum-told .given .1) (refl, tt)
 
 returns-2 : tie.Need-returns-2
-unfolding decodeBody
-returns-2 c = rw (← c .before .before .before .hash .ensures, c .before .hash-step .given .1)
+returns-2 c = rw (body-is, ← c .before .before .before .hash .ensures, c .before .hash-step .given .1)
     (refl, hash-inside _ _ _ (rw (c .before .hash-step .given .1) at (c .before .before .before .hash .ensures)))
 
 pub read-hash-body-spec : {M : Type 1} → statement M

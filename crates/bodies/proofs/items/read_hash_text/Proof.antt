@@ -1,9 +1,18 @@
-use mathlib.Core.Path.{refl}
-use Rattle.format.specs.PacketOrder.{decodeBody}
+-- A hash and a text: the hash is named once it is read, and the returns after it rewrite by that.
+use mathlib.Core.Path.{refl, _≡_, sym}
+use denote.Ref.{now}
+use Rattle.format.specs.Decoding.{got}
+use Rattle.format.specs.Order.{decodeHash}
 use Rattle.wire.proofs.Inside.{hash-inside}
+use Rattle.wire.specs.WireAnswers.{hashAt}
+use Rattle.bodies.proofs.Bodies.{body-is}
 use borrow.Author.Needs.{needs}
 use Rattle.bodies.proofs.items.read_hash_text.Statement.{statement}
 use Rattle.bodies.proofs.items.read_hash_text.Tie as tie
+
+hash-read : (c : tie.After-hash-step) → let start = c .before .before .before .before .args in
+    decodeHash (now (start .s)) (start .c .at) ≡ got (hashAt (now (start .s)) (c .hash-step .given .0 .0)) (c .hash-step .given .0 .1 .0 .at)
+hash-read c = rw (← c .before .before .hash .ensures, c .hash-step .given .1) refl
 
 hash-requires : tie.Need-hash-requires
 hash-requires c κs = search needs
@@ -18,8 +27,7 @@ fault-requires : tie.Need-fault-requires
 fault-requires c κs = search needs
 
 returns : tie.Need-returns
-unfolding decodeBody
-returns c = rw (c .fault .ensures, ← c .before .before .before .hash .ensures, c .before .enum-told .given .1) (refl, tt)
+returns c = rw (c .fault .ensures, body-is, ← c .before .before .before .hash .ensures, c .before .enum-told .given .1) (refl, tt)
 
 string-requires : tie.Need-string-requires
 string-requires c κs = search needs
@@ -34,25 +42,13 @@ fault-requires-2 : tie.Need-fault-requires-2
 fault-requires-2 c κs = search needs
 
 returns-2 : tie.Need-returns-2
-unfolding decodeBody
-returns-2 c =
-    let hash = c .before .before .before .before .before in
-    rw (
-      c .fault2 .ensures,
-      ← hash .before .before .hash .ensures,
-      hash .hash-step .given .1,
-      ← c .before .before .before .string .ensures .0,
-      c .before .enum-told2 .given .1,
-    )
-    (refl, tt)
+returns-2 c = rw (c .fault2 .ensures, body-is, hash-read, ← c .before .before .before .string .ensures .0, c .before .enum-told2 .given .1) (refl, tt)
 
 returns-3 : tie.Need-returns-3
-unfolding decodeBody
 returns-3 c =
-    let text = c .before in
-    let hash = text .before .before .before .before in
-    rw (← hash .before .before .hash .ensures, hash .hash-step .given .1, ← text .before .before .string .ensures .0, text .text-step .given .1)
-    (refl, (hash-inside _ _ _ (rw (hash .hash-step .given .1) at (hash .before .before .hash .ensures)), rw (text .text-step .given .1) at (text .before .before .string .ensures .1)))
+    let told = c .before .text-step .given .1 in
+    let read = c .before .before .before .string .ensures in
+    rw (body-is, hash-read, ← read .0, told) (refl, (hash-inside _ _ _ (sym (hash-read (c .before .before .before .before .before))), rw told at (read .1)))
 
 pub read-hash-text-spec : {M : Type 1} → statement M
 read-hash-text-spec =

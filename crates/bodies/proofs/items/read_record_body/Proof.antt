@@ -1,5 +1,6 @@
+-- A record alone: the body is what its reader says.
 use mathlib.Core.Path.{refl}
-use Rattle.format.specs.PacketOrder.{decodeBody}
+use Rattle.bodies.proofs.Bodies.{body-is}
 use borrow.Author.Needs.{needs}
 use Rattle.bodies.proofs.items.read_record_body.Statement.{statement}
 use Rattle.bodies.proofs.items.read_record_body.Tie as tie
@@ -17,17 +18,13 @@ fault-requires : tie.Need-fault-requires
 fault-requires c κs = search needs
 
 returns : tie.Need-returns
-unfolding decodeBody
-returns c = rw (c .fault .ensures, ← c .before .before .before .read-record .ensures .0, c .before .enum-told .given .1) (refl, tt)
+returns c = rw (c .fault .ensures, body-is, ← c .before .before .before .read-record .ensures .0, c .before .enum-told .given .1) (refl, tt)
 
 returns-2 : tie.Need-returns-2
-unfolding decodeBody
 returns-2 c =
-    rw (
-      ← c .before .before .before .read-record .ensures .0,
-      c .before .record-step .given .1,
-    )
-    (refl, rw (c .before .record-step .given .1) at (c .before .before .before .read-record .ensures .1))
+    let told = c .before .record-step .given .1 in
+    let read = c .before .before .before .read-record .ensures in
+    rw (body-is, ← read .0, told) (refl, rw told at (read .1))
 
 pub read-record-body-spec : {M : Type 1} → statement M
 read-record-body-spec =

@@ -1,5 +1,6 @@
+-- A text alone: the body is what its reader says.
 use mathlib.Core.Path.{refl}
-use Rattle.format.specs.PacketOrder.{decodeBody}
+use Rattle.bodies.proofs.Bodies.{body-is}
 use borrow.Author.Needs.{needs}
 use Rattle.bodies.proofs.items.read_text_body.Statement.{statement}
 use Rattle.bodies.proofs.items.read_text_body.Tie as tie
@@ -17,12 +18,10 @@ fault-requires : tie.Need-fault-requires
 fault-requires c κs = search needs
 
 returns : tie.Need-returns
-unfolding decodeBody
-returns c = rw (c .fault .ensures, ← c .before .before .before .string .ensures .0, c .before .enum-told .given .1) (refl, tt)
+returns c = rw (c .fault .ensures, body-is, ← c .before .before .before .string .ensures .0, c .before .enum-told .given .1) (refl, tt)
 
 returns-2 : tie.Need-returns-2
-unfolding decodeBody
-returns-2 c = rw (← c .before .before .before .string .ensures .0, c .before .text-step .given .1)
+returns-2 c = rw (body-is, ← c .before .before .before .string .ensures .0, c .before .text-step .given .1)
     (refl, rw (c .before .text-step .given .1) at (c .before .before .before .string .ensures .1))
 
 pub read-text-body-spec : {M : Type 1} → statement M

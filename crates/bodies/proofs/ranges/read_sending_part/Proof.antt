@@ -1,11 +1,24 @@
-use mathlib.Core.Path.{refl}
-use Rattle.format.specs.PacketOrder.{decodeBody, decodeSendingPart}
-use Rattle.format.specs.Decoding.{decodeTail}
-use Rattle.bodies.proofs.Data.{data-inside, to-the-end}
+-- A hash, a range and the data up to the end: each is named once it is read, and the returns after it rewrite by that.
+use mathlib.Core.Path.{refl, _≡_, sym}
+use denote.Ref.{now}
+use Rattle.format.specs.PacketOrder.{decodeSendingPart, decodeRange}
+use Rattle.format.specs.Decoding.{decodeTail, got}
+use Rattle.format.specs.Order.{decodeHash}
 use Rattle.wire.proofs.Inside.{hash-inside}
+use Rattle.wire.specs.WireAnswers.{hashAt}
+use Rattle.bodies.proofs.Bodies.{body-is}
+use Rattle.bodies.proofs.Data.{data-inside, to-the-end}
 use borrow.Author.Needs.{needs}
 use Rattle.bodies.proofs.ranges.read_sending_part.Statement.{statement}
 use Rattle.bodies.proofs.ranges.read_sending_part.Tie as tie
+
+hash-read : (c : tie.After-hash-step) → let start = c .before .before .before .before .args in
+    decodeHash (now (start .s)) (start .c .at) ≡ got (hashAt (now (start .s)) (c .hash-step .given .0 .0)) (c .hash-step .given .0 .1 .0 .at)
+hash-read c = rw (← c .before .before .hash .ensures, c .hash-step .given .1) refl
+
+range-read : (c : tie.After-range-step) → let hash = c .before .before .before .before in
+    decodeRange (now (hash .before .before .before .before .args .s)) (hash .hash-step .given .0 .1 .0 .at) ≡ got (c .range-step .given .0 .0, c .range-step .given .0 .1 .0) (c .range-step .given .0 .1 .1 .0 .at)
+range-read c = rw (← c .before .before .read-range .ensures, c .range-step .given .1) refl
 
 hash-requires : tie.Need-hash-requires
 hash-requires c κs = search needs
@@ -20,8 +33,8 @@ fault-requires : tie.Need-fault-requires
 fault-requires c κs = search needs
 
 returns : tie.Need-returns
-unfolding decodeBody decodeSendingPart
-returns c = rw (c .fault .ensures, ← c .before .before .before .hash .ensures, c .before .enum-told .given .1) (refl, tt)
+unfolding decodeSendingPart
+returns c = rw (c .fault .ensures, body-is, ← c .before .before .before .hash .ensures, c .before .enum-told .given .1) (refl, tt)
 
 read-range-requires : tie.Need-read-range-requires
 read-range-requires c κs = search needs
@@ -36,35 +49,17 @@ fault-requires-2 : tie.Need-fault-requires-2
 fault-requires-2 c κs = search needs
 
 returns-2 : tie.Need-returns-2
-unfolding decodeBody decodeSendingPart
-returns-2 c =
-    let hash = c .before .before .before .before .before in
-    rw (
-      c .fault2 .ensures,
-      ← hash .before .before .hash .ensures,
-      hash .hash-step .given .1,
-      ← c .before .before .before .read-range .ensures,
-      c .before .enum-told2 .given .1,
-    )
-    (refl, tt)
+unfolding decodeSendingPart
+returns-2 c = rw (c .fault2 .ensures, body-is, hash-read, ← c .before .before .before .read-range .ensures, c .before .enum-told2 .given .1) (refl, tt)
 
 remaining-requires : tie.Need-remaining-requires
 remaining-requires c κs = search needs
 
 returns-3 : tie.Need-returns-3
-unfolding decodeBody decodeSendingPart decodeTail
+unfolding decodeSendingPart decodeTail
 returns-3 c =
     let range = c .before .before in
-    let hash = range .before .before .before .before in
-    rw (
-      ← hash .before .before .hash .ensures,
-      hash .hash-step .given .1,
-      ← range .before .before .read-range .ensures,
-      range .range-step .given .1,
-      c .remaining .ensures,
-      to-the-end,
-    )
-    (refl, (hash-inside _ _ _ (rw (hash .hash-step .given .1) at (hash .before .before .hash .ensures)), data-inside _ _ (rw (range .range-step .given .1) at (range .before .before .read-range .ensures))))
+    rw (body-is, hash-read, range-read, c .remaining .ensures, to-the-end) (refl, (hash-inside _ _ _ (sym (hash-read (range .before .before .before .before))), data-inside _ _ (sym (range-read range))))
 
 pub read-sending-part-spec : {M : Type 1} → statement M
 read-sending-part-spec =

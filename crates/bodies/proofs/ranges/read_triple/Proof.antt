@@ -1,8 +1,20 @@
-use mathlib.Core.Path.{refl}
+-- Three DWORDs: each is named once it is read, and the returns after it rewrite by that.
+use mathlib.Core.Path.{refl, _≡_}
+use denote.Ref.{now}
 use Rattle.format.specs.PacketOrder.{decodeTriple}
+use Rattle.format.specs.Decoding.{got}
+use Rattle.format.specs.Order.{decodeDword}
 use borrow.Author.Needs.{needs}
 use Rattle.bodies.proofs.ranges.read_triple.Statement.{statement}
 use Rattle.bodies.proofs.ranges.read_triple.Tie as tie
+
+first-read : (c : tie.After-first-step) → let start = c .before .before .before .before .args in
+    decodeDword (now (start .s)) (start .c .at) ≡ got (c .first-step .given .0 .0) (c .first-step .given .0 .1 .0 .at)
+first-read c = rw (← c .before .before .dword .ensures, c .first-step .given .1) refl
+
+second-read : (c : tie.After-second-step) → let first = c .before .before .before .before in
+    decodeDword (now (first .before .before .before .before .args .s)) (first .first-step .given .0 .1 .0 .at) ≡ got (c .second-step .given .0 .0) (c .second-step .given .0 .1 .0 .at)
+second-read c = rw (← c .before .before .dword2 .ensures, c .second-step .given .1) refl
 
 dword-requires : tie.Need-dword-requires
 dword-requires c κs = search needs
@@ -34,16 +46,7 @@ fault-requires-2 c κs = search needs
 
 returns-2 : tie.Need-returns-2
 unfolding decodeTriple
-returns-2 c =
-    let first = c .before .before .before .before .before in
-    rw (
-      c .fault2 .ensures,
-      ← first .before .before .dword .ensures,
-      first .first-step .given .1,
-      ← c .before .before .before .dword2 .ensures,
-      c .before .enum-told2 .given .1,
-    )
-    refl
+returns-2 c = rw (c .fault2 .ensures, first-read, ← c .before .before .before .dword2 .ensures, c .before .enum-told2 .given .1) refl
 
 dword-requires-3 : tie.Need-dword-requires-3
 dword-requires-3 c κs = search needs
@@ -59,35 +62,11 @@ fault-requires-3 c κs = search needs
 
 returns-3 : tie.Need-returns-3
 unfolding decodeTriple
-returns-3 c =
-    let second = c .before .before .before .before .before in
-    let first = second .before .before .before .before in
-    rw (
-      c .fault3 .ensures,
-      ← first .before .before .dword .ensures,
-      first .first-step .given .1,
-      ← second .before .before .dword2 .ensures,
-      second .second-step .given .1,
-      ← c .before .before .before .dword3 .ensures,
-      c .before .enum-told3 .given .1,
-    )
-    refl
+returns-3 c = rw (c .fault3 .ensures, first-read, second-read, ← c .before .before .before .dword3 .ensures, c .before .enum-told3 .given .1) refl
 
 returns-4 : tie.Need-returns-4
 unfolding decodeTriple
-returns-4 c =
-    let third = c .before in
-    let second = third .before .before .before .before in
-    let first = second .before .before .before .before in
-    rw (
-      ← first .before .before .dword .ensures,
-      first .first-step .given .1,
-      ← second .before .before .dword2 .ensures,
-      second .second-step .given .1,
-      ← third .before .before .dword3 .ensures,
-      third .third-step .given .1,
-    )
-    refl
+returns-4 c = rw (first-read, second-read, ← c .before .before .before .dword3 .ensures, c .before .third-step .given .1) refl
 
 pub read-triple-spec : {M : Type 1} → statement M
 read-triple-spec =

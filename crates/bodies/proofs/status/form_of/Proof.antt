@@ -1,3 +1,4 @@
+-- The two tests of the form, as the format has them.
 use mathlib.Core.Path.{refl}
 use borrow.Author.Tests.{eq-eqb, ne-eqb}
 use Rattle.bodies.proofs.status.form_of.Statement.{statement}

@@ -1,3 +1,4 @@
+-- A shift of 1 is a power of two, which fits as fewer than 64 bits are shifted.
 use native.Mathlib.Nat.{mod-eq-of-lt, one-mul}
 use native.Mathlib.Omega.{arith}
 use lib.Pow.{pow-lt}

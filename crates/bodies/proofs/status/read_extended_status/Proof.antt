@@ -1,8 +1,28 @@
-use mathlib.Core.Path.{refl}
+-- Two bytes, two marks and three numbers: each is named once it is read, and the returns after it rewrite by that.
+use mathlib.Core.Path.{refl, _≡_}
+use denote.Ref.{now}
 use Rattle.format.specs.PacketOrder.{decodeExtendedStatus}
+use Rattle.format.specs.Decoding.{got}
+use Rattle.format.specs.Order.{decodeByte, decodeFixed}
 use borrow.Author.Needs.{needs}
 use Rattle.bodies.proofs.status.read_extended_status.Statement.{statement}
 use Rattle.bodies.proofs.status.read_extended_status.Tie as tie
+
+first-read : (c : tie.After-first-step) → let start = c .before .before .before .before .args in
+    decodeByte (now (start .s)) (start .c .at) ≡ got (c .first-step .given .0 .0) (c .first-step .given .0 .1 .0 .at)
+first-read c = rw (← c .before .before .byte .ensures, c .first-step .given .1) refl
+
+second-read : (c : tie.After-second-step) → let first = c .before .before .before .before in
+    decodeByte (now (first .before .before .before .before .args .s)) (first .first-step .given .0 .1 .0 .at) ≡ got (c .second-step .given .0 .0) (c .second-step .given .0 .1 .0 .at)
+second-read c = rw (← c .before .before .byte2 .ensures, c .second-step .given .1) refl
+
+first-mark-read : (c : tie.After-first-mark-step) → let second = c .before .before .before .before in
+    decodeFixed 0xAA (now (second .before .before .before .before .before .before .before .before .args .s)) (second .second-step .given .0 .1 .0 .at) ≡ got (tt) (c .first-mark-step .given .0 .0 .at)
+first-mark-read c = rw (← c .before .before .fixed .ensures, c .first-mark-step .given .1) refl
+
+second-mark-read : (c : tie.After-second-mark-step) → let mark = c .before .before .before .before in
+    decodeFixed 0x5A (now (mark .before .before .before .before .before .before .before .before .before .before .before .before .args .s)) (mark .first-mark-step .given .0 .0 .at) ≡ got (tt) (c .second-mark-step .given .0 .0 .at)
+second-mark-read c = rw (← c .before .before .fixed2 .ensures, c .second-mark-step .given .1) refl
 
 byte-requires : tie.Need-byte-requires
 byte-requires c κs = search needs
@@ -34,16 +54,7 @@ fault-requires-2 c κs = search needs
 
 returns-2 : tie.Need-returns-2
 unfolding decodeExtendedStatus
-returns-2 c =
-    let first = c .before .before .before .before .before in
-    rw (
-      c .fault2 .ensures,
-      ← first .before .before .byte .ensures,
-      first .first-step .given .1,
-      ← c .before .before .before .byte2 .ensures,
-      c .before .enum-told2 .given .1,
-    )
-    refl
+returns-2 c = rw (c .fault2 .ensures, first-read, ← c .before .before .before .byte2 .ensures, c .before .enum-told2 .given .1) refl
 
 fixed-requires : tie.Need-fixed-requires
 fixed-requires c κs = search needs
@@ -59,19 +70,7 @@ fault-requires-3 c κs = search needs
 
 returns-3 : tie.Need-returns-3
 unfolding decodeExtendedStatus
-returns-3 c =
-    let second = c .before .before .before .before .before in
-    let first = second .before .before .before .before in
-    rw (
-      c .fault3 .ensures,
-      ← first .before .before .byte .ensures,
-      first .first-step .given .1,
-      ← second .before .before .byte2 .ensures,
-      second .second-step .given .1,
-      ← c .before .before .before .fixed .ensures,
-      c .before .enum-told3 .given .1,
-    )
-    refl
+returns-3 c = rw (c .fault3 .ensures, first-read, second-read, ← c .before .before .before .fixed .ensures, c .before .enum-told3 .given .1) refl
 
 fixed-requires-2 : tie.Need-fixed-requires-2
 fixed-requires-2 c κs = search needs
@@ -87,22 +86,7 @@ fault-requires-4 c κs = search needs
 
 returns-4 : tie.Need-returns-4
 unfolding decodeExtendedStatus
-returns-4 c =
-    let first-mark = c .before .before .before .before .before in
-    let second = first-mark .before .before .before .before in
-    let first = second .before .before .before .before in
-    rw (
-      c .fault4 .ensures,
-      ← first .before .before .byte .ensures,
-      first .first-step .given .1,
-      ← second .before .before .byte2 .ensures,
-      second .second-step .given .1,
-      ← first-mark .before .before .fixed .ensures,
-      first-mark .first-mark-step .given .1,
-      ← c .before .before .before .fixed2 .ensures,
-      c .before .enum-told4 .given .1,
-    )
-    refl
+returns-4 c = rw (c .fault4 .ensures, first-read, second-read, first-mark-read, ← c .before .before .before .fixed2 .ensures, c .before .enum-told4 .given .1) refl
 
 read-triple-requires : tie.Need-read-triple-requires
 read-triple-requires c κs = search needs
@@ -119,46 +103,12 @@ fault-requires-5 c κs = search needs
 returns-5 : tie.Need-returns-5
 unfolding decodeExtendedStatus
 returns-5 c =
-    let second-mark = c .before .before .before .before .before in
-    let first-mark = second-mark .before .before .before .before in
-    let second = first-mark .before .before .before .before in
-    let first = second .before .before .before .before in
-    rw (
-      c .fault5 .ensures,
-      ← first .before .before .byte .ensures,
-      first .first-step .given .1,
-      ← second .before .before .byte2 .ensures,
-      second .second-step .given .1,
-      ← first-mark .before .before .fixed .ensures,
-      first-mark .first-mark-step .given .1,
-      ← second-mark .before .before .fixed2 .ensures,
-      second-mark .second-mark-step .given .1,
-      ← c .before .before .before .read-triple .ensures,
-      c .before .enum-told5 .given .1,
-    )
-    refl
+    rw (c .fault5 .ensures, first-read, second-read, first-mark-read, second-mark-read, ← c .before .before .before .read-triple .ensures, c .before .enum-told5 .given .1) refl
 
 returns-6 : tie.Need-returns-6
 unfolding decodeExtendedStatus
 returns-6 c =
-    let numbers = c .before in
-    let second-mark = numbers .before .before .before .before in
-    let first-mark = second-mark .before .before .before .before in
-    let second = first-mark .before .before .before .before in
-    let first = second .before .before .before .before in
-    rw (
-      ← first .before .before .byte .ensures,
-      first .first-step .given .1,
-      ← second .before .before .byte2 .ensures,
-      second .second-step .given .1,
-      ← first-mark .before .before .fixed .ensures,
-      first-mark .first-mark-step .given .1,
-      ← second-mark .before .before .fixed2 .ensures,
-      second-mark .second-mark-step .given .1,
-      ← numbers .before .before .read-triple .ensures,
-      numbers .numbers-step .given .1,
-    )
-    refl
+    rw (first-read, second-read, first-mark-read, second-mark-read, ← c .before .before .before .read-triple .ensures, c .before .numbers-step .given .1) refl
 
 pub read-extended-status-spec : {M : Type 1} → statement M
 read-extended-status-spec =

@@ -1,9 +1,23 @@
-use mathlib.Core.Path.{refl}
-use Rattle.format.specs.PacketOrder.{decodeBody, decodeFileStatus}
+-- A hash, the number of parts and their bits: each is named once it is read, and the returns after it rewrite by that.
+use mathlib.Core.Path.{refl, _≡_, sym}
+use denote.Ref.{now}
+use Rattle.format.specs.PacketOrder.{decodeFileStatus}
+use Rattle.format.specs.Decoding.{got}
+use Rattle.format.specs.Order.{decodeHash, decodeWord}
 use Rattle.wire.proofs.Inside.{hash-inside}
+use Rattle.wire.specs.WireAnswers.{hashAt}
+use Rattle.bodies.proofs.Bodies.{body-is}
 use borrow.Author.Needs.{needs}
 use Rattle.bodies.proofs.status.read_file_status.Statement.{statement}
 use Rattle.bodies.proofs.status.read_file_status.Tie as tie
+
+hash-read : (c : tie.After-hash-step) → let start = c .before .before .before .before .args in
+    decodeHash (now (start .s)) (start .c .at) ≡ got (hashAt (now (start .s)) (c .hash-step .given .0 .0)) (c .hash-step .given .0 .1 .0 .at)
+hash-read c = rw (← c .before .before .hash .ensures, c .hash-step .given .1) refl
+
+count-read : (c : tie.After-count-step) → let hash = c .before .before .before .before in
+    decodeWord (now (hash .before .before .before .before .args .s)) (hash .hash-step .given .0 .1 .0 .at) ≡ got (c .count-step .given .0 .0) (c .count-step .given .0 .1 .0 .at)
+count-read c = rw (← c .before .before .word .ensures, c .count-step .given .1) refl
 
 hash-requires : tie.Need-hash-requires
 hash-requires c κs = search needs
@@ -18,8 +32,8 @@ fault-requires : tie.Need-fault-requires
 fault-requires c κs = search needs
 
 returns : tie.Need-returns
-unfolding decodeBody decodeFileStatus
-returns c = rw (c .fault .ensures, ← c .before .before .before .hash .ensures, c .before .enum-told .given .1) (refl, tt)
+unfolding decodeFileStatus
+returns c = rw (c .fault .ensures, body-is, ← c .before .before .before .hash .ensures, c .before .enum-told .given .1) (refl, tt)
 
 word-requires : tie.Need-word-requires
 word-requires c κs = search needs
@@ -34,17 +48,8 @@ fault-requires-2 : tie.Need-fault-requires-2
 fault-requires-2 c κs = search needs
 
 returns-2 : tie.Need-returns-2
-unfolding decodeBody decodeFileStatus
-returns-2 c =
-    let hash = c .before .before .before .before .before in
-    rw (
-      c .fault2 .ensures,
-      ← hash .before .before .hash .ensures,
-      hash .hash-step .given .1,
-      ← c .before .before .before .word .ensures,
-      c .before .enum-told2 .given .1,
-    )
-    (refl, tt)
+unfolding decodeFileStatus
+returns-2 c = rw (c .fault2 .ensures, body-is, hash-read, ← c .before .before .before .word .ensures, c .before .enum-told2 .given .1) (refl, tt)
 
 cast-parts : tie.Need-cast-parts
 cast-parts c = search needs
@@ -62,36 +67,15 @@ fault-requires-3 : tie.Need-fault-requires-3
 fault-requires-3 c κs = search needs
 
 returns-3 : tie.Need-returns-3
-unfolding decodeBody decodeFileStatus
-returns-3 c =
-    let count = c .before .before .before .before .before in
-    let hash = count .before .before .before .before in
-    rw (
-      c .fault3 .ensures,
-      ← hash .before .before .hash .ensures,
-      hash .hash-step .given .1,
-      ← count .before .before .word .ensures,
-      count .count-step .given .1,
-      ← c .before .before .before .read-bits .ensures .0,
-      c .before .enum-told3 .given .1,
-    )
-    (refl, tt)
+unfolding decodeFileStatus
+returns-3 c = rw (c .fault3 .ensures, body-is, hash-read, count-read, ← c .before .before .before .read-bits .ensures .0, c .before .enum-told3 .given .1) (refl, tt)
 
 returns-4 : tie.Need-returns-4
-unfolding decodeBody decodeFileStatus
+unfolding decodeFileStatus
 returns-4 c =
-    let bits = c .before in
-    let count = bits .before .before .before .before in
-    let hash = count .before .before .before .before in
-    rw (
-      ← hash .before .before .hash .ensures,
-      hash .hash-step .given .1,
-      ← count .before .before .word .ensures,
-      count .count-step .given .1,
-      ← bits .before .before .read-bits .ensures .0,
-      bits .bits-step .given .1,
-    )
-    (refl, (hash-inside _ _ _ (rw (hash .hash-step .given .1) at (hash .before .before .hash .ensures)), rw (bits .bits-step .given .1) at (bits .before .before .read-bits .ensures .1)))
+    let told = c .before .bits-step .given .1 in
+    let read = c .before .before .before .read-bits .ensures in
+    rw (body-is, hash-read, count-read, ← read .0, told) (refl, (hash-inside _ _ _ (sym (hash-read (c .before .before .before .before .before .before .before .before .before))), rw told at (read .1)))
 
 pub read-file-status-spec : {M : Type 1} → statement M
 read-file-status-spec =

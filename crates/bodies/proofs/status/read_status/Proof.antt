@@ -1,6 +1,7 @@
+-- Three numbers where 12 bytes are left, else the longer form.
 use mathlib.Core.Path.{refl}
 use borrow.Author.Tests.{eq-eqb, ne-eqb}
-use Rattle.format.specs.PacketOrder.{decodeBody}
+use Rattle.bodies.proofs.Bodies.{body-is}
 use borrow.Author.Needs.{needs}
 use Rattle.bodies.proofs.status.read_status.Statement.{statement}
 use Rattle.bodies.proofs.status.read_status.Tie as tie
@@ -21,24 +22,14 @@ fault-requires : tie.Need-fault-requires
 fault-requires c κs = search needs
 
 returns : tie.Need-returns
-unfolding decodeBody
 returns c =
-    let b = c .before .before .before .before in
-    rw (
-      c .fault .ensures,
-      ← b .before .remaining .ensures,
-      eq-eqb _ _ (b .if1 .taken),
-      ← c .before .before .before .read-triple .ensures,
-      c .before .enum-told .given .1,
-    )
-    (refl, tt)
+    let size = c .before .before .before .before in
+    rw (c .fault .ensures, body-is, ← size .before .remaining .ensures, eq-eqb _ _ (size .if1 .taken), ← c .before .before .before .read-triple .ensures, c .before .enum-told .given .1) (refl, tt)
 
 returns-2 : tie.Need-returns-2
-unfolding decodeBody
 returns-2 c =
-    let numbers = c .before in
-    let b = numbers .before .before .before in
-    rw (← b .before .remaining .ensures, eq-eqb _ _ (b .if1 .taken), ← numbers .before .before .read-triple .ensures, numbers .numbers-step .given .1) (refl, tt)
+    let size = c .before .before .before .before in
+    rw (body-is, ← size .before .remaining .ensures, eq-eqb _ _ (size .if1 .taken), ← c .before .before .before .read-triple .ensures, c .before .numbers-step .given .1) (refl, tt)
 
 read-extended-status-requires : tie.Need-read-extended-status-requires
 read-extended-status-requires c κs = search needs
@@ -53,24 +44,14 @@ fault-requires-2 : tie.Need-fault-requires-2
 fault-requires-2 c κs = search needs
 
 returns-3 : tie.Need-returns-3
-unfolding decodeBody
 returns-3 c =
-    let b = c .before .before .before .before in
-    rw (
-      c .fault2 .ensures,
-      ← b .before .remaining .ensures,
-      ne-eqb _ _ (b .if1 .left),
-      ← c .before .before .before .read-extended-status .ensures,
-      c .before .enum-told2 .given .1,
-    )
-    (refl, tt)
+    let size = c .before .before .before .before in
+    rw (c .fault2 .ensures, body-is, ← size .before .remaining .ensures, ne-eqb _ _ (size .if1 .left), ← c .before .before .before .read-extended-status .ensures, c .before .enum-told2 .given .1) (refl, tt)
 
 returns-4 : tie.Need-returns-4
-unfolding decodeBody
 returns-4 c =
-    let status = c .before in
-    let b = status .before .before .before in
-    rw (← b .before .remaining .ensures, ne-eqb _ _ (b .if1 .left), ← status .before .before .read-extended-status .ensures, status .status-step .given .1) (refl, tt)
+    let size = c .before .before .before .before in
+    rw (body-is, ← size .before .remaining .ensures, ne-eqb _ _ (size .if1 .left), ← c .before .before .before .read-extended-status .ensures, c .before .status-step .given .1) (refl, tt)
 
 pub read-status-spec : {M : Type 1} → statement M
 read-status-spec =
