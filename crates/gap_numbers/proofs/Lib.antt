@@ -1,5 +1,6 @@
 pub mod Lists
 pub mod Numbers
+pub mod Moves
 pub mod Records
 pub mod Loops
 pub mod Marks

@@ -1,14 +1,15 @@
--- Laws of gap lists that a range is taken out of: which gaps stay as they are, how many there are then, and how many bytes they miss.
+-- Laws of gap lists that a range is taken out of: which gaps stay as they are, which pieces are left, and how many bytes they miss.
 use Prim.Native.Nat.{ℕ, zero, suc, _+_, _-_, _≤_, _<_, min, max}
 use native.Mathlib.Omega.{arith}
 use native.Mathlib.Nat.{add-zero}
 use native.Mathlib.Decide.{decLe, decLt}
 use mathlib.Core.Path.{_≡_, refl}
-use mathlib.Core.List.{List, [], _∷_, _++_}
-use lib.ListN.{length, drop, length-append}
+use mathlib.Core.List.{List, [], _∷_, _++_, append-nil, append-assoc}
+use lib.ListN.{length, drop}
 use borrow.Author.Tests.{lt-ltb, le-ltb}
 use Rattle.format.specs.Gaps.{Gap, gap, Ordered, total, between, remaining, subtract}
 use Rattle.format.proofs.Gaps.{weaken}
+use Rattle.gap_numbers.specs.NumberSteps.{pieces}
 
 -- Pieces
 
@@ -96,14 +97,31 @@ unfolding remaining
 total-remaining x s e h =
     rw (total-append, total-between (x .start) (min (x .end) s), total-between (max (x .start) e) (x .end)) (parts (x .start) (x .end) s e h)
 
-two-remaining : (x : Gap) (s e : ℕ) → length (remaining x s e) ≤ 2
-unfolding remaining
-two-remaining x s e =
-    simp length-append (omega (arith, one-between (x .start) (min (x .end) s), one-between (max (x .start) e) (x .end)))
+-- The pieces that a range leaves of the gaps that it touches, with one such gap more
 
-one-remaining : (x : Gap) (s e : ℕ) → s ≤ x .start → length (remaining x s e) ≤ 1
+lower-piece : (a low s : ℕ) → low ≤ s → s ≤ max low a → between (min a low) s ≡ between low s ++ between a s
+lower-piece a low s h k = go (decLt low s) (decLt a s)
+  where
+    go : Dec (low < s) → Dec (a < s) → between (min a low) s ≡ between low s ++ between a s
+    go (yes t) d =
+        let p : min a low ≡ low = omega arith in
+        rw (p, none-between a s (omega arith), append-nil) refl
+    go (no t) (yes u) =
+        let p : min a low ≡ a = omega arith in
+        rw (p, none-between low s (omega arith)) refl
+    go (no t) (no u) =
+        rw (none-between (min a low) s (omega arith), none-between low s (omega arith), none-between a s (omega arith)) refl
+
+pub no-pieces : (s e : ℕ) → pieces s e s e ≡ []
+no-pieces s e = rw (none-between s s (omega arith), none-between e e (omega arith)) refl
+
+pub pieces-next : (x : Gap) (s e low high : ℕ) → s < e → low ≤ s → s ≤ max low (x .start) → x .start < e → s < x .end → high ≤ e
+    → pieces s e (min (x .start) low) (x .end) ≡ pieces s e low high ++ remaining x s e
 unfolding remaining
-one-remaining x s e h = rw (none-between (x .start) (min (x .end) s) (omega arith)) (one-between (max (x .start) e) (x .end))
+pieces-next x s e low high h k lower begins ends upper =
+    let p : min (x .end) s ≡ s = omega arith in
+    let q : max (x .start) e ≡ e = omega arith in
+    rw (p, q, none-between e high upper, append-nil, lower-piece (x .start) low s k lower, append-assoc) refl
 
 -- What is left of all gaps
 
@@ -112,27 +130,6 @@ unfolding Ordered subtract
 subtract-after size [] s e low h k o = refl
 subtract-after size (x ∷ l) s e low h k o =
     rw (kept-after x s e h (o .1) (omega arith), subtract-after size l s e (suc (x .end)) h (omega arith) (o .3)) refl
-
-few-after : (size low : ℕ) (l : List Gap) (s e : ℕ) → s ≤ low → Ordered size low l → length (subtract l s e) ≤ length l
-unfolding Ordered subtract
-few-after size low [] s e h o = omega arith
-few-after size low (x ∷ l) s e h o =
-    let r = one-remaining x s e (omega arith) in
-    let i = few-after size (suc (x .end)) l s e (omega arith) (o .3) in
-    simp length-append (omega arith)
-
--- at most one gap more
-pub one-more : (size low : ℕ) (l : List Gap) (s e : ℕ) → s < e → Ordered size low l → length (subtract l s e) ≤ length l + 1
-unfolding Ordered subtract
-one-more size low [] s e h o = omega arith
-one-more size low (x ∷ l) s e h o = go (one-more size (suc (x .end)) l s e h (o .3)) (decLt (x .end) s)
-  where
-    go : length (subtract l s e) ≤ length l + 1 → Dec (x .end < s) → length (remaining x s e ++ subtract l s e) ≤ length (x ∷ l) + 1
-    go i (yes t) = rw (kept-before x s e h (o .1) (omega arith)) (omega arith)
-    go i (no t) =
-        let r = two-remaining x s e in
-        let j = few-after size (suc (x .end)) l s e (omega arith) (o .3) in
-        simp length-append (omega arith)
 
 pub ordered-drop : (size low : ℕ) (l : List Gap) (i : ℕ) → Ordered size low l → Ordered size 0 (drop i l)
 unfolding Ordered

@@ -1,28 +1,22 @@
 -- A turn of each loop of the marking.
-use Prim.Native.Nat.{ℕ, _+_, _-_, _*_, _≤_, _<_, min, max}
+use Prim.Native.Nat.{ℕ, suc, _+_, _-_, _*_, _≤_, _<_, min, max}
 use native.Mathlib.Omega.{arith}
 use native.Mathlib.Decide.{decLt}
 use mathlib.Core.Path.{_≡_, refl, sym, ap, _∙_}
 use mathlib.Core.Bool.{false, _&&_}
-use mathlib.Core.List.{List, [], _∷_, _++_, append-assoc}
-use lib.ListN.{length, getD, take, drop, replicate, length-append, length-drop, take-append-drop, drop-of-length-le}
-use lib.Seq.{slice, take-all, length-take-le, length-slice, drop-append-le}
-use Rattle.format.specs.Gaps.{Gap, Ordered, follows, ordered, total, between, remaining, subtract, sizeLimit}
+use mathlib.Core.List.{List, _∷_, _++_, append-assoc}
+use lib.ListN.{length, getD, take, drop, take-append-drop, drop-of-length-le}
+use Rattle.format.specs.Gaps.{Gap, Ordered, follows, ordered, total, remaining, subtract, sizeLimit}
 use Rattle.gaps.specs.declared.GapRecord.{GapRecord}
 use Rattle.gaps.specs.GapRecords.{lawfulRecord, missingCount}
 use Rattle.gaps.proofs.GapRecords.{gaps-length}
-use Rattle.gap_numbers.specs.Numbers.{pairNumbers, held, Judges}
-use Rattle.gap_numbers.specs.NumberSteps.{gapsIn, Holds, filled, putGap, putPiece, EndBy, Cut, Subtracted}
-use Rattle.gap_numbers.proofs.Lists.{total-append, kept-before, total-remaining, subtract-after, one-more, ordered-drop}
-use Rattle.gap_numbers.proofs.Numbers.{gapAt, at, drop-in, take-in, length-filled, put-filled, put-between}
+use Rattle.gap_numbers.specs.Numbers.{held, Judges}
+use Rattle.gap_numbers.specs.NumberSteps.{gapsIn, Holds, EndBy, pieces, Touches}
+use Rattle.gap_numbers.proofs.Lists.{total-append, kept-before, total-remaining, no-pieces, pieces-next, subtract-after, ordered-drop}
+use Rattle.gap_numbers.proofs.Numbers.{gapAt, at, drop-in, take-in}
 
-length-gaps : (l : List ℕ) (n : ℕ) → Holds l n → length (gapsIn l) ≡ n
+pub length-gaps : (l : List ℕ) (n : ℕ) → Holds l n → length (gapsIn l) ≡ n
 length-gaps l n h = let e = h .counted in gaps-length (held l) 0 (at l 0 (omega arith) (omega (arith, h .few))) ∙ sym e
-
--- no more than 65 gaps are left
-few-left : (l : List ℕ) (n s e : ℕ) → Holds l n → s < e → length (subtract (gapsIn l) s e) ≤ 65
-few-left l n s e h r =
-    omega (arith, one-more (getD l 0 0) 0 (gapsIn l) s e r (h .ordered), length-gaps l n h, h .few)
 
 -- Judging: the gap at i decides, or those after it
 module _ (l : List ℕ) (i : ℕ) (h : i < getD l 1 0) (k : getD l 1 0 ≤ 64) where
@@ -35,31 +29,11 @@ module _ (l : List ℕ) (i : ℕ) (h : i < getD l 1 0) (k : getD l 1 0 ≤ 64) w
   unfolding total
   total-next = rw (drop-in l i h k) refl
 
-  -- Keeping: the gap at i is put after those from `from` on
-  pub keep-next : (from : ℕ) → from ≤ i → (kept : List Gap) → length kept + (i - from) < 65
-      → putGap (filled (kept ++ slice from i (gapsIn l))) (length kept + (i - from)) (gapAt l i .start) (gapAt l i .end)
-      ≡ filled (kept ++ slice from (i + 1) (gapsIn l))
-  keep-next from t kept r =
-      let x = gapAt l i in
-      let m : i ≤ length (gapsIn l) = omega (arith, gaps-length (held l) i (at l i (omega arith) k)) in
-      let p : length (kept ++ slice from i (gapsIn l)) ≡ length kept + (i - from) =
-      simp length-append (omega (arith, length-slice from i (gapsIn l) m)) in
-      let u : from ≤ length (take i (gapsIn l)) = omega (arith, length-take-le i (gapsIn l) m) in
-      let v : slice from (i + 1) (gapsIn l) ≡ slice from i (gapsIn l) ++ x ∷ [] =
-      rw (take-in l i h k) (drop-append-le from (take i (gapsIn l)) (x ∷ []) u) in
-      rw (← p, put-filled (kept ++ slice from i (gapsIn l)) (x .start) (x .end) (rw p r), v, append-assoc) refl
-
 pub unlawful-judged : (g : GapRecord) → lawfulRecord sizeLimit g ≡ false → Judges g false 0
 unfolding missingCount
 unlawful-judged g q = record { told = sym q; counted = rw q refl }
 
--- The array of the gaps made keeps its length
-module _ (l : List ℕ) (n : ℕ) (h : Holds l n) (s e : ℕ) (r : s < e) (i count missing : ℕ) (made : List ℕ) (c : Cut l s e i count missing made) where
-  pub length-cut : length made ≡ 130
-  length-cut =
-      rw (c .filled) (length-filled (c .kept) (omega (arith, simp length-append at (ap length (c .joined)), few-left l n s e h r)))
-
--- Cutting: the gap at i, and those after it
+-- The gap at i, and those after it
 module _ (l : List ℕ) (n : ℕ) (h : Holds l n) (i : ℕ) (k : i < n) where
   abbrev x : Gap
   x = gapAt l i
@@ -73,11 +47,11 @@ module _ (l : List ℕ) (n : ℕ) (h : Holds l n) (i : ℕ) (k : i < n) where
   few : getD l 1 0 ≤ 64
   few = let q = h .counted in omega (arith, h .few)
 
-  first : drop i (gapsIn l) ≡ x ∷ rest
-  first = drop-in l i here few
+  next-in : drop i (gapsIn l) ≡ x ∷ rest
+  next-in = drop-in l i here few
 
   in-order : Ordered (getD l 0 0) 0 (x ∷ rest)
-  in-order = rw first at (ordered-drop (getD l 0 0) 0 (gapsIn l) i (h .ordered))
+  in-order = rw next-in at (ordered-drop (getD l 0 0) 0 (gapsIn l) i (h .ordered))
 
   holds-byte : x .start < x .end
   unfolding Ordered
@@ -85,7 +59,7 @@ module _ (l : List ℕ) (n : ℕ) (h : Holds l n) (i : ℕ) (k : i < n) where
 
   split : (s e : ℕ) → subtract (drop i (gapsIn l)) s e ≡ remaining x s e ++ subtract rest s e
   unfolding subtract
-  split s e = rw first refl
+  split s e = rw next-in refl
 
   -- counting the gaps that end by the start
   pub end-by-next : (s : ℕ) → x .end ≤ s → EndBy l s i → EndBy l s (i + 1)
@@ -96,103 +70,102 @@ module _ (l : List ℕ) (n : ℕ) (h : Holds l n) (i : ℕ) (k : i < n) where
         ∙ ap (λ m. take i (gapsIn l) ++ m) (sym (split s e)) ∙ b .joined e r);
   }
 
-  -- cutting
-  module _ (s e count missing : ℕ) (r : s < e) (made : List ℕ) (c : Cut l s e i count missing made) where
-    abbrev left : List Gap
-    left = between (x .start) (min (x .end) s)
+-- the one after it
+apart : (l : List ℕ) (n : ℕ) (h : Holds l n) (i : ℕ) → i + 1 < n → gapAt l i .end < gapAt l (i + 1) .start
+unfolding Ordered
+apart l n h i t =
+    let o : Ordered (getD l 0 0) (suc (gapAt l i .end)) (drop (i + 1) (gapsIn l)) = in-order l n h i (omega arith) .3 in
+    let p : Ordered (getD l 0 0) (suc (gapAt l i .end)) (gapAt l (i + 1) ∷ drop (i + 1 + 1) (gapsIn l)) = rw (next-in l n h (i + 1) t) at o in
+    p .0
 
-    abbrev right : List Gap
-    right = between (max (x .start) e) (x .end)
+-- The range is taken out of the gaps before `next`; `ahead` says how the next gap lies, if there is one.
+pub record Touching (l : List ℕ) (s e first next low high missing : ℕ) : Type 0 where
+  pub begun : first ≤ next
+  pub passed : next ≤ getD l 1 0
+  pub left : take first (gapsIn l) ++ (pieces s e low high ++ subtract (drop next (gapsIn l)) s e) ≡ subtract (gapsIn l) s e
+  pub weighed : missing ≡ total (take first (gapsIn l)) + total (pieces s e low high) + total (drop next (gapsIn l))
+  pub lowest : low ≤ s
+  pub ahead : next < getD l 1 0 → (s < gapAt l next .end) × (s ≤ max low (gapAt l next .start)) × (gapAt l next .start < e → high ≤ e)
 
-    joined-next : ((c .kept ++ left) ++ right) ++ subtract rest s e ≡ subtract (gapsIn l) s e
-    unfolding remaining
-    joined-next = simp append-assoc (ap (λ m. c .kept ++ m) (sym (simp append-assoc at (split s e))) ∙ c .joined)
+module _ (l : List ℕ) (n : ℕ) (h : Holds l n) (s e : ℕ) (r : s < e) where
+  -- no gap is touched so far
+  pub touching-none : (i missing : ℕ) → EndBy l s i → (i < n → s < getD l (2 * i + 3) 0) → missing ≡ total (gapsIn l)
+      → Touching l s e i i s e missing
+  unfolding total
+  touching-none i missing b after m = record {
+    begun = omega arith;
+    passed = b .passed;
+    left = rw (no-pieces s e) (b .joined e r);
+    weighed =
+        m ∙ sym (ap total (take-append-drop i (gapsIn l))) ∙ total-append (take i (gapsIn l)) (drop i (gapsIn l))
+        ∙ rw (no-pieces s e) (omega arith);
+    lowest = omega arith;
+    ahead = λ t. (after (omega (arith, h .counted)), omega arith, λ u. omega arith);
+  }
 
-    room : length ((c .kept ++ left) ++ right) ≤ 65
-    room = simp length-append (omega (arith, simp length-append at (ap length joined-next), few-left l n s e h r))
+  module _ (first next low high missing : ℕ) (c : Touching l s e first next low high missing) where
+    -- the gap at `next` is touched too
+    module _ (k : next < n) (begins : gapAt l next .start < e) where
+      abbrev touched : Gap
+      touched = gapAt l next
 
-    few-kept : length (c .kept ++ left) ≤ 65
-    few-kept = simp length-append (omega (arith, simp length-append at room))
+      lies : (s < touched .end) × (s ≤ max low (touched .start)) × (touched .start < e → high ≤ e)
+      lies = c .ahead (here l n h next k)
 
-    pub first-room : 2 * (count + length left) ≤ length made
-    first-room = rw (length-cut l n h s e r i count missing made c, c .counted) (omega (arith, simp length-append at room))
+      one-more : pieces s e (min (touched .start) low) (touched .end) ≡ pieces s e low high ++ remaining touched s e
+      one-more = pieces-next touched s e low high r (c .lowest) (lies .1) begins (lies .0) (lies .2 begins)
 
-    pub weight : min (x .end) e - max (x .start) s ≤ missing
-    unfolding total
-    weight = omega (arith, total-remaining x s e r, c .weighed, ap total first)
+      weights : total (remaining touched s e) + (min (touched .end) e - max (touched .start) s) + total (drop (next + 1) (gapsIn l))
+          ≡ total (drop next (gapsIn l))
+      unfolding total
+      weights = omega (arith, total-remaining touched s e r, holds-byte l n h next k, ap total (next-in l n h next k))
 
-    -- the left piece, then the right piece
-    module _ (made′ : List ℕ) (count′ : ℕ) (q : count′ ≡ count + length left) (p : made′ ≡ putPiece made count (x .start) (min (x .end) s)) where
-      filled′ : made′ ≡ filled (c .kept ++ left)
-      filled′ = p ∙ rw (c .filled, c .counted) (put-between (c .kept) (x .start) (min (x .end) s) few-kept)
+      pub part-within : max (touched .start) s ≤ min (touched .end) e
+      part-within = omega (arith, lies .0, holds-byte l n h next k, begins, r)
 
-      counted′ : count′ ≡ length (c .kept ++ left)
-      counted′ = q ∙ rw (c .counted, length-append) refl
+      pub part-missing : min (touched .end) e - max (touched .start) s ≤ missing
+      part-missing = omega (arith, c .weighed, weights)
 
-      pub second-room : 2 * (count′ + length right) ≤ length made′
-      second-room =
-          rw (filled′, length-filled (c .kept ++ left) few-kept, counted′) (simp length-append (omega (arith, simp length-append at room)))
-
-      pub cut-next : (made″ : List ℕ) (count″ missing′ : ℕ) → count″ ≡ count′ + length right → made″ ≡ putPiece made′ count′ (max (x .start) e) (x .end)
-          → missing′ ≡ missing - (min (x .end) e - max (x .start) s) → Cut l s e (i + 1) count″ missing′ made″
-      unfolding total remaining
-      cut-next made″ count″ missing′ u v w = record {
-        passed = omega (arith, here);
-        kept = (c .kept ++ left) ++ right;
-        filled = v ∙ rw (filled′, counted′) (put-between (c .kept ++ left) (max (x .start) e) (x .end) room);
-        counted = u ∙ rw counted′ (sym (length-append (c .kept ++ left) right));
-        joined = joined-next;
+      pub touching-next : (missing′ : ℕ) → missing′ ≡ missing - (min (touched .end) e - max (touched .start) s)
+          → Touching l s e first (next + 1) (min (touched .start) low) (touched .end) missing′
+      touching-next missing′ q = record {
+        begun = omega (arith, c .begun);
+        passed = omega (arith, here l n h next k);
+        left =
+            rw (one-more, append-assoc)
+            (ap (λ m. take first (gapsIn l) ++ (pieces s e low high ++ m)) (sym (split l n h next k s e)) ∙ c .left);
         weighed =
-            let a = total-append (c .kept ++ left) right in
-            let b = total-append (c .kept) left in
-            let d = total-append left right in
-            w ∙ omega (arith, total-remaining x s e r, c .weighed, ap total first);
+            let t : total (pieces s e (min (touched .start) low) (touched .end)) ≡ total (pieces s e low high) + total (remaining touched s e) =
+            ap total one-more ∙ total-append (pieces s e low high) (remaining touched s e) in
+            q ∙ omega (arith, t, c .weighed, weights);
+        lowest = omega (arith, c .lowest);
+        ahead = λ t.
+            let u : next + 1 < n = omega (arith, h .counted) in
+            let v = apart l n h next u in
+            (omega (arith, v, lies .0, holds-byte l n h (next + 1) u), omega (arith, v, lies .0), λ w. omega (arith, v));
       }
 
--- The gaps after the range are kept
-module _ (l : List ℕ) (n : ℕ) (h : Holds l n) (s e : ℕ) (r : s < e) (i count missing : ℕ) (made : List ℕ) (c : Cut l s e i count missing made)
-    (behind : i < n → e ≤ getD l (2 * i + 2) 0) where
-  kept-rest : subtract (drop i (gapsIn l)) s e ≡ drop i (gapsIn l)
-  unfolding Ordered subtract
-  kept-rest = go (decLt i n)
-    where
-      go : Dec (i < n) → subtract (drop i (gapsIn l)) s e ≡ drop i (gapsIn l)
-      go (yes k) =
-          let o = in-order l n h i k in
-          let p : Ordered (getD l 0 0) e (gapAt l i ∷ drop (i + 1) (gapsIn l)) = (behind k, o .1, o .2, o .3) in
-          rw (first l n h i k) (subtract-after (getD l 0 0) (gapAt l i ∷ drop (i + 1) (gapsIn l)) s e e r (omega arith) p)
-      go (no k) = rw (drop-of-length-le (gapsIn l) {i = i} (omega (arith, length-gaps l n h))) refl
+    -- the gap at `next`, if there is one, begins at the end of the range or after it
+    module _ (behind : next < n → e ≤ getD l (2 * next + 2) 0) where
+      kept-rest : subtract (drop next (gapsIn l)) s e ≡ drop next (gapsIn l)
+      unfolding Ordered subtract
+      kept-rest = go (decLt next n)
+        where
+          go : Dec (next < n) → subtract (drop next (gapsIn l)) s e ≡ drop next (gapsIn l)
+          go (yes k) =
+              let o = in-order l n h next k in
+              let p : Ordered (getD l 0 0) e (gapAt l next ∷ drop (next + 1) (gapsIn l)) = (behind k, o .1, o .2, o .3) in
+              rw (next-in l n h next k) (subtract-after (getD l 0 0) (gapAt l next ∷ drop (next + 1) (gapsIn l)) s e e r (omega arith) p)
+          go (no k) = rw (drop-of-length-le (gapsIn l) {i = next} (omega (arith, length-gaps l n h))) refl
 
-  all-kept : c .kept ++ drop i (gapsIn l) ≡ subtract (gapsIn l) s e
-  all-kept = rw kept-rest at (c .joined)
+      all-left : take first (gapsIn l) ++ (pieces s e low high ++ drop next (gapsIn l)) ≡ subtract (gapsIn l) s e
+      all-left = rw kept-rest at (c .left)
 
-  sizes : length (c .kept) + (n - i) ≡ length (subtract (gapsIn l) s e)
-  sizes = omega (arith, simp (length-append, length-drop) at (ap length all-kept), length-gaps l n h)
-
-  pub rest-room : count + (n - i) ≤ 65
-  rest-room = rw (c .counted) (omega (arith, sizes, few-left l n s e h r))
-
-  pub subtracted : (made′ : List ℕ) → ((kept : List Gap) → made ≡ filled kept → count ≡ length kept → made′ ≡ filled (kept ++ slice i n (gapsIn l)))
-      → Subtracted l s e (count + (n - i)) missing made′
-  subtracted made′ f =
-      let t : slice i n (gapsIn l) ≡ drop i (gapsIn l) = rw (take-all n (gapsIn l) (omega (arith, length-gaps l n h))) refl in
-      record {
-        filled = f (c .kept) (c .filled) (c .counted) ∙ rw (t, all-kept) refl;
-        counted = rw (c .counted) sizes;
-        weighed = c .weighed ∙ sym (total-append (c .kept) (drop i (gapsIn l))) ∙ ap total all-kept;
+      pub touches : Touches l s e first next low high missing
+      touches = record {
+        begun = c .begun;
+        passed = c .passed;
+        left = all-left;
+        weighed =
+            omega (arith, c .weighed, ap total all-left, total-append (take first (gapsIn l)) (pieces s e low high ++ drop next (gapsIn l)), total-append (pieces s e low high) (drop next (gapsIn l)));
       }
-
--- The gaps before the range are kept
-pub cut-before : (l : List ℕ) (n : ℕ) → Holds l n → (s e i missing : ℕ) → s < e → EndBy l s i → missing ≡ total (gapsIn l)
-    → (empty made : List ℕ) → empty ≡ replicate 130 0
-    → ((kept : List Gap) → empty ≡ filled kept → 0 ≡ length kept → made ≡ filled (kept ++ slice 0 i (gapsIn l)))
-    → Cut l s e i i missing made
-unfolding filled pairNumbers
-cut-before l n h s e i missing r b m empty made z f = record {
-  passed = b .passed;
-  kept = take i (gapsIn l);
-  filled = f [] z refl;
-  counted = let u = b .passed in let v = h .counted in sym (length-take-le i (gapsIn l) (omega (arith, length-gaps l n h)));
-  joined = b .joined e r;
-  weighed = m ∙ sym (ap total (take-append-drop i (gapsIn l))) ∙ total-append (take i (gapsIn l)) (drop i (gapsIn l));
-}

@@ -1,20 +1,19 @@
--- Laws of a gap record as numbers: a walk over its gaps, and the array of the gaps that are made.
+-- Laws of a gap record as numbers: a walk over its gaps, and the numbers of the first gaps, of the last gaps and of a record made.
 use Prim.Native.Nat.{ℕ, zero, suc, _+_, _-_, _*_, _≤_, _<_}
 use native.Mathlib.Omega.{arith}
-use native.Mathlib.Decide.{decLt}
 use native.Mathlib.Numerals.{add-one}
-use mathlib.Core.Path.{_≡_, refl, ap, _∙_}
-use mathlib.Core.List.{List, [], _∷_, _++_, map, map-append, append-nil, append-assoc}
-use lib.ListN.{length, getD, take, drop, set, replicate, length-append, length-map, length-replicate}
-use lib.Seq.{append-snoc, getD-drop, take-suc, set-at, take-append-add, drop-set-lt, paste}
-use borrow.Author.Tests.{lt-ltb, le-ltb}
+use mathlib.Core.Path.{_≡_, refl, sym, ap, _∙_}
+use mathlib.Core.List.{List, [], _∷_, _++_, map, map-append}
+use lib.ListN.{length, getD, take, drop, replicate, length-append, length-map, length-drop, length-replicate}
+use lib.Seq.{getD-drop, take-suc, take-nil, drop-nil, take-take, take-add, drop-drop, drop-at, length-take-le}
 use Rattle.format.specs.Gaps.{Gap, gap, between}
 use Rattle.format.specs.Writing.{overwritten}
+use Rattle.output.proofs.Laws.{length-overwritten}
 use Rattle.gaps.specs.declared.Gap.{Gap as Place}
 use Rattle.gaps.specs.GapRecords.{place, placeOf, gapOf, recordOf}
 use Rattle.gaps.proofs.GapRecords.{At, placeAt, gaps-length, gap-at, next-gap}
 use Rattle.gap_numbers.specs.Numbers.{pairNumbers, numbersOf, pairsIn, held}
-use Rattle.gap_numbers.specs.NumberSteps.{gapsIn, filled, putGap, putPiece}
+use Rattle.gap_numbers.specs.NumberSteps.{gapsIn, gapNumbers, pieces, holding}
 
 -- The gaps of the numbers
 
@@ -53,7 +52,7 @@ module _ (l : List ℕ) (i : ℕ) (h : i < getD l 1 0) (k : getD l 1 0 ≤ 64) w
       let m : i < length (gapsIn l) = omega (arith, gaps-length (held l) i (at l i (omega arith) k)) in
       rw (add-one, take-suc (gapsIn l) i (gap 0 0) m, gap-at (held l) i h, place-in) refl
 
--- The array of the gaps made
+-- The numbers of the gaps
 
 pub length-numbers : (l : List Place) → length (pairNumbers l) ≡ 2 * length l
 unfolding pairNumbers
@@ -65,79 +64,83 @@ unfolding pairNumbers
 numbers-append [] m = refl
 numbers-append (x ∷ l) m = rw (numbers-append l m) refl
 
-length-kept : (kept : List Gap) → length (pairNumbers (map placeOf kept)) ≡ 2 * length kept
-length-kept kept = length-numbers (map placeOf kept) ∙ ap (λ n. 2 * n) (length-map kept placeOf)
+pub length-gap-numbers : (gaps : List Gap) → length (gapNumbers gaps) ≡ 2 * length gaps
+length-gap-numbers gaps = length-numbers (map placeOf gaps) ∙ ap (λ n. 2 * n) (length-map gaps placeOf)
 
-pub length-filled : (kept : List Gap) → length kept ≤ 65 → length (filled kept) ≡ 130
-unfolding filled
-length-filled kept h = simp (length-append, length-replicate, length-kept) (omega arith)
+pub gap-numbers-append : (gaps more : List Gap) → gapNumbers (gaps ++ more) ≡ gapNumbers gaps ++ gapNumbers more
+gap-numbers-append gaps more = rw map-append (numbers-append (map placeOf gaps) (map placeOf more))
 
--- a gap more
-pub put-filled : (kept : List Gap) (a b : ℕ) → length kept < 65 → putGap (filled kept) (length kept) a b ≡ filled (kept ++ gap a b ∷ [])
-unfolding filled pairNumbers
-put-filled kept a b h =
-    let p = pairNumbers (map placeOf kept) in
-    let free : List ℕ = replicate (130 - 2 * (length kept + 1)) 0 in
-    let k : 130 - 2 * length kept ≡ suc (suc (130 - 2 * (length kept + 1))) = omega arith in
-    let n : length (p ++ a ∷ []) ≡ 2 * length kept + 1 = simp (length-append, length-kept) in
-    rw (
-      k,
-      set-at p 0 (0 ∷ free) a (2 * length kept) (length-kept kept),
-      ← append-snoc p a (0 ∷ free),
-      set-at (p ++ a ∷ []) 0 free b (2 * length kept + 1) n,
-      map-append,
-      numbers-append,
-      length-append,
-      append-assoc,
-      append-assoc,
-    ) refl
+-- the first piece is put; there is room for the second
+pub second-room : (start end low high : ℕ) (old out : List ℕ) (wrote : ℕ) → 2 * length (pieces start end low high) ≤ length old
+    → wrote ≡ 2 * length (between low start) → out ≡ overwritten (gapNumbers (between low start)) old
+    → wrote + 2 * length (between end high) ≤ length out
+second-room start end low high old out wrote room w q =
+    let n = length-append (between low start) (between end high) in
+    let m = length-gap-numbers (between low start) in
+    let k : length out ≡ length old = ap length q ∙ length-overwritten (gapNumbers (between low start)) old (omega arith) in
+    omega arith
 
-pub put-between : (kept : List Gap) (a b : ℕ) → length (kept ++ between a b) ≤ 65
-    → putPiece (filled kept) (length kept) a b ≡ filled (kept ++ between a b)
-unfolding putPiece between
-put-between kept a b h = go (decLt a b) h
-  where
-    go : Dec (a < b) → length (kept ++ between a b) ≤ 65 → putPiece (filled kept) (length kept) a b ≡ filled (kept ++ between a b)
-    go (yes t) m =
-        let e = lt-ltb a b t in
-        let m′ : length (kept ++ gap a b ∷ []) ≤ 65 = rw e at m in
-        let r : length kept < 65 = omega (arith, simp length-append at m′) in
-        rw (e, put-filled kept a b r) refl
-    go (no f) m = rw (le-ltb a b (omega arith), append-nil) refl
-
--- 64 gaps at most, put back
-
-none-numbers : (k : ℕ) → pairNumbers (replicate k (place 0 0)) ≡ replicate (2 * k) 0
+no-numbers : (k : ℕ) → pairNumbers (replicate k (place 0 0)) ≡ replicate (2 * k) 0
 unfolding pairNumbers
-none-numbers zero = refl
-none-numbers (suc k) = let e : 2 * suc k ≡ suc (suc (2 * k)) = omega arith in rw (e, none-numbers k) refl
+no-numbers zero = refl
+no-numbers (suc k) = let e : 2 * suc k ≡ suc (suc (2 * k)) = omega arith in rw (e, no-numbers k) refl
 
-take-replicate : (m n : ℕ) → m ≤ n → _≡_ {A = List ℕ} (take m (replicate n 0)) (replicate m 0)
-take-replicate zero n h = refl
-take-replicate (suc m) zero h = absurd (omega arith)
-take-replicate (suc m) (suc n) h = ap (λ l. 0 ∷ l) (take-replicate m n (omega arith))
+numbers-take : (i : ℕ) (gaps : List Gap) → gapNumbers (take i gaps) ≡ take (2 * i) (gapNumbers gaps)
+unfolding pairNumbers
+numbers-take zero gaps = refl
+numbers-take (suc i) [] = sym (take-nil (2 * suc i))
+numbers-take (suc i) (x ∷ gaps) = let e : 2 * suc i ≡ suc (suc (2 * i)) = omega arith in rw (e, numbers-take i gaps) refl
 
-take-filled : (size : ℕ) (l : List Gap) → length l ≤ 64 → take 128 (filled l) ≡ pairNumbers (recordOf size l .gaps)
-unfolding filled
-take-filled size l h =
-    let p = pairNumbers (map placeOf l) in
-    let n : 128 ≡ length p + 2 * (64 - length l) = omega (arith, length-kept l) in
-    let free : List ℕ = replicate (130 - 2 * length l) 0 in
-    ap (λ k. take k (p ++ free)) n
-    ∙ take-append-add p free (2 * (64 - length l))
-    ∙ rw (take-replicate (2 * (64 - length l)) (130 - 2 * length l) (omega arith), numbers-append, none-numbers) refl
+numbers-drop : (i : ℕ) (gaps : List Gap) → gapNumbers (drop i gaps) ≡ drop (2 * i) (gapNumbers gaps)
+unfolding pairNumbers
+numbers-drop zero gaps = refl
+numbers-drop (suc i) [] = sym (drop-nil (2 * suc i))
+numbers-drop (suc i) (x ∷ gaps) = let e : 2 * suc i ≡ suc (suc (2 * i)) = omega arith in rw (e, numbers-drop i gaps) refl
 
-two-first : (old : List ℕ) (n : ℕ) → 2 ≤ length old → take 2 (set old 1 n) ≡ getD old 0 0 ∷ n ∷ []
-two-first [] n h = absurd (omega arith)
-two-first (x ∷ []) n h = absurd (omega arith)
-two-first (x ∷ y ∷ l) n h = refl
+places-back : (places : List Place) → map placeOf (map gapOf places) ≡ places
+places-back [] = refl
+places-back (x ∷ places) = ap (λ l. x ∷ l) (places-back places)
 
-pub put-back : (old : List ℕ) (l : List Gap) → 130 ≤ length old → length l ≤ 64
-    → paste (set old 1 (length l)) 2 (filled l) 128 ≡ overwritten (numbersOf (recordOf (getD old 0 0) l)) old
-put-back old l h k =
-    let places : List Place = recordOf (getD old 0 0) l .gaps in
-    let n : length (pairNumbers places) ≡ 128 =
-    length-numbers places ∙ simp (length-append, length-map, length-replicate) (omega arith) in
-    let all : 130 ≡ suc (suc (length (pairNumbers places))) = omega arith in
-    rw (two-first old (length l) (omega arith), take-filled (getD old 0 0) l k, drop-set-lt 130 old 1 (length l) (omega arith))
-    (ap (λ m. (getD old 0 0 ∷ length l ∷ pairNumbers places) ++ drop m old) all)
+pairs-numbers : (n k : ℕ) (l : List ℕ) → n ≤ k → 2 * k ≤ length l → pairNumbers (take n (pairsIn k l)) ≡ take (2 * n) l
+unfolding pairNumbers pairsIn
+pairs-numbers zero k l h m = refl
+pairs-numbers (suc n) zero l h m = absurd (omega arith)
+pairs-numbers (suc n) (suc k) [] h m = absurd (omega arith)
+pairs-numbers (suc n) (suc k) (x ∷ []) h m = absurd (omega arith)
+pairs-numbers (suc n) (suc k) (x ∷ y ∷ l) h m =
+    let e : 2 * suc n ≡ suc (suc (2 * n)) = omega arith in
+    rw (e, pairs-numbers n k l (omega arith) (omega arith)) refl
+
+module _ (l : List ℕ) (long : 130 ≤ length l) (few : getD l 1 0 ≤ 64) where
+  abbrev count : ℕ
+  count = getD l 1 0
+
+  all-numbers : gapNumbers (gapsIn l) ≡ take (2 * count) (drop 2 l)
+  all-numbers =
+      rw (places-back (take count (pairsIn 64 (drop 2 l))))
+      (pairs-numbers count 64 (drop 2 l) few (simp length-drop (omega arith)))
+
+  module _ (i : ℕ) (h : i ≤ count) where
+    pub first-numbers : gapNumbers (take i (gapsIn l)) ≡ take (2 * i) (drop 2 l)
+    first-numbers =
+        numbers-take i (gapsIn l) ∙ ap (take (2 * i)) all-numbers ∙ take-take (2 * i) (2 * count) (drop 2 l) (omega arith)
+
+    pub last-numbers : gapNumbers (drop i (gapsIn l)) ≡ take (2 * (count - i)) (drop (2 * i + 2) l)
+    last-numbers =
+        let k : 2 * count ≡ 2 * i + 2 * (count - i) = omega arith in
+        let m : 2 + 2 * i ≡ 2 * i + 2 = omega arith in
+        let short : length (take (2 * i) (drop 2 l)) ≡ 2 * i = length-take-le (2 * i) (drop 2 l) (simp length-drop (omega arith)) in
+        numbers-drop i (gapsIn l)
+        ∙ ap (drop (2 * i)) (all-numbers ∙ ap (λ j. take j (drop 2 l)) k ∙ take-add (2 * i) (2 * (count - i)) (drop 2 l))
+        ∙ drop-at (take (2 * i) (drop 2 l)) (take (2 * (count - i)) (drop (2 * i) (drop 2 l))) (2 * i) short
+        ∙ rw (drop-drop (2 * i) 2 l, m) refl
+
+-- A record that holds these gaps: 0 after the last of them
+pub holding-numbers : (gaps : List Gap) (l : List ℕ) → length gaps ≤ 64
+    → holding gaps l ≡ (getD l 0 0 ∷ length gaps ∷ (gapNumbers gaps ++ replicate (2 * (64 - length gaps)) 0)) ++ drop 130 l
+holding-numbers gaps l few =
+    let numbers = gapNumbers gaps ++ replicate (2 * (64 - length gaps)) 0 in
+    let long : suc (suc (length numbers)) ≡ 130 = simp (length-append, length-replicate, length-gap-numbers) (omega arith) in
+    let all : numbersOf (recordOf (getD l 0 0) gaps) ≡ getD l 0 0 ∷ length gaps ∷ numbers =
+    rw (numbers-append (map placeOf gaps) (replicate (64 - length gaps) (place 0 0)), no-numbers (64 - length gaps)) refl in
+    ap (λ r. overwritten r l) all ∙ ap (λ k. (getD l 0 0 ∷ length gaps ∷ numbers) ++ drop k l) long

@@ -1,15 +1,14 @@
 // A gap record that is lent as numbers: the size, how many gaps, 64 pairs of start and end. It is judged and marked without making the
 // record: the answers are those of the crate gaps for it. A record made there is put into numbers.
 ghost use mathlib.Core.Path.{_≡_};
-ghost use mathlib.Core.List.{List, [], _∷_, _++_};
+ghost use mathlib.Core.List.{[], _∷_};
 ghost use Prim.Native.Nat.{_+_, _-_, _*_, _≤_, _<_, min, max};
-ghost use lib.ListN.{length, getD, set, replicate};
-ghost use lib.Seq.{paste, slice};
-ghost use Rattle.format.specs.Gaps.{Gap, gap, follows, between, total, sizeLimit};
+ghost use lib.ListN.{length, getD};
+ghost use Rattle.format.specs.Gaps.{gap, follows, between, total, subtract, sizeLimit};
 ghost use Rattle.format.specs.Writing.{overwritten};
-ghost use Rattle.gaps.specs.Marking.{marked};
+ghost use Rattle.gaps.specs.Marking.{Markable, marked};
 ghost use Rattle.gap_numbers.specs.Numbers.{pairNumbers, numbersOf, held, recordIn, Judges, MarksNumbers};
-ghost use Rattle.gap_numbers.specs.NumberSteps.{gapsIn, Holds, filled, putGap, putPiece, EndBy, Cut, Subtracted, refusedWith};
+ghost use Rattle.gap_numbers.specs.NumberSteps.{gapsIn, gapNumbers, Holds, EndBy, pieces, Touches, moved, cleared, holding, refusedWith};
 use gaps::GAP_LIMIT;
 use gaps::GapRecord;
 use gaps::MarkAnswer;
@@ -20,19 +19,19 @@ use output::RANGE;
 // The length of a gap record as numbers.
 pub const GAP_NUMBERS: usize = 130;
 
-// The numbers of all its pairs.
-const PAIR_NUMBERS: usize = 128;
-
 // Whether a record is lawful, and how many bytes it misses: 0 for one that is not lawful.
 pub struct Judged {
     pub lawful: bool,
     pub missing: u64,
 }
 
-// The gaps before `next` have been cut: `count` gaps were made, and with those from `next` on they miss `missing` bytes.
-struct Cutting {
+// The gaps that a range touches: those from `first` up to `next`. They begin at `low` and end at `high` (or the range does, where there
+// are none), and without its bytes `missing` bytes are missing in all.
+struct Touched {
+    first: usize,
     next: usize,
-    count: usize,
+    low: u64,
+    high: u64,
     missing: u64,
 }
 
@@ -105,7 +104,7 @@ pub fn judge_numbers(numbers: &[u64]) -> Judged
 // How many of the first gaps end by `start`.
 fn count_before(numbers: &[u64], gaps: usize, start: u64) -> usize
     requires { ⌜ Holds (now numbers) gaps ⌝ }
-    ensures { λ r. ⌜ EndBy (now (numbers .entry)) start r ⌝ }
+    ensures { λ r. ⌜ EndBy (now (numbers .entry)) start r × (r < gaps → start < getD (now (numbers .entry)) (2 * r + 3) 0) ⌝ }
 {
     let mut i = 0;
     while i < gaps {
@@ -115,44 +114,6 @@ fn count_before(numbers: &[u64], gaps: usize, start: u64) -> usize
         i += 1;
     }
     i
-}
-
-// Puts a gap after `count` gaps.
-fn put_gap(made: &mut [u64], count: usize, a: u64, b: u64)
-    requires { ⌜ 2 * count + 2 ≤ length (now made) ⌝ }
-    ensures { λ _. ⌜ now (made .exit) ≡ putGap (now (made .entry)) count a b ⌝ }
-{
-    let at = 2 * count;
-    made[at] = a;
-    made[at + 1] = b;
-}
-
-// The same, if it holds a byte. The answer is how many gaps there are then.
-fn put_piece(made: &mut [u64], count: usize, a: u64, b: u64) -> usize
-    requires { ⌜ 2 * (count + length (between a b)) ≤ length (now made) ⌝ }
-    ensures { λ r. ⌜ (r ≡ count + length (between a b)) × (now (made .exit) ≡ putPiece (now (made .entry)) count a b) ⌝ }
-{
-    if b <= a {
-        return count;
-    }
-    put_gap(made, count, a, b);
-    count + 1
-}
-
-// Puts the gaps from `from` up to `to` after `count` gaps.
-fn keep(numbers: &[u64], from: usize, to: usize, count: usize, made: &mut [u64])
-    requires { ⌜ (from ≤ to) × (to ≤ getD (now numbers) 1 0) × (getD (now numbers) 1 0 ≤ 64) × (130 ≤ length (now numbers))
-        × (length (now made) ≡ 130) × (count + (to - from) ≤ 65) ⌝ }
-    ensures { λ _. ⌜ ((kept : List Gap) → now (made .entry) ≡ filled kept → count ≡ length kept →
-        now (made .exit) ≡ filled (kept ++ slice from to (gapsIn (now (numbers .entry))))) ⌝ }
-{
-    let mut i = from;
-    let mut at = count;
-    while i < to {
-        put_gap(made, at, numbers[2 * i + 2], numbers[2 * i + 3]);
-        at += 1;
-        i += 1;
-    }
 }
 
 fn smaller(a: u64, b: u64) -> u64
@@ -167,94 +128,178 @@ fn larger(a: u64, b: u64) -> u64
     if a < b { b } else { a }
 }
 
-// How many bytes there are from a up to b.
-fn span(a: u64, b: u64) -> u64
-    ensures { λ r. ⌜ r ≡ b - a ⌝ }
+// The gaps from the first that ends after `start` up to the first that begins at `end` or after it.
+fn touch(numbers: &[u64], gaps: usize, missing: u64, start: u64, end: u64) -> Touched
+    requires { ⌜ Holds (now numbers) gaps × (start < end) × (missing ≡ total (gapsIn (now numbers))) ⌝ }
+    ensures { λ r. ⌜ Touches (now (numbers .entry)) start end (r .first) (r .next) (r .low) (r .high) (r .missing) ⌝ }
 {
-    if a < b { b - a } else { 0 }
-}
-
-// Takes the range out of the gaps from `from` on, up to the first that begins at its end or after it.
-fn cut(
-    numbers: &[u64],
-    gaps: usize,
-    from: usize,
-    missing: u64,
-    start: u64,
-    end: u64,
-    made: &mut [u64],
-) -> Cutting
-    requires { ⌜ Holds (now numbers) gaps × (start < end) × Cut (now numbers) start end from from missing (now made) ⌝ }
-    ensures { λ r. ⌜ Cut (now (numbers .entry)) start end (r .next) (r .count) (r .missing) (now (made .exit))
-        × (r .next < gaps → end ≤ getD (now (numbers .entry)) (2 * r .next + 2) 0) ⌝ }
-{
-    let mut i = from;
-    let mut count = from;
+    let first = count_before(numbers, gaps, start);
+    let mut next = first;
+    let mut low = start;
+    let mut high = end;
     let mut left = missing;
-    while i < gaps {
-        let first = numbers[2 * i + 2];
-        let last = numbers[2 * i + 3];
-        if end <= first {
-            return Cutting {
-                next: i,
-                count,
+    while next < gaps {
+        let begins = numbers[2 * next + 2];
+        let ends = numbers[2 * next + 3];
+        if end <= begins {
+            return Touched {
+                first,
+                next,
+                low,
+                high,
                 missing: left,
             };
         }
-        count = put_piece(made, count, first, smaller(last, start));
-        count = put_piece(made, count, larger(first, end), last);
-        left -= span(larger(first, start), smaller(last, end));
-        i += 1;
+        low = smaller(begins, low);
+        high = ends;
+        left -= smaller(ends, end) - larger(begins, start);
+        next += 1;
     }
-    Cutting {
-        next: i,
-        count,
+    Touched {
+        first,
+        next,
+        low,
+        high,
         missing: left,
     }
 }
 
-// Takes the range out of all gaps.
-fn subtract(
-    numbers: &[u64],
-    gaps: usize,
-    missing: u64,
-    start: u64,
-    end: u64,
-    made: &mut [u64],
-) -> Cutting
-    requires { ⌜ Holds (now numbers) gaps × (start < end) × (missing ≡ total (gapsIn (now numbers))) × (now made ≡ replicate 130 0) ⌝ }
-    ensures { λ r. ⌜ Subtracted (now (numbers .entry)) start end (r .count) (r .missing) (now (made .exit)) ⌝ }
+// How many gaps there are from `from` up to `to`: one, if that has a byte.
+fn count_between(from: u64, to: u64) -> usize
+    ensures { λ r. ⌜ r ≡ length (between from to) ⌝ }
 {
-    let before = count_before(numbers, gaps, start);
-    keep(numbers, 0, before, 0, made);
-    let cutting = cut(numbers, gaps, before, missing, start, end, made);
-    let next = cutting.next;
-    let count = cutting.count;
-    keep(numbers, next, gaps, count, made);
-    Cutting {
-        next: gaps,
-        count: count + (gaps - next),
-        missing: cutting.missing,
+    if from < to { 1 } else { 0 }
+}
+
+// How many gaps are left.
+fn count_left(gaps: usize, touched: Touched, start: u64, end: u64) -> usize
+    requires { ⌜ (touched .first ≤ gaps) × (touched .next ≤ gaps) × (gaps ≤ 64) ⌝ }
+    ensures { λ r. ⌜ r ≡ touched .first + length (pieces start end (touched .low) (touched .high)) + (gaps - touched .next) ⌝ }
+{
+    let before = count_between(touched.low, start);
+    let after = count_between(end, touched.high);
+    touched.first + (before + after) + (gaps - touched.next)
+}
+
+// Moves numbers to a place that is not after theirs.
+fn move_down(numbers: &mut [u64], from: usize, to: usize, count: usize)
+    requires { ⌜ (to ≤ from) × (from + count ≤ length (now numbers)) ⌝ }
+    ensures { λ _. ⌜ now (numbers .exit) ≡ moved (now (numbers .entry)) from to count ⌝ }
+{
+    let mut i = 0;
+    while i < count {
+        numbers[to + i] = numbers[from + i];
+        i += 1;
     }
 }
 
-// The new gaps, all 64 slots, and their count.
-fn put_back(numbers: &mut [u64], count: usize, made: &[u64])
-    requires { ⌜ (130 ≤ length (now numbers)) × (128 ≤ length (now made)) ⌝ }
-    ensures { λ _. ⌜ now (numbers .exit) ≡ paste (set (now (numbers .entry)) 1 count) 2 (now (made .entry)) 128 ⌝ }
+// Moves numbers to a place that is not before theirs.
+fn move_up(numbers: &mut [u64], from: usize, to: usize, count: usize)
+    requires { ⌜ (from ≤ to) × (to + count ≤ length (now numbers)) ⌝ }
+    ensures { λ _. ⌜ now (numbers .exit) ≡ moved (now (numbers .entry)) from to count ⌝ }
 {
-    numbers[1] = count as u64;
-    let mut i = 0;
-    while i < PAIR_NUMBERS {
-        numbers[2 + i] = made[i];
-        i += 1;
+    let mut left = count;
+    while 0 < left {
+        left -= 1;
+        numbers[to + left] = numbers[from + left];
     }
+}
+
+fn move_numbers(numbers: &mut [u64], from: usize, to: usize, count: usize)
+    requires { ⌜ (from + count ≤ length (now numbers)) × (to + count ≤ length (now numbers)) ⌝ }
+    ensures { λ _. ⌜ now (numbers .exit) ≡ moved (now (numbers .entry)) from to count ⌝ }
+{
+    if to < from {
+        move_down(numbers, from, to, count);
+        return;
+    }
+    if from < to {
+        move_up(numbers, from, to, count);
+    }
+}
+
+fn put_pair(out: &mut [u64], first: u64, second: u64)
+    requires { ⌜ 2 ≤ length (now out) ⌝ }
+    ensures { λ _. ⌜ now (out .exit) ≡ overwritten (first ∷ second ∷ []) (now (out .entry)) ⌝ }
+{
+    out[0] = first;
+    out[1] = second;
+}
+
+// Puts the gap from `from` up to `to`, if that has a byte. The answer is how many numbers were put.
+fn put_piece(out: &mut [u64], from: u64, to: u64) -> usize
+    requires { ⌜ 2 * length (between from to) ≤ length (now out) ⌝ }
+    ensures { λ r. ⌜ (r ≡ 2 * length (between from to))
+        × (now (out .exit) ≡ overwritten (gapNumbers (between from to)) (now (out .entry))) ⌝ }
+{
+    if to <= from {
+        return 0;
+    }
+    put_pair(out, from, to);
+    2
+}
+
+// What the range leaves of the gaps that it touches.
+fn put_pieces(out: &mut [u64], low: u64, start: u64, end: u64, high: u64)
+    requires { ⌜ 2 * length (pieces start end low high) ≤ length (now out) ⌝ }
+    ensures { λ _. ⌜ now (out .exit) ≡ overwritten (gapNumbers (pieces start end low high)) (now (out .entry)) ⌝ }
+{
+    let wrote = put_piece(out, low, start);
+    put_piece(&mut out[wrote..], end, high);
+}
+
+// The numbers of the record from `from` on become 0.
+fn clear(numbers: &mut [u64], from: usize)
+    requires { ⌜ (from ≤ 130) × (130 ≤ length (now numbers)) ⌝ }
+    ensures { λ _. ⌜ now (numbers .exit) ≡ cleared (now (numbers .entry)) from ⌝ }
+{
+    let mut at = from;
+    while at < GAP_NUMBERS {
+        numbers[at] = 0;
+        at += 1;
+    }
+}
+
+// Puts what is left of the gaps in their place: the gaps after the range move, and the slots after the last gap hold 0.
+fn replace(numbers: &mut [u64], gaps: usize, touched: Touched, start: u64, end: u64, count: usize)
+    requires { ⌜ Holds (now numbers) gaps × (count ≡ length (subtract (gapsIn (now numbers)) start end)) × (count ≤ 64)
+        × Touches (now numbers) start end (touched .first) (touched .next) (touched .low) (touched .high) (touched .missing) ⌝ }
+    ensures { λ _. ⌜ now (numbers .exit) ≡ holding (subtract (gapsIn (now (numbers .entry))) start end) (now (numbers .entry)) ⌝ }
+{
+    let first = touched.first;
+    let next = touched.next;
+    let behind = 2 * (gaps - next);
+    let last = 2 * count + 2;
+    move_numbers(numbers, 2 * next + 2, last - behind, behind);
+    let at = 2 * first + 2;
+    put_pieces(&mut numbers[at..], touched.low, start, end, touched.high);
+    clear(numbers, last);
+    numbers[1] = count as u64;
 }
 
 fn refused(number: u8) -> MarkAnswer
     ensures { λ r. ⌜ r ≡ refusedWith number ⌝ }
 {
     MarkAnswer { number, missing: 0 }
+}
+
+// The bytes from `start` up to `end` of a lawful record, which misses `missing` bytes, have arrived.
+fn take_out(numbers: &mut [u64], missing: u64, start: u64, end: u64) -> MarkAnswer
+    requires { ⌜ (130 ≤ length (now numbers)) × Markable sizeLimit (held (now numbers)) start end
+        × (missing ≡ total (gapsIn (now numbers))) ⌝ }
+    ensures { λ r. ⌜ MarksNumbers (marked sizeLimit (held (now (numbers .entry))) start end) r (now (numbers .entry)) (now (numbers .exit)) ⌝ }
+{
+    let gaps = numbers[1] as usize;
+    let touched = touch(numbers, gaps, missing, start, end);
+    let count = count_left(gaps, touched, start, end);
+    if GAP_LIMIT < count {
+        return refused(LIMIT);
+    }
+    replace(numbers, gaps, touched, start, end, count);
+    MarkAnswer {
+        number: 0,
+        missing: touched.missing,
+    }
 }
 
 // The bytes from `start` up to `end` have arrived. Of the numbers the first 130 are the record; fewer are refused with 8.
@@ -274,29 +319,10 @@ pub fn mark_numbers(numbers: &mut [u64], start: u64, end: u64) -> MarkAnswer
     if numbers[0] < end {
         return refused(RANGE);
     }
-    let gaps = numbers[1] as usize;
-    let mut made = [0u64; GAP_NUMBERS];
-    let cutting = subtract(numbers, gaps, judged.missing, start, end, &mut made);
-    let count = cutting.count;
-    if GAP_LIMIT < count {
-        return refused(LIMIT);
-    }
-    put_back(numbers, count, &made);
-    MarkAnswer {
-        number: 0,
-        missing: cutting.missing,
-    }
+    take_out(numbers, judged.missing, start, end)
 }
 
 // A record into numbers.
-
-fn put_pair(out: &mut [u64], first: u64, second: u64)
-    requires { ⌜ 2 ≤ length (now out) ⌝ }
-    ensures { λ _. ⌜ now (out .exit) ≡ overwritten (first ∷ second ∷ []) (now (out .entry)) ⌝ }
-{
-    out[0] = first;
-    out[1] = second;
-}
 
 // The numbers of the gaps, all 64.
 fn put_pairs(out: &mut [u64], g: GapRecord)

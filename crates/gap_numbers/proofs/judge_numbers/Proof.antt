@@ -1,4 +1,4 @@
-use mathlib.Core.Path.{sym, ap, _∙_}
+use mathlib.Core.Path.{ap, _∙_}
 use Rattle.format.specs.Gaps.{sizeLimit}
 use Rattle.gaps.specs.GapRecords.{lawfulRecord}
 use Rattle.gap_numbers.proofs.Loops.{unlawful-judged}

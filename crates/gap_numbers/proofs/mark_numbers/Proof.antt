@@ -1,11 +1,12 @@
 use mathlib.Core.Path.{refl, sym, _∙_}
 use denote.Ref.{now}
-use borrow.Author.Needs.{needs}
 use borrow.Author.Tests.{not-true, not-false}
+use borrow.Author.Needs.{needs}
 use Rattle.format.specs.Gaps.{sizeLimit}
 use Rattle.gaps.proofs.GapRecords.{total-missing}
 use Rattle.gap_numbers.specs.Numbers.{held}
-use Rattle.gap_numbers.proofs.Marks.{short, unlawful, no-range, holds, outside, too-many, accepts}
+use Rattle.gap_numbers.proofs.Records.{in-numbers}
+use Rattle.gap_numbers.proofs.Marks.{short, unlawful, no-range, outside, may}
 use Rattle.gap_numbers.proofs.mark_numbers.Statement.{statement}
 use Rattle.gap_numbers.proofs.mark_numbers.Tie as tie
 
@@ -63,48 +64,21 @@ returns-4 c =
     let lawful = sym (c .before .before .before .before .before .before .judge .ensures .told) ∙ not-false _ (c .before .before .before .before .if2 .left) in
     rw (outside l (a .start) (a .end) (c .before .before .before .before .before .before .before .before .if1 .left) lawful (c .before .before .before .if3 .left) (c .before .if4 .taken)) (record { told = c .refused4 .ensures; numbers = refl })
 
-slice-read-gaps : tie.Need-slice-read-gaps
-slice-read-gaps c = search needs
-
-slice-aggregate-subtract : tie.Need-slice-aggregate-subtract
-slice-aggregate-subtract c = search needs
-
-subtract-requires : tie.Need-subtract-requires
-subtract-requires c κs =
-    let a = c .before .before .before .before .before .before .before .before .before .before .before .before .args in
+take-out-requires : tie.Need-take-out-requires
+take-out-requires c κs =
+    let a = c .before .before .before .before .before .before .before .before .before .before .args in
     let l = now (a .numbers) in
-    let lawful = sym (c .before .before .before .before .before .before .before .before .judge .ensures .told) ∙ not-false _ (c .before .before .before .before .before .before .if2 .left) in
-    (holds l (a .start) (a .end) (c .before .before .before .before .before .before .before .before .before .before .if1 .left) lawful, c .before .before .before .before .before .if3 .left, c .before .before .before .before .before .before .before .before .judge .ensures .counted ∙ sym (total-missing sizeLimit (held l) lawful), refl)
-
-refused-requires-5 : tie.Need-refused-requires-5
-refused-requires-5 c κs = search needs
+    let long = c .before .before .before .before .before .before .before .before .if1 .left in
+    let judged = c .before .before .before .before .before .before .judge .ensures in
+    let lawful = sym (judged .told) ∙ not-false _ (c .before .before .before .before .if2 .left) in
+    (long, may l (a .start) (a .end) long lawful (c .before .before .before .if3 .left) (c .before .if4 .left), judged .counted ∙ sym (total-missing sizeLimit (held l) lawful))
 
 same-length-4 : tie.Need-same-length-4
 same-length-4 c = search needs
 
 returns-5 : tie.Need-returns-5
 returns-5 c =
-    let a = c .before .before .before .before .before .before .before .before .before .before .before .before .before .before .before .before .args in
-    let l = now (a .numbers) in
-    let lawful = sym (c .before .before .before .before .before .before .before .before .before .before .before .before .judge .ensures .told) ∙ not-false _ (c .before .before .before .before .before .before .before .before .before .before .if2 .left) in
-    rw (too-many l (a .start) (a .end) (c .before .before .before .before .before .before .before .before .before .before .before .before .before .before .if1 .left) lawful (c .before .before .before .before .before .before .before .before .before .if3 .left) (c .before .before .before .before .before .before .before .if4 .left) _ _ _ (c .before .before .before .subtract .ensures) (c .before .if5 .taken)) (record { told = c .refused5 .ensures; numbers = refl })
-
-slice-aggregate-put-back : tie.Need-slice-aggregate-put-back
-slice-aggregate-put-back c = search needs
-
-put-back-requires : tie.Need-put-back-requires
-put-back-requires c κs = search needs
-
-same-length-5 : tie.Need-same-length-5
-same-length-5 c = search needs
-
-returns-6 : tie.Need-returns-6
-returns-6 c =
-    let a = c .before .before .before .before .before .before .before .before .before .before .before .before .before .before .before .before .before .before .before .before .args in
-    let l = now (a .numbers) in
-    let lawful = sym (c .before .before .before .before .before .before .before .before .before .before .before .before .before .before .before .before .judge .ensures .told) ∙ not-false _ (c .before .before .before .before .before .before .before .before .before .before .before .before .before .before .if2 .left) in
-    accepts l (a .start) (a .end) (c .before .before .before .before .before .before .before .before .before .before .before .before .before .before .before .before .before .before .if1 .left) lawful (c .before .before .before .before .before .before .before .before .before .before .before .before .before .if3 .left) (c .before .before .before .before .before .before .before .before .before .before .before .if4 .left) _ _ _ (c .before .before .before .before .before .before .before .subtract .ensures) (c .before .before .before .before .before .if5 .left) _
-    (c .before .before .put-back .ensures)
+    rw (in-numbers (now (c .before .before .before .before .before .before .before .before .before .before .before .before .before .args .numbers)) (c .before .before .before .before .before .before .before .before .before .before .before .if1 .left)) (c .before .before .take-out .ensures)
 
 pub mark-numbers-spec : {M : Type 1} → statement M
 mark-numbers-spec =
@@ -123,13 +97,6 @@ mark-numbers-spec =
     refused-requires-4
     same-length-3
     returns-4
-    slice-read-gaps
-    slice-aggregate-subtract
-    subtract-requires
-    refused-requires-5
+    take-out-requires
     same-length-4
-    returns-5
-    slice-aggregate-put-back
-    put-back-requires
-    same-length-5
-    returns-6)
+    returns-5)

@@ -1,0 +1,101 @@
+use native.Mathlib.Omega.{arith}
+use lib.ListN.{length-set, length-take, length-drop}
+use denote.Ref.{now}
+use borrow.Author.Needs.{needs}
+use Rattle.gap_numbers.proofs.Marks.{ends, room, replaced}
+use Rattle.gap_numbers.proofs.replace.Statement.{statement}
+use Rattle.gap_numbers.proofs.replace.Tie as tie
+
+sub-behind : tie.Need-sub-behind
+sub-behind c = search needs
+
+mul-behind : tie.Need-mul-behind
+mul-behind c = search needs
+
+mul-last : tie.Need-mul-last
+mul-last c = search needs
+
+add-last : tie.Need-add-last
+add-last c = search needs
+
+mul-move-numbers : tie.Need-mul-move-numbers
+mul-move-numbers c = search needs
+
+add-move-numbers : tie.Need-add-move-numbers
+add-move-numbers c = search needs
+
+sub-move-numbers : tie.Need-sub-move-numbers
+sub-move-numbers c =
+    let a = c .before .before .args in
+    let h = c .before .before .pre in
+    let t = a .touched in
+    omega (arith, ends (now (a .numbers)) (a .gaps) (h .0) (a .start) (a .end) (t .first) (t .next) (t .low) (t .high) (t .missing) (h .3) (rw (h .1) at (h .2)) (a .count) (h .1))
+
+move-numbers-requires : tie.Need-move-numbers-requires
+move-numbers-requires c κs = search needs
+
+mul-at : tie.Need-mul-at
+mul-at c = search needs
+
+add-at : tie.Need-add-at
+add-at c = search needs
+
+mul-put-pieces : tie.Need-mul-put-pieces
+mul-put-pieces c = search needs
+
+sub-put-pieces : tie.Need-sub-put-pieces
+sub-put-pieces c = search needs
+
+part-put-pieces-start : tie.Need-part-put-pieces-start
+part-put-pieces-start c = search needs
+
+part-put-pieces-end : tie.Need-part-put-pieces-end
+part-put-pieces-end c = search needs
+
+put-pieces-requires : tie.Need-put-pieces-requires
+put-pieces-requires c κs =
+    let a = c .before .before .before .before .before .before .args in
+    let h = c .before .before .before .before .before .before .pre in
+    let t = a .touched in
+    let r = room (now (a .numbers)) (a .gaps) (h .0) (a .start) (a .end) (t .first) (t .next) (t .low) (t .high) (t .missing) (h .3) (rw (h .1) at (h .2)) (a .count) (h .1) in
+    simp (length-take, length-drop) (omega (arith, r, h .0 .long))
+
+clear-requires : tie.Need-clear-requires
+clear-requires c κs = search needs
+
+slice-write-numbers : tie.Need-slice-write-numbers
+slice-write-numbers c = search needs
+
+same-length : tie.Need-same-length
+same-length c = simp length-set (search needs)
+
+returns : tie.Need-returns
+returns c =
+    let a = c .before .before .before .before .before .before .before .before .before .before .before .before .before .args in
+    let h = c .before .before .before .before .before .before .before .before .before .before .before .before .before .pre in
+    let t = a .touched in
+    replaced (now (a .numbers)) (a .gaps) (h .0) (a .start) (a .end) (t .first) (t .next) (t .low) (t .high) (t .missing) (h .3) (rw (h .1) at (h .2)) (a .count) (h .1) _ _ _ (c .before .before .before .before .before .before .before .before .before .before .move-numbers .ensures) (c .before .before .before .before .before .before .put-pieces .ensures) (c .before .before .clear .ensures)
+
+pub replace-spec : {M : Type 1} → statement M
+replace-spec =
+    tie.close
+    (tie.spec
+    sub-behind
+    mul-behind
+    mul-last
+    add-last
+    mul-move-numbers
+    add-move-numbers
+    sub-move-numbers
+    move-numbers-requires
+    mul-at
+    add-at
+    mul-put-pieces
+    sub-put-pieces
+    part-put-pieces-start
+    part-put-pieces-end
+    put-pieces-requires
+    clear-requires
+    slice-write-numbers
+    same-length
+    returns)
