@@ -3,4 +3,5 @@ pub mod Numbers
 pub mod Moves
 pub mod Records
 pub mod Loops
+pub mod Replaced
 pub mod Marks

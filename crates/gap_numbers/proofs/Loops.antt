@@ -87,12 +87,12 @@ pub record Touching (l : List ℕ) (s e first next low high missing : ℕ) : Typ
   pub lowest : low ≤ s
   pub ahead : next < getD l 1 0 → (s < gapAt l next .end) × (s ≤ max low (gapAt l next .start)) × (gapAt l next .start < e → high ≤ e)
 
-module _ (l : List ℕ) (n : ℕ) (h : Holds l n) (s e : ℕ) (r : s < e) where
+module _ {l : List ℕ} {n : ℕ} (h : Holds l n) {s e : ℕ} (r : s < e) where
   -- no gap is touched so far
-  pub touching-none : (i missing : ℕ) → EndBy l s i → (i < n → s < getD l (2 * i + 3) 0) → missing ≡ total (gapsIn l)
+  pub touching-none : {i missing : ℕ} → EndBy l s i → (i < n → s < getD l (2 * i + 3) 0) → missing ≡ total (gapsIn l)
       → Touching l s e i i s e missing
   unfolding total
-  touching-none i missing b after m = record {
+  touching-none {i} b after m = record {
     begun = omega arith;
     passed = b .passed;
     left = rw (no-pieces s e) (b .joined e r);
@@ -103,7 +103,7 @@ module _ (l : List ℕ) (n : ℕ) (h : Holds l n) (s e : ℕ) (r : s < e) where
     ahead = λ t. (after (omega (arith, h .counted)), omega arith, λ u. omega arith);
   }
 
-  module _ (first next low high missing : ℕ) (c : Touching l s e first next low high missing) where
+  module _ {first next low high missing : ℕ} (c : Touching l s e first next low high missing) where
     -- the gap at `next` is touched too
     module _ (k : next < n) (begins : gapAt l next .start < e) where
       abbrev touched : Gap
@@ -126,9 +126,9 @@ module _ (l : List ℕ) (n : ℕ) (h : Holds l n) (s e : ℕ) (r : s < e) where
       pub part-missing : min (touched .end) e - max (touched .start) s ≤ missing
       part-missing = omega (arith, c .weighed, weights)
 
-      pub touching-next : (missing′ : ℕ) → missing′ ≡ missing - (min (touched .end) e - max (touched .start) s)
+      pub touching-next : {missing′ : ℕ} → missing′ ≡ missing - (min (touched .end) e - max (touched .start) s)
           → Touching l s e first (next + 1) (min (touched .start) low) (touched .end) missing′
-      touching-next missing′ q = record {
+      touching-next q = record {
         begun = omega (arith, c .begun);
         passed = omega (arith, here l n h next k);
         left =
@@ -161,7 +161,7 @@ module _ (l : List ℕ) (n : ℕ) (h : Holds l n) (s e : ℕ) (r : s < e) where
       all-left : take first (gapsIn l) ++ (pieces s e low high ++ drop next (gapsIn l)) ≡ subtract (gapsIn l) s e
       all-left = rw kept-rest at (c .left)
 
-      pub touches : Touches l s e first next low high missing
+      pub touches : Touches l s e (record { first = first; next = next; low = low; high = high; missing = missing })
       touches = record {
         begun = c .begun;
         passed = c .passed;

@@ -8,6 +8,7 @@ use Rattle.format.specs.Gaps.{Gap, Ordered, total, between, subtract}
 use Rattle.format.specs.Writing.{overwritten}
 use Rattle.gaps.specs.declared.MarkAnswer.{MarkAnswer}
 use Rattle.gaps.specs.GapRecords.{placeOf, gapsOf, recordOf}
+use Rattle.gap_numbers.specs.declared.Touched.{Touched}
 use Rattle.gap_numbers.specs.Numbers.{pairNumbers, numbersOf, held}
 
 abbrev pub gapsIn : List ℕ → List Gap
@@ -33,11 +34,18 @@ abbrev pub pieces : (start end low high : ℕ) → List Gap
 pieces start end low high = between low start ++ between end high
 
 -- The range touches the gaps from `first` up to `next`, and `missing` bytes are missing without it.
-pub record Touches (l : List ℕ) (start end first next low high missing : ℕ) : Type 0 where
-  pub begun : first ≤ next
-  pub passed : next ≤ getD l 1 0
-  pub left : take first (gapsIn l) ++ (pieces start end low high ++ drop next (gapsIn l)) ≡ subtract (gapsIn l) start end
-  pub weighed : missing ≡ total (subtract (gapsIn l) start end)
+pub record Touches (l : List ℕ) (start end : ℕ) (t : Touched) : Type 0 where
+  pub begun : t .first ≤ t .next
+  pub passed : t .next ≤ getD l 1 0
+  pub left : take (t .first) (gapsIn l) ++ (pieces start end (t .low) (t .high) ++ drop (t .next) (gapsIn l)) ≡ subtract (gapsIn l) start end
+  pub weighed : t .missing ≡ total (subtract (gapsIn l) start end)
+
+-- What the range leaves of n gaps has a place in the record.
+pub record Replaceable (l : List ℕ) (n start end : ℕ) (t : Touched) (count : ℕ) : Type 0 where
+  pub holds : Holds l n
+  pub touches : Touches l start end t
+  pub counted : count ≡ length (subtract (gapsIn l) start end)
+  pub few : count ≤ 64
 
 -- `count` numbers are copied from one place to another.
 abbrev pub moved : List ℕ → (from to count : ℕ) → List ℕ

@@ -8,7 +8,7 @@ ghost use Rattle.format.specs.Gaps.{gap, follows, between, total, subtract, siz
 ghost use Rattle.format.specs.Writing.{overwritten};
 ghost use Rattle.gaps.specs.Marking.{Markable, marked};
 ghost use Rattle.gap_numbers.specs.Numbers.{pairNumbers, numbersOf, held, recordIn, Judges, MarksNumbers};
-ghost use Rattle.gap_numbers.specs.NumberSteps.{gapsIn, gapNumbers, Holds, EndBy, pieces, Touches, moved, cleared, holding, refusedWith};
+ghost use Rattle.gap_numbers.specs.NumberSteps.{gapsIn, gapNumbers, Holds, EndBy, pieces, Touches, Replaceable, moved, cleared, holding, refusedWith};
 use gaps::GAP_LIMIT;
 use gaps::GapRecord;
 use gaps::MarkAnswer;
@@ -116,22 +116,22 @@ fn count_before(numbers: &[u64], gaps: usize, start: u64) -> usize
     i
 }
 
-fn smaller(a: u64, b: u64) -> u64
-    ensures { λ r. ⌜ r ≡ min a b ⌝ }
+fn smaller(one: u64, other: u64) -> u64
+    ensures { λ r. ⌜ r ≡ min one other ⌝ }
 {
-    if a < b { a } else { b }
+    if one < other { one } else { other }
 }
 
-fn larger(a: u64, b: u64) -> u64
-    ensures { λ r. ⌜ r ≡ max a b ⌝ }
+fn larger(one: u64, other: u64) -> u64
+    ensures { λ r. ⌜ r ≡ max one other ⌝ }
 {
-    if a < b { b } else { a }
+    if one < other { other } else { one }
 }
 
 // The gaps from the first that ends after `start` up to the first that begins at `end` or after it.
 fn touch(numbers: &[u64], gaps: usize, missing: u64, start: u64, end: u64) -> Touched
     requires { ⌜ Holds (now numbers) gaps × (start < end) × (missing ≡ total (gapsIn (now numbers))) ⌝ }
-    ensures { λ r. ⌜ Touches (now (numbers .entry)) start end (r .first) (r .next) (r .low) (r .high) (r .missing) ⌝ }
+    ensures { λ r. ⌜ Touches (now (numbers .entry)) start end r ⌝ }
 {
     let first = count_before(numbers, gaps, start);
     let mut next = first;
@@ -262,8 +262,7 @@ fn clear(numbers: &mut [u64], from: usize)
 
 // Puts what is left of the gaps in their place: the gaps after the range move, and the slots after the last gap hold 0.
 fn replace(numbers: &mut [u64], gaps: usize, touched: Touched, start: u64, end: u64, count: usize)
-    requires { ⌜ Holds (now numbers) gaps × (count ≡ length (subtract (gapsIn (now numbers)) start end)) × (count ≤ 64)
-        × Touches (now numbers) start end (touched .first) (touched .next) (touched .low) (touched .high) (touched .missing) ⌝ }
+    requires { ⌜ Replaceable (now numbers) gaps start end touched count ⌝ }
     ensures { λ _. ⌜ now (numbers .exit) ≡ holding (subtract (gapsIn (now (numbers .entry))) start end) (now (numbers .entry)) ⌝ }
 {
     let first = touched.first;
@@ -325,14 +324,14 @@ pub fn mark_numbers(numbers: &mut [u64], start: u64, end: u64) -> MarkAnswer
 // A record into numbers.
 
 // The numbers of the gaps, all 64.
-fn put_pairs(out: &mut [u64], g: GapRecord)
+fn put_pairs(out: &mut [u64], given: GapRecord)
     requires { ⌜ 128 ≤ length (now out) ⌝ }
-    ensures { λ _. ⌜ now (out .exit) ≡ overwritten (pairNumbers (g .gaps)) (now (out .entry)) ⌝ }
+    ensures { λ _. ⌜ now (out .exit) ≡ overwritten (pairNumbers (given .gaps)) (now (out .entry)) ⌝ }
 {
     let mut wrote = 0;
     let mut i = 0;
     while i < GAP_LIMIT {
-        let gap = g.gaps[i];
+        let gap = given.gaps[i];
         put_pair(&mut out[wrote..], gap.start, gap.end);
         wrote += 2;
         i += 1;
@@ -340,10 +339,10 @@ fn put_pairs(out: &mut [u64], g: GapRecord)
 }
 
 // The numbers of the record, at the front of `out`.
-pub fn put_record(out: &mut [u64], g: GapRecord)
+pub fn put_record(out: &mut [u64], given: GapRecord)
     requires { ⌜ 130 ≤ length (now out) ⌝ }
-    ensures { λ _. ⌜ now (out .exit) ≡ overwritten (numbersOf g) (now (out .entry)) ⌝ }
+    ensures { λ _. ⌜ now (out .exit) ≡ overwritten (numbersOf given) (now (out .entry)) ⌝ }
 {
-    put_pair(out, g.size, g.count as u64);
-    put_pairs(&mut out[2..], g);
+    put_pair(out, given.size, given.count as u64);
+    put_pairs(&mut out[2..], given);
 }

@@ -1,9 +1,9 @@
 use mathlib.Core.Path.{ap, _∙_}
+use borrow.Author.Needs.{needs}
 use Rattle.format.specs.Gaps.{sizeLimit}
 use Rattle.gaps.specs.GapRecords.{lawfulRecord}
 use Rattle.gap_numbers.proofs.Loops.{unlawful-judged}
 use Rattle.gap_numbers.proofs.Records.{few-numbers, in-numbers, no-record}
-use borrow.Author.Needs.{needs}
 use Rattle.gap_numbers.proofs.judge_numbers.Statement.{statement}
 use Rattle.gap_numbers.proofs.judge_numbers.Tie as tie
 

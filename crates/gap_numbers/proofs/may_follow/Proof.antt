@@ -1,5 +1,5 @@
-use borrow.Author.Tests.{lt-ltb, le-ltb, le-leb, lt-leb}
 use mathlib.Core.Path.{refl}
+use borrow.Author.Tests.{lt-ltb, le-ltb, le-leb, lt-leb}
 use Rattle.format.specs.Gaps.{follows}
 use Rattle.gap_numbers.proofs.may_follow.Statement.{statement}
 use Rattle.gap_numbers.proofs.may_follow.Tie as tie

@@ -1,19 +1,19 @@
 use Prim.Native.Nat.{_-_}
+use native.Mathlib.Omega.{arith}
 use mathlib.Core.Path.{_≡_, sym, _∙_}
 use lib.ListN.{length, length-map, length-drop, length-take}
 use denote.Ref.{now}
+use borrow.Author.Needs.{needs}
 use Rattle.output.proofs.Loops.{written-none}
 use Rattle.gap_numbers.proofs.Records.{PairsWritten, pairs-all, pair-room, pairs-next}
-use borrow.Author.Needs.{needs}
-use native.Mathlib.Omega.{arith}
 use Rattle.gap_numbers.proofs.put_pairs.Statement.{statement}
 use Rattle.gap_numbers.proofs.put_pairs.Tie as tie
 
 abbrev Inv-loop : tie.InvT-loop
-Inv-loop out₀ g wrote₀ i₀ out wrote i = PairsWritten g out₀ out wrote i
+Inv-loop out₀ given wrote₀ i₀ out wrote i = PairsWritten given out₀ out wrote i
 
 abbrev μ-loop : tie.MeasureT-loop
-μ-loop out₀ g wrote₀ i₀ out wrote i = 64 - i
+μ-loop out₀ given wrote₀ i₀ out wrote i = 64 - i
 
 loop-holds : tie.Need-loop-holds Inv-loop μ-loop
 loop-holds c =

@@ -1,9 +1,9 @@
 use mathlib.Core.Path.{refl}
 use mathlib.Core.List.{[], _∷_}
 use denote.Ref.{now}
+use borrow.Author.Needs.{needs}
 use Rattle.output.proofs.Laws.{after}
 use Rattle.gap_numbers.specs.Numbers.{pairNumbers}
-use borrow.Author.Needs.{needs}
 use Rattle.gap_numbers.proofs.put_record.Statement.{statement}
 use Rattle.gap_numbers.proofs.put_record.Tie as tie
 
@@ -28,7 +28,7 @@ same-length c = search needs
 returns : tie.Need-returns
 returns c =
     let a = c .before .before .before .before .before .before .before .before .before .args in
-    after (a .g .size ∷ a .g .count ∷ []) (pairNumbers (a .g .gaps)) (now (a .out)) _ _ 2 refl
+    after (a .given .size ∷ a .given .count ∷ []) (pairNumbers (a .given .gaps)) (now (a .out)) _ _ 2 refl
     (c .before .before .before .before .before .before .put-pair .ensures) (c .before .before .put-pairs .ensures)
 
 pub put-record-spec : {M : Type 1} → statement M

@@ -1,8 +1,7 @@
 use native.Mathlib.Omega.{arith}
 use lib.ListN.{length-set, length-take, length-drop}
-use denote.Ref.{now}
 use borrow.Author.Needs.{needs}
-use Rattle.gap_numbers.proofs.Marks.{ends, room, replaced}
+use Rattle.gap_numbers.proofs.Replaced.{ends, room, replaced}
 use Rattle.gap_numbers.proofs.replace.Statement.{statement}
 use Rattle.gap_numbers.proofs.replace.Tie as tie
 
@@ -25,11 +24,7 @@ add-move-numbers : tie.Need-add-move-numbers
 add-move-numbers c = search needs
 
 sub-move-numbers : tie.Need-sub-move-numbers
-sub-move-numbers c =
-    let a = c .before .before .args in
-    let h = c .before .before .pre in
-    let t = a .touched in
-    omega (arith, ends (now (a .numbers)) (a .gaps) (h .0) (a .start) (a .end) (t .first) (t .next) (t .low) (t .high) (t .missing) (h .3) (rw (h .1) at (h .2)) (a .count) (h .1))
+sub-move-numbers c = omega (arith, ends (c .before .before .pre))
 
 move-numbers-requires : tie.Need-move-numbers-requires
 move-numbers-requires c κs = search needs
@@ -54,11 +49,8 @@ part-put-pieces-end c = search needs
 
 put-pieces-requires : tie.Need-put-pieces-requires
 put-pieces-requires c κs =
-    let a = c .before .before .before .before .before .before .args in
     let h = c .before .before .before .before .before .before .pre in
-    let t = a .touched in
-    let r = room (now (a .numbers)) (a .gaps) (h .0) (a .start) (a .end) (t .first) (t .next) (t .low) (t .high) (t .missing) (h .3) (rw (h .1) at (h .2)) (a .count) (h .1) in
-    simp (length-take, length-drop) (omega (arith, r, h .0 .long))
+    simp (length-take, length-drop) (omega (arith, room h, h .holds .long))
 
 clear-requires : tie.Need-clear-requires
 clear-requires c κs = search needs
@@ -71,10 +63,7 @@ same-length c = simp length-set (search needs)
 
 returns : tie.Need-returns
 returns c =
-    let a = c .before .before .before .before .before .before .before .before .before .before .before .before .before .args in
-    let h = c .before .before .before .before .before .before .before .before .before .before .before .before .before .pre in
-    let t = a .touched in
-    replaced (now (a .numbers)) (a .gaps) (h .0) (a .start) (a .end) (t .first) (t .next) (t .low) (t .high) (t .missing) (h .3) (rw (h .1) at (h .2)) (a .count) (h .1) _ _ _ (c .before .before .before .before .before .before .before .before .before .before .move-numbers .ensures) (c .before .before .before .before .before .before .put-pieces .ensures) (c .before .before .clear .ensures)
+    replaced (c .before .before .before .before .before .before .before .before .before .before .before .before .before .pre) _ _ _ (c .before .before .before .before .before .before .before .before .before .before .move-numbers .ensures) (c .before .before .before .before .before .before .put-pieces .ensures) (c .before .before .clear .ensures)
 
 pub replace-spec : {M : Type 1} → statement M
 replace-spec =

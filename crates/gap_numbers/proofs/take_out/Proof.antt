@@ -1,9 +1,19 @@
-use mathlib.Core.Path.{refl, _∙_}
+use mathlib.Core.Path.{_≡_, refl, _∙_}
+use lib.ListN.{length}
 use denote.Ref.{now}
 use borrow.Author.Needs.{needs}
-use Rattle.gap_numbers.proofs.Marks.{holds, too-many, accepts, count-left}
+use Rattle.format.specs.Gaps.{subtract}
+use Rattle.gap_numbers.specs.NumberSteps.{gapsIn}
+use Rattle.gap_numbers.proofs.Replaced.{count-left}
+use Rattle.gap_numbers.proofs.Marks.{holds, too-many, accepts}
 use Rattle.gap_numbers.proofs.take_out.Statement.{statement}
 use Rattle.gap_numbers.proofs.take_out.Tie as tie
+
+abbrev start : tie.After-count-left → tie.Start
+start c = c .before .before .before .before .before
+
+counted : (c : tie.After-count-left) → let a = start c .args in c .count-left .result ≡ length (subtract (gapsIn (now (a .numbers))) (a .start) (a .end))
+counted c = let h = start c .pre in c .count-left .ensures ∙ count-left (holds _ _ _ (h .0) (h .1)) (c .before .touch .ensures)
 
 slice-read-gaps : tie.Need-slice-read-gaps
 slice-read-gaps c = search needs
@@ -22,33 +32,23 @@ same-length c = search needs
 
 returns : tie.Need-returns
 returns c =
-    let a = c .before .before .before .before .before .before .before .args in
-    let l = now (a .numbers) in
-    let h = c .before .before .before .before .before .before .before .pre in
-    let d = c .before .before .before .touch .ensures in
-    let q = c .before .before .count-left .ensures ∙ count-left l _ (holds l (a .start) (a .end) (h .0) (h .1)) (a .start) (a .end) _ _ _ _ _ d in
-    rw (too-many l (a .start) (a .end) (h .0) (h .1) (rw q at (c .before .if1 .taken))) (record { told = c .refused .ensures; numbers = refl })
+    let a = start (c .before .before) in
+    let h = a .pre in
+    rw (too-many (now (a .args .numbers)) (a .args .start) (a .args .end) (h .0) (h .1) (rw (counted (c .before .before)) at (c .before .if1 .taken))) (record { told = c .refused .ensures; numbers = refl })
 
 replace-requires : tie.Need-replace-requires
 replace-requires c κs =
-    let a = c .before .before .before .before .before .before .before .args in
-    let l = now (a .numbers) in
-    let h = c .before .before .before .before .before .before .before .pre in
-    let d = c .before .before .before .touch .ensures in
-    let q = c .before .before .count-left .ensures ∙ count-left l _ (holds l (a .start) (a .end) (h .0) (h .1)) (a .start) (a .end) _ _ _ _ _ d in
-    (holds l (a .start) (a .end) (h .0) (h .1), q, c .before .if1 .left, d)
+    let t = c .before .before in
+    record { holds = holds _ _ _ (start t .pre .0) (start t .pre .1); touches = t .before .touch .ensures; counted = counted t; few = c .before .if1 .left }
 
 same-length-2 : tie.Need-same-length-2
 same-length-2 c = search needs
 
 returns-2 : tie.Need-returns-2
 returns-2 c =
-    let a = c .before .before .before .before .before .before .before .before .before .before .args in
-    let l = now (a .numbers) in
-    let h = c .before .before .before .before .before .before .before .before .before .before .pre in
-    let d = c .before .before .before .before .before .before .touch .ensures in
-    let q = c .before .before .before .before .before .count-left .ensures ∙ count-left l _ (holds l (a .start) (a .end) (h .0) (h .1)) (a .start) (a .end) _ _ _ _ _ d in
-    accepts l (a .start) (a .end) (h .0) (h .1) (rw q at (c .before .before .before .before .if1 .left)) _ (d .weighed) _ (c .before .before .replace .ensures)
+    let t = c .before .before .before .before .before in
+    let h = start t .pre in
+    accepts (now (start t .args .numbers)) (start t .args .start) (start t .args .end) (h .0) (h .1) (rw (counted t) at (c .before .before .before .before .if1 .left)) _ (t .before .touch .ensures .weighed) _ (c .before .before .replace .ensures)
 
 pub take-out-spec : {M : Type 1} → statement M
 take-out-spec =

@@ -19,9 +19,8 @@ count-before-requires c κs = search needs
 
 loop-holds : tie.Need-loop-holds Inv-loop μ-loop
 loop-holds c =
-    let a = c .before .before .args in
     let h = c .before .before .pre in
-    touching-none (now (a .numbers)) (a .gaps) (h .0) (a .start) (a .end) (h .1) _ (a .missing) (c .count-before .ensures .0) (c .count-before .ensures .1) (h .2)
+    touching-none (h .0) (h .1) (c .count-before .ensures .0) (c .count-before .ensures .1) (h .2)
 
 mul-begins : tie.Need-mul-begins Inv-loop μ-loop
 mul-begins c = search needs
@@ -49,11 +48,8 @@ shared-slice-read-ends c = search needs
 
 returns : tie.Need-returns Inv-loop μ-loop
 returns c =
-    let a = c .before .before .before .before .before .before .before .args in
     let h = c .before .before .before .before .before .before .before .pre in
-    let v = c .before .before .before .before .loop in
-    let k = c .before .before .before .loop-test .taken in
-    touches (now (a .numbers)) (a .gaps) (h .0) (a .start) (a .end) (h .1) _ (v .next) (v .low) (v .high) (v .left) (v .inv) (λ t. c .if1 .taken)
+    touches (h .0) (h .1) (c .before .before .before .before .loop .inv) (λ t. c .if1 .taken)
 
 smaller-requires : tie.Need-smaller-requires Inv-loop μ-loop
 smaller-requires c κs = search needs
@@ -66,19 +62,15 @@ larger-requires c κs = search needs
 
 sub-left : tie.Need-sub-left Inv-loop μ-loop
 sub-left c =
-    let a = c .before .before .before .before .before .before .before .before .before .before .args in
     let h = c .before .before .before .before .before .before .before .before .before .before .pre in
-    let v = c .before .before .before .before .before .before .before .loop in
-    let k = c .before .before .before .before .before .before .loop-test .taken in
-    omega (arith, c .larger .ensures, c .before .smaller2 .ensures, part-within (now (a .numbers)) (a .gaps) (h .0) (a .start) (a .end) (h .1) _ (v .next) (v .low) (v .high) (v .left) (v .inv) k (c .before .before .before .if1 .left))
+    let within = part-within (h .0) (h .1) (c .before .before .before .before .before .before .before .loop .inv) (c .before .before .before .before .before .before .loop-test .taken) (c .before .before .before .if1 .left) in
+    omega (arith, c .larger .ensures, c .before .smaller2 .ensures, within)
 
 sub-left-2 : tie.Need-sub-left-2 Inv-loop μ-loop
 sub-left-2 c =
-    let a = c .before .before .before .before .before .before .before .before .before .before .args in
     let h = c .before .before .before .before .before .before .before .before .before .before .pre in
-    let v = c .before .before .before .before .before .before .before .loop in
-    let k = c .before .before .before .before .before .before .loop-test .taken in
-    omega (arith, c .larger .ensures, c .before .smaller2 .ensures, part-missing (now (a .numbers)) (a .gaps) (h .0) (a .start) (a .end) (h .1) _ (v .next) (v .low) (v .high) (v .left) (v .inv) k (c .before .before .before .if1 .left))
+    let missing = part-missing (h .0) (h .1) (c .before .before .before .before .before .before .before .loop .inv) (c .before .before .before .before .before .before .loop-test .taken) (c .before .before .before .if1 .left) in
+    omega (arith, c .larger .ensures, c .before .smaller2 .ensures, missing)
 
 add-next : tie.Need-add-next Inv-loop μ-loop
 add-next c = search needs
@@ -88,18 +80,14 @@ loop-less c = search needs
 
 loop-again : tie.Need-loop-again Inv-loop μ-loop
 loop-again c =
-    let a = c .before .before .before .before .before .before .before .before .before .before .args in
     let h = c .before .before .before .before .before .before .before .before .before .before .pre in
-    let v = c .before .before .before .before .before .before .before .loop in
-    let k = c .before .before .before .before .before .before .loop-test .taken in
-    rw (c .before .before .smaller .ensures) (touching-next (now (a .numbers)) (a .gaps) (h .0) (a .start) (a .end) (h .1) _ (v .next) (v .low) (v .high) (v .left) (v .inv) k (c .before .before .before .if1 .left) _ (rw (c .larger .ensures, c .before .smaller2 .ensures) refl))
+    rw (c .before .before .smaller .ensures)
+    (touching-next (h .0) (h .1) (c .before .before .before .before .before .before .before .loop .inv) (c .before .before .before .before .before .before .loop-test .taken) (c .before .before .before .if1 .left) (rw (c .larger .ensures, c .before .smaller2 .ensures) refl))
 
 returns-2 : tie.Need-returns-2 Inv-loop μ-loop
 returns-2 c =
-    let a = c .before .before .before .before .args in
     let h = c .before .before .before .before .pre in
-    let v = c .before .loop in
-    touches (now (a .numbers)) (a .gaps) (h .0) (a .start) (a .end) (h .1) _ (v .next) (v .low) (v .high) (v .left) (v .inv) (λ t. absurd (omega arith))
+    touches (h .0) (h .1) (c .before .loop .inv) (λ t. absurd (omega arith))
 
 pub touch-spec : {M : Type 1} → statement M
 touch-spec =
