@@ -1,7 +1,7 @@
 -- A part is moved along a text, after a mismatch by its least shift: it stands at no offset that is left out.
 use Prim.Native.Nat.{ℕ, _+_, _-_, _*_, _≤_, _<_}
-use mathlib.Core.Path.{_≡_, sym, ap, _∙_}
-use mathlib.Core.Bool.{true, false}
+use mathlib.Core.Path.{_≡_, refl, sym, ap, _∙_}
+use mathlib.Core.Bool.{Bool, true, false}
 use mathlib.Core.List.{List}
 use native.Mathlib.Omega.{arith}
 use lib.ListN.{length, getD}
@@ -9,8 +9,9 @@ use lib.Dec.{eqb, ltb}
 use borrow.Author.Tests.{ltb-true, ltb-false, eqb-true, eqb-false}
 use borrow.Author.Count.{below-more}
 use Rattle.format.specs.Truth.{occurs}
+use Rattle.format.proofs.Differ.{differ}
 use Rattle.format.proofs.PartTags.{either-test}
-use Rattle.find.specs.Shifts.{Agrees, LeastShift, Moves}
+use Rattle.find.specs.Shifts.{Agrees, Decides, LeastShift, Moves, NoEnds, StandsIn}
 use Rattle.find.proofs.Offsets.{occurs-at, occurs-nowhere}
 
 -- At no offset from `low` up to `start` does the part agree with the text over the length that is wanted there.
@@ -57,15 +58,48 @@ module _ (p t : List ℕ) (start n shift kept : ℕ) (m : Moves p n shift kept) 
           (λ e. left-out d (wanted d) (omega (arith, eqb-false d start e)) k (omega (arith, far d g)) b)
 
 -- Each offset is tried.
-module _ (p t : List ℕ) (start : ℕ) where
-  pub passed-one : Passed p t (λ d. length p) 0 start → (Agrees p t start (length p) → ⊥) → Passed p t (λ d. length p) 0 (start + 1)
-  passed-one before here d h k = below-more (λ d. Agrees p t d (length p) → ⊥) start (λ d k. before d (omega arith) k) here d k
+module _ (p t : List ℕ) where
+  pub passed-one : (low start : ℕ) → Passed p t (λ d. length p) low start → (Agrees p t start (length p) → ⊥) → Passed p t (λ d. length p) low (start + 1)
+  passed-one low start before here d h k =
+      below-more (λ d. low ≤ d → Agrees p t d (length p) → ⊥) start (λ d k h. before d h k) (λ h. here) d k h
 
-  pub first-differs : 0 < length p → (getD t start 0 ≡ getD p 0 0 → ⊥) → Agrees p t start (length p) → ⊥
-  first-differs h differs a = let e : start ≡ start + 0 = omega arith in differs (ap (λ k. getD t k 0) e ∙ sym (a 0 h))
+  pub first-differs : (start : ℕ) → 0 < length p → (getD t start 0 ≡ getD p 0 0 → ⊥) → Agrees p t start (length p) → ⊥
+  first-differs start h differs a = let e : start ≡ start + 0 = omega arith in differs (ap (λ k. getD t k 0) e ∙ sym (a 0 h))
 
-  pub passed-all : length t < start + length p → Passed p t (λ d. length p) 0 start → occurs p t ≡ false
-  passed-all h before = occurs-nowhere p t (λ d k. before d (omega arith) (omega arith))
+  pub stands-yes : (from end d : ℕ) → from ≤ d → d < end → Agrees p t d (length p) → Decides true (StandsIn p t from end)
+  stands-yes from end d h k a = record { yes = λ e. record { offset = d; low = h; high = k; agrees = a }; no = λ e. differ cc }
+
+  pub stands-no : (from end : ℕ) → (StandsIn p t from end → ⊥) → Decides false (StandsIn p t from end)
+  stands-no from end never = record { yes = λ e. differ cc; no = λ e. never }
+
+  pub passed-stands : (from end start : ℕ) → end ≤ start → Passed p t (λ d. length p) from start → StandsIn p t from end → ⊥
+  passed-stands from end start h before it = before (it .offset) (it .low) (omega (arith, it .high)) (it .agrees)
+
+  pub passed-all : (start : ℕ) → length t < start + length p → Passed p t (λ d. length p) 0 start → occurs p t ≡ false
+  passed-all start h before = occurs-nowhere p t (λ d k. before d (omega arith) (omega arith))
+
+  -- Each block is tried: what is left out before it was tried before.
+  pub passed-block : (from end start : ℕ) → from ≤ start → Passed p t (λ d. length p) 0 start → (StandsIn p t from end → ⊥) → Passed p t (λ d. length p) 0 end
+  passed-block from end start h before never d low k a =
+      either-test (ltb d start) (λ e. before d low (ltb-true d start e) a)
+      (λ e. never (record { offset = d; low = omega (arith, ltb-false d start e); high = k; agrees = a }))
+
+  pub no-ends-stand : (from n : ℕ) → 0 < length p → NoEnds t from (length p - 1) (getD p 0 0) (getD p (length p - 1) 0) n → StandsIn p t from (from + n) → ⊥
+  no-ends-stand from n h none it =
+      let d = it .offset in
+      let low = it .low in
+      let high = it .high in
+      let first : from + (d - from) ≡ d + 0 = omega arith in
+      let last : from + (length p - 1) + (d - from) ≡ d + (length p - 1) = omega arith in
+      none (d - from) (omega arith)
+      (ap (λ k. getD t k 0) first ∙ sym (it .agrees 0 h))
+      (ap (λ k. getD t k 0) last ∙ sym (it .agrees (length p - 1) (omega arith)))
+
+  -- What is found at all offsets is whether the part occurs.
+  pub stands-occurs : (end : ℕ) (r : Bool) → end + length p ≡ length t + 1 → Decides r (StandsIn p t 0 end) → r ≡ occurs p t
+  stands-occurs end true h d = let it = d .yes refl in sym (occurs-at p t (it .offset) (omega (arith, it .high)) (it .agrees))
+  stands-occurs end false h d =
+      sym (occurs-nowhere p t (λ offset k a. d .no refl (record { offset = offset; low = omega arith; high = omega arith; agrees = a })))
 
 -- A search by the table has come to an offset: the part stands at none before it, and its first bytes agree there.
 pub record Searching (part text : List ℕ) (start matched : ℕ) : Type 0 where

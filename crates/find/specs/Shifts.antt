@@ -3,7 +3,7 @@ use mathlib.Core.Path.{_≡_}
 use mathlib.Core.Bool.{Bool, true, false}
 use mathlib.Core.List.{List}
 use Prim.Native.Nat.{ℕ, _+_, _-_, _*_, _≤_, _<_}
-use lib.ListN.{getD}
+use lib.ListN.{getD, length}
 
 -- The first n bytes of the part are those of the text from the offset on.
 abbrev pub Agrees : (part text : List ℕ) (offset n : ℕ) → Type 0
@@ -13,6 +13,17 @@ Agrees part text offset n = (i : ℕ) → i < n → getD part i 0 ≡ getD text 
 pub record Decides (r : Bool) (P : Type 0) : Type 0 where
   pub yes : r ≡ true → P
   pub no : r ≡ false → P → ⊥
+
+-- The part stands in the text at an offset from `from` up to `end`.
+pub record StandsIn (part text : List ℕ) (from end : ℕ) : Type 0 where
+  pub offset : ℕ
+  pub low : from ≤ offset
+  pub high : offset < end
+  pub agrees : Agrees part text offset (length part)
+
+-- At none of n offsets stands this first byte and, `reach` bytes after it, this last one.
+abbrev pub NoEnds : (text : List ℕ) (from reach first last n : ℕ) → Type 0
+NoEnds text from reach first last n = (j : ℕ) → j < n → getD text (from + j) 0 ≡ first → getD text (from + reach + j) 0 ≡ last → ⊥
 
 -- The first n bytes of the part agree with themselves moved by the shift, and by no lesser one.
 pub record LeastShift (part : List ℕ) (n shift : ℕ) : Type 0 where

@@ -1,18 +1,22 @@
 // Whether a part occurs in a text, in time that is linear in both.
 //
-// A short part, or a part in a short text, is compared at each offset: at most 18 comparisons for each byte of the text. Any other
-// part is looked for by the method of Knuth, Morris and Pratt, with a table that samples every eighth length, so that the table for
-// a part of 65,535 bytes takes 16 KiB of the stack. A part below 1,024 bytes has a table of 256 bytes, since clearing the long one
-// would cost more than the search in a short text. The measures of the two loops bound their turns: fewer than 10 for each byte of
+// A short part, or a part in a short text, is compared at each offset that has its first and its last byte, which are looked for at the
+// offsets of a block at the same time: at most 20 comparisons for each byte of the text, and twice for those of the last two blocks.
+// Any other part is looked for by the method of Knuth, Morris and Pratt, with a table that samples every eighth length, so that the
+// table for a part of 65,535 bytes takes 16 KiB of the stack. A part below 1,024 bytes has a table of 256 bytes, since clearing the long
+// one would cost more than the search in a short text. The measures of the two loops bound their turns: fewer than 10 for each byte of
 // the part to fill the table, and fewer than 10 for each byte of the text to search by it. A part of more than 65,535 bytes is
 // compared at each offset, which is not linear: no String has one.
 //
 // specs/Shifts.antt says what the table holds.
 ghost use mathlib.Core.Path.{_≡_};
-ghost use Prim.Native.Nat.{_+_, _*_, _≤_, _<_};
+ghost use mathlib.Core.Logic.{_↔_};
+ghost use Prim.Native.Nat.{min, _+_, _-_, _*_, _≤_, _<_};
+ghost use lib.Dec.{eqb};
 ghost use lib.ListN.{length};
+ghost use Rattle.format.specs.Tables.{pick};
 ghost use Rattle.format.specs.Truth.{occurs};
-ghost use Rattle.find.specs.Shifts.{Agrees, Decides, Samples, Moves};
+ghost use Rattle.find.specs.Shifts.{Agrees, Decides, NoEnds, Samples, StandsIn, Moves};
 
 // Entry k of the table is for the length STRIDE * k.
 const STRIDE: usize = 8;
@@ -46,15 +50,14 @@ fn stands_at(text: &[u8], part: &[u8], start: usize) -> bool
     true
 }
 
-// Compares the part at each offset. Most offsets fail at the first byte.
-fn search_each(text: &[u8], part: &[u8]) -> bool
-    requires { ⌜ (0 < length (now part)) × (length (now part) ≤ length (now text)) ⌝ }
-    ensures { λ r. ⌜ r ≡ occurs (now (part .entry)) (now (text .entry)) ⌝ }
+// Compares the part at each offset from `from` up to `end`.
+fn search_from(text: &[u8], part: &[u8], from: usize, end: usize) -> bool
+    requires { ⌜ (0 < length (now part)) × (end + length (now part) ≤ length (now text) + 1) ⌝ }
+    ensures { λ r. ⌜ Decides r (StandsIn (now (part .entry)) (now (text .entry)) from end) ⌝ }
 {
-    let last = text.len() - part.len();
     let first = part[0];
-    let mut start = 0;
-    while start <= last {
+    let mut start = from;
+    while start < end {
         if text[start] != first {
             start += 1;
             continue;
@@ -65,6 +68,85 @@ fn search_each(text: &[u8], part: &[u8]) -> bool
         start += 1;
     }
     false
+}
+
+// Offsets are looked at by blocks: a loop with no way out of it looks at all offsets of a block at the same time.
+const BLOCK: usize = 16;
+
+// 1 for an offset with the first and the last byte of the part, or what was found before it.
+fn noted(found: u8, here: u8, there: u8, first: u8, last: u8) -> u8
+    ensures { λ r. ⌜ r ≡ pick (eqb here first) (pick (eqb there last) 1 found) found ⌝ }
+{
+    if here != first {
+        return found;
+    }
+    if there == last { 1 } else { found }
+}
+
+// 0 if at no offset of a block stands the first byte and, `reach` bytes after it, the last one.
+fn ends_in_block(text: &[u8], from: usize, reach: usize, first: u8, last: u8) -> u8
+    requires { ⌜ from + reach + 16 ≤ length (now text) ⌝ }
+    ensures { λ r. ⌜ (r ≡ 0) ↔ NoEnds (now (text .entry)) from reach first last 16 ⌝ }
+{
+    let mut found: u8 = 0;
+    let mut i = 0;
+    while i < BLOCK {
+        let here = text[from + i];
+        let there = text[from + reach + i];
+        found = noted(found, here, there, first, last);
+        i += 1;
+    }
+    found
+}
+
+// Whether the part stands at an offset of a block. In most blocks there is no offset with its first and its last byte.
+fn search_block(text: &[u8], part: &[u8], from: usize) -> bool
+    requires { ⌜ (0 < length (now part)) × (from + 15 + length (now part) ≤ length (now text)) ⌝ }
+    ensures { λ r. ⌜ Decides r (StandsIn (now (part .entry)) (now (text .entry)) from (from + 16)) ⌝ }
+{
+    let reach = part.len() - 1;
+    let found = ends_in_block(text, from, reach, part[0], part[reach]);
+    if found == 0 {
+        return false;
+    }
+    search_from(text, part, from, from + BLOCK)
+}
+
+// Where the next block begins. The last one ends at the last offset, so that it may begin in the block before.
+fn block_at(start: usize, end: usize) -> usize
+    requires { ⌜ (16 ≤ end) × (start < end) ⌝ }
+    ensures { λ r. ⌜ r ≡ min start (end - 16) ⌝ }
+{
+    let last = end - BLOCK;
+    if last < start { last } else { start }
+}
+
+// Looks for the part block by block.
+fn search_blocks(text: &[u8], part: &[u8], end: usize) -> bool
+    requires { ⌜ (0 < length (now part)) × (end + length (now part) ≡ length (now text) + 1) × (16 ≤ end) ⌝ }
+    ensures { λ r. ⌜ r ≡ occurs (now (part .entry)) (now (text .entry)) ⌝ }
+{
+    let mut start = 0;
+    while start < end {
+        let from = block_at(start, end);
+        if search_block(text, part, from) {
+            return true;
+        }
+        start = from + BLOCK;
+    }
+    false
+}
+
+// Compares the part at each offset.
+fn search_each(text: &[u8], part: &[u8]) -> bool
+    requires { ⌜ (0 < length (now part)) × (length (now part) ≤ length (now text)) ⌝ }
+    ensures { λ r. ⌜ r ≡ occurs (now (part .entry)) (now (text .entry)) ⌝ }
+{
+    let end = text.len() - part.len() + 1;
+    if end < BLOCK {
+        return search_from(text, part, 0, end);
+    }
+    search_blocks(text, part, end)
 }
 
 // How far the part is moved after a mismatch, and how many of its bytes are known to agree there.

@@ -1,88 +1,28 @@
--- The part stands at no offset before `start`.
-use Prim.Native.Nat.{_+_, _-_}
-use mathlib.Core.Path.{sym}
 use native.Mathlib.Omega.{arith}
+use Rattle.find.proofs.Moving.{stands-occurs}
 use borrow.Author.Needs.{needs}
-use denote.Ref.{now}
-use lib.ListN.{length}
-use Rattle.find.proofs.Offsets.{occurs-at}
-use Rattle.find.proofs.Moving.{Passed, passed-one, passed-all, first-differs}
 use Rattle.find.proofs.search_each.Statement.{statement}
 use Rattle.find.proofs.search_each.Tie as tie
 
-abbrev Inv-loop : tie.InvT-loop
-Inv-loop text part last first start₀ start = Passed part text (λ d. length part) 0 start
+sub-end : tie.Need-sub-end
+sub-end c = search needs
 
-abbrev μ-loop : tie.MeasureT-loop
-μ-loop text part last first start₀ start = length text + 1 - start
+add-end : tie.Need-add-end
+add-end c = search needs
 
-sub-last : tie.Need-sub-last Inv-loop μ-loop
-sub-last c = search needs
+search-from-requires : tie.Need-search-from-requires
+search-from-requires c κs = search needs
 
-shared-slice-read-first : tie.Need-shared-slice-read-first Inv-loop μ-loop
-shared-slice-read-first c = search needs
+returns : tie.Need-returns
+returns c = stands-occurs _ _ _ _ (omega arith) (c .search-from .ensures)
 
-loop-holds : tie.Need-loop-holds Inv-loop μ-loop
-loop-holds c = λ d h k b. absurd (omega arith)
+search-blocks-requires : tie.Need-search-blocks-requires
+search-blocks-requires c κs = search needs
 
-shared-slice-read-if1 : tie.Need-shared-slice-read-if1 Inv-loop μ-loop
-shared-slice-read-if1 c = search needs
-
-add-start : tie.Need-add-start Inv-loop μ-loop
-add-start c = search needs
-
-loop-less : tie.Need-loop-less Inv-loop μ-loop
-loop-less c = search needs
-
-loop-again : tie.Need-loop-again Inv-loop μ-loop
-loop-again c =
-    let a = c .before .before .before in
-    let b = a .before .before .before .before in
-    let l = a .loop in
-    let part = now (b .args .part) in
-    let text = now (b .args .text) in
-    passed-one part text (l .start) (l .inv) (first-differs part text (l .start) (b .pre .0) (c .if1 .taken))
-
-stands-at-requires : tie.Need-stands-at-requires Inv-loop μ-loop
-stands-at-requires c κs = search needs
-
-returns : tie.Need-returns Inv-loop μ-loop
-returns c =
-    let l = c .before .before .before .before .before .loop in
-    sym (occurs-at _ _ (l .start) (omega arith) (c .before .stands-at .ensures .yes (c .if2 .taken)))
-
-add-start-2 : tie.Need-add-start-2 Inv-loop μ-loop
-add-start-2 c = search needs
-
-loop-less-2 : tie.Need-loop-less-2 Inv-loop μ-loop
-loop-less-2 c = search needs
-
-loop-again-2 : tie.Need-loop-again-2 Inv-loop μ-loop
-loop-again-2 c =
-    let a = c .before .before .before .before .before in
-    let b = a .before .before .before .before in
-    let l = a .loop in
-    passed-one (now (b .args .part)) (now (b .args .text)) (l .start) (l .inv) (c .before .stands-at .ensures .no (c .if2 .left))
-
-returns-2 : tie.Need-returns-2 Inv-loop μ-loop
-returns-2 c = let l = c .before .loop in sym (passed-all _ _ (l .start) (omega arith) (l .inv))
+returns-2 : tie.Need-returns-2
+returns-2 c = search needs
 
 pub search-each-spec : {M : Type 1} → statement M
 search-each-spec =
     tie.close
-    (tie.spec
-    Inv-loop
-    μ-loop
-    sub-last
-    shared-slice-read-first
-    loop-holds
-    shared-slice-read-if1
-    add-start
-    loop-less
-    loop-again
-    stands-at-requires
-    returns
-    add-start-2
-    loop-less-2
-    loop-again-2
-    returns-2)
+    (tie.spec sub-end add-end search-from-requires returns search-blocks-requires returns-2)
