@@ -17,7 +17,7 @@ use Rattle.format.proofs.Codec.{never, same-place}
 use Rattle.format.proofs.There.{byte-there, dword-there, run-there, word-there}
 use Rattle.wire.proofs.Loops.{ended-got}
 use Rattle.query.specs.Nodes.{decodeLeaf, decodeNode, decodeNodeOf, depths}
-use Rattle.query.specs.Skips.{EndsAt, EndsThere, Passes, Spans, depthIn, endIn}
+use Rattle.query.specs.Skips.{EndsAt, Passes, Spans, depthIn, endIn, offsetAfter}
 use Rattle.query.proofs.Nodes.{query-case}
 use Rattle.query.proofs.Depths.{depth-join, depth-leaf}
 
@@ -110,9 +110,18 @@ sides-span d s at a b h few first second is =
     let o = code-there operators s at h (operator-of (getD s at 0) few .1) in
     inr (rw (depth-join, ← o, first, second, is .0, is .1) refl)
 
--- Where a query ends, by its extent.
-pub span-ends : (o : Outcome Query) {e r : ℕ} → Spans (depths o) e → r ≡ endIn e → EndsThere o r
-unfolding ends depths
-span-ends o (inl z) is = inl (is ∙ rw z refl)
-span-ends (refused f) (inr g) is = absurd (never g)
-span-ends (got q p) (inr g) is = inr (ap (got tt) (same-place g ∙ sym is))
+-- The offset after a query, by its extent, by what was read of it, and where it is not 0.
+pub span-after : (o : Outcome Query) {n p : ℕ} → depths o ≡ got n p → p ≡ offsetAfter o
+unfolding depths
+span-after (refused f) e = absurd (never e)
+span-after (got q p) e = sym (same-place e)
+
+pub depths-after : (o : Outcome Query) → offsetAfter (depths o) ≡ offsetAfter o
+unfolding depths
+depths-after (refused f) = refl
+depths-after (got q p) = refl
+
+pub after-ends : {A : Type 0} (o : Outcome A) {r : ℕ} → r ≡ offsetAfter o → (r ≡ 0 → ⊥) → ends o ≡ got tt r
+unfolding ends
+after-ends (refused f) is other = absurd (other is)
+after-ends (got a p) is other = ap (got tt) (sym is)

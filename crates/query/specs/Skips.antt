@@ -1,10 +1,10 @@
--- What is found by the functions that go past a query. 0 tells nothing.
+-- What is found by the functions that go past a query. Of their tests 0 tells nothing.
 use Prim.Native.Nat.{ℕ, _≤_, _/_, _%_}
 use mathlib.Core.Path.{_≡_}
 use mathlib.Core.Logic.{_⊎_}
 use mathlib.Core.List.{List}
 use lib.ListN.{length}
-use Rattle.format.specs.Decoding.{Decoder, Outcome, ends, got}
+use Rattle.format.specs.Decoding.{Decoder, Outcome, ends, got, refused}
 
 -- The offset after what is decoded at a place. It lies inside the bytes.
 abbrev pub EndsAt : {A : Type 0} → Decoder A → List ℕ → (at r : ℕ) → Type 0
@@ -13,9 +13,10 @@ EndsAt d s at r = (ends (d s at) ≡ got tt r) × (r ≤ length s)
 abbrev pub Passes : {A : Type 0} → Decoder A → List ℕ → (at r : ℕ) → Type 0
 Passes d s at r = (r ≡ 0) ⊎ EndsAt d s at r
 
--- The same without the bytes: 0, or the offset after what was decoded.
-abbrev pub EndsThere : {A : Type 0} → Outcome A → (r : ℕ) → Type 0
-EndsThere o r = (r ≡ 0) ⊎ (ends o ≡ got tt r)
+-- The offset after what was decoded, or 0 where it is refused.
+abbrev pub offsetAfter : {A : Type 0} → Outcome A → ℕ
+offsetAfter (refused f) = 0
+offsetAfter (got a next) = next
 
 -- An extent is a place and a depth in one number: the place is below so many.
 abbrev pub places : ℕ

@@ -15,7 +15,7 @@ ghost use Rattle.format.specs.Decoding.{message, reply};
 ghost use Rattle.format.specs.Order.{decodeName, isJoin, isLimit, decodeCase, decodeQueryIn, decodeQuery};
 ghost use Rattle.format.specs.MetOrder.{decode};
 ghost use Rattle.query.specs.Nodes.{decodeNodeOf, decodeNode, decodeLeaf, depths};
-ghost use Rattle.query.specs.Skips.{Passes, EndsThere, Spans, places, endIn, depthIn};
+ghost use Rattle.query.specs.Skips.{Passes, Spans, offsetAfter, places, endIn, depthIn};
 ghost use Rattle.query.specs.QueryAnswers.{operatorMeaning, boundMeaning, nodeMeaning, NodeStepInside, depthMeaning, queryMeaning, queryReply};
 ghost use Rattle.query.specs.QueryAnswers.{operatorFault, boundFault, nodeFault, depthFault, queryFault};
 ghost use Rattle.query.specs.QueryAnswers.{QueryStepPlaced, QueryAnswerPlaced};
@@ -295,26 +295,26 @@ fn extent(end: usize, depth: usize) -> usize
     end + PLACES * depth
 }
 
-fn end_of(e: usize) -> usize
-    ensures { λ r. ⌜ r ≡ endIn e ⌝ }
+fn end_of(extent: usize) -> usize
+    ensures { λ r. ⌜ r ≡ endIn extent ⌝ }
 {
-    e % PLACES
+    extent % PLACES
 }
 
-fn depth_of(e: usize) -> usize
-    ensures { λ r. ⌜ r ≡ depthIn e ⌝ }
+fn depth_of(extent: usize) -> usize
+    ensures { λ r. ⌜ r ≡ depthIn extent ⌝ }
 {
-    e / PLACES
+    extent / PLACES
 }
 
 // The extent of a join, by those of its sides.
-fn join_extent(a: usize, b: usize) -> usize
-    requires { ⌜ depthIn a < depthLimit ⌝ }
-    requires { ⌜ depthIn b < depthLimit ⌝ }
-    ensures { λ r. ⌜ (endIn r ≡ endIn b) × (depthIn r ≡ max (depthIn a) (depthIn b) + 1) ⌝ }
+fn join_extent(first: usize, second: usize) -> usize
+    requires { ⌜ depthIn first < depthLimit ⌝ }
+    requires { ⌜ depthIn second < depthLimit ⌝ }
+    ensures { λ r. ⌜ (endIn r ≡ endIn second) × (depthIn r ≡ max (depthIn first) (depthIn second) + 1) ⌝ }
 {
-    let depth = larger(depth_of(a), depth_of(b)) + 1;
-    extent(end_of(b), depth)
+    let depth = larger(depth_of(first), depth_of(second)) + 1;
+    extent(end_of(second), depth)
 }
 
 // A query of at most `left` depth is skipped in the form in which it is read: by its operator, and an operator by two queries.
@@ -353,15 +353,15 @@ fn operator_extent(s: &[u8], at: usize, left: usize) -> usize
         return 0;
     }
     let side = left - 1;
-    let a = query_extent(s, at + 1, side);
-    if a == 0 {
+    let first = query_extent(s, at + 1, side);
+    if first == 0 {
         return 0;
     }
-    let b = query_extent(s, end_of(a), side);
-    if b == 0 {
+    let second = query_extent(s, end_of(first), side);
+    if second == 0 {
         return 0;
     }
-    join_extent(a, b)
+    join_extent(first, second)
 }
 
 // Of more bytes than a packet has, or below more depth than a query has, nothing is reported: an extent may have no room for it.
@@ -377,11 +377,20 @@ fn extent_in(s: &[u8], at: usize, left: usize) -> usize
     query_extent(s, at, left)
 }
 
-// The offset after a query of at most `left` depth, or 0 where the tests do not decide: for a caller that needs nothing else of it.
+// The offset after a query of at most `left` depth, 0 for one that is refused: for a caller that needs nothing else of it. It is skipped,
+// and read where the tests do not decide.
 pub fn query_end(s: &[u8], at: usize, left: usize) -> usize
-    ensures { λ r. ⌜ EndsThere (decodeQueryIn left (now (s .entry)) at) r ⌝ }
+    ensures { λ r. ⌜ r ≡ offsetAfter (decodeQueryIn left (now (s .entry)) at) ⌝ }
 {
-    end_of(extent_in(s, at, left))
+    let found = extent_in(s, at, left);
+    if found != 0 {
+        return end_of(found);
+    }
+    let depth_step = read_query_in(s, Cursor { at }, left);
+    let DepthStep::Got(_, next) = depth_step else {
+        return 0;
+    };
+    next.at
 }
 
 // A query as packets hold it. It is skipped, and read for its fault where its tests do not decide.
@@ -390,15 +399,15 @@ pub fn read_query(s: &[u8], c: Cursor) -> QueryStep
     ensures placed { λ r. ⌜ QueryStepPlaced (now (s .entry)) r ⌝ }
 {
     let at = c.at;
-    let e = extent_in(s, at, DEPTH_LIMIT);
-    if e != 0 {
-        let end = end_of(e);
-        let depth = depth_of(e);
+    let found = extent_in(s, at, DEPTH_LIMIT);
+    if found != 0 {
+        let end = end_of(found);
+        let depth = depth_of(found);
         return QueryStep::Got(Query { at, end, depth }, Cursor { at: end });
     }
-    let d = read_query_in(s, c, DEPTH_LIMIT);
-    let DepthStep::Got(depth, next) = d else {
-        return QueryStep::Refused(d.fault());
+    let depth_step = read_query_in(s, c, DEPTH_LIMIT);
+    let DepthStep::Got(depth, next) = depth_step else {
+        return QueryStep::Refused(depth_step.fault());
     };
     let end = next.at;
     QueryStep::Got(Query { at, end, depth }, next)

@@ -264,7 +264,7 @@ fn combine(operator: Operator, first: bool, second: bool) -> bool
 }
 
 // The truth of the query at the cursor, of at most `left` depth, on a tag list that lies in `tags`. A right side that cannot change the
-// truth is skipped, and evaluated only where the skip does not find its end, which is the query's.
+// truth is skipped, and evaluated for its fault alone.
 fn evaluate(query: &[u8], c: Cursor, left: usize, tags: &[u8], list: Items) -> TruthStep
     requires { ⌜ ItemsPlaced decodeTag (now tags) list ⌝ }
     ensures { λ r. ⌜ truthStepMeaning r ≡ truths (tagsIn (now (tags .entry)) list) (decodeQueryIn left (now (query .entry)) (c .at)) ⌝ }

@@ -25,8 +25,8 @@ returns c =
 read-query-in-requires : tie.Need-read-query-in-requires
 read-query-in-requires c κs = search needs
 
-enum-known-d : tie.Need-enum-known-d
-enum-known-d c = search needs
+enum-known-depth-step : tie.Need-enum-known-depth-step
+enum-known-depth-step c = search needs
 
 enum-told : tie.Need-enum-told
 enum-told c = search needs
@@ -43,7 +43,7 @@ returns-2 c =
 returns-3 : tie.Need-returns-3
 unfolding decodeQuery
 returns-3 c =
-    let e = sym (rw (c .before .d .given .1) at (c .before .before .before .read-query-in .ensures)) in (depths-query _ e, e)
+    let e = sym (rw (c .before .depth-step .given .1) at (c .before .before .before .read-query-in .ensures)) in (depths-query _ e, e)
 
 pub read-query-spec : {M : Type 1} → statement M
 read-query-spec =
@@ -54,7 +54,7 @@ read-query-spec =
     depth-of-requires
     returns
     read-query-in-requires
-    enum-known-d
+    enum-known-depth-step
     enum-told
     fault-requires
     returns-2

@@ -9,7 +9,7 @@ use Rattle.format.specs.Order.{decodeQueryIn}
 use Rattle.format.specs.Truth.{holds}
 use Rattle.query.specs.QueryAnswers.{operatorOf}
 use Rattle.query.proofs.Nodes.{query-left}
-use Rattle.query.proofs.Skips.{told}
+use Rattle.query.proofs.Skips.{after-ends}
 use Rattle.truth.specs.TruthAnswers.{tagMeets, truths}
 use Rattle.truth.proofs.Joins.{truth-join, truth-settled}
 use Rattle.truth.proofs.evaluate.Reads as evaluate
@@ -118,7 +118,7 @@ module _ (t : ℕ) where
       let decides = sym (c .before .before .if2 .taken) ∙ settled .is-settled .ensures in
       rw (query-left _ (b .before .before .before .if1 .left), ← b .before .before .read-node .ensures .0, b .node-step .given .1, j .node .given .1)
       (rw (truth-join, ← f .before .before .evaluate .ensures, f .first-step .given .1)
-      (truth-settled _ (operatorOf (j .node .given .0 .0)) _ _ _ decides (told (c .before .query-end .ensures) (c .if3 .taken))))
+      (truth-settled _ (operatorOf (j .node .given .0 .0)) _ _ _ decides (after-ends _ (c .before .query-end .ensures) (c .if3 .taken))))
 
   evaluate-requires-2 : lts.Need-evaluate-requires-2 calls at-t evaluate.Post
   evaluate-requires-2 c κs = (omega arith, search needs)
