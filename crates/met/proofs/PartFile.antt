@@ -1,6 +1,6 @@
 -- The clauses of the part.met reader, and what follows for the gaps from the tags that it found.
 use Prim.Native.Nat.{ℕ, _-_}
-use mathlib.Core.Path.{_≡_, refl, sym, ap, subst, _∙_}
+use mathlib.Core.Path.{_≡_, refl, sym, ap, _∙_}
 use mathlib.Core.Logic.{_↔_}
 use mathlib.Core.List.{List}
 use lib.ListN.{getD}
@@ -10,7 +10,7 @@ use mir.Val.{Fits}
 use Rattle.format.specs.Messages.{Kind, Message}
 use Rattle.format.specs.Layout.{encode}
 use Rattle.format.specs.Rules.{Valid}
-use Rattle.format.specs.Decoding.{Fault, Reply, decodeMany, ends, fault, got, message, passes, refused, reply}
+use Rattle.format.specs.Decoding.{Fault, Reply, decodeMany, fault, got, message, refused, reply}
 use Rattle.format.specs.Order.{decodeCounted, decodeDword, decodeTag, decodeTags}
 use Rattle.format.specs.GapTags.{gapsOf}
 use Rattle.format.specs.PartTagOrder.{checkPartTags}
@@ -18,7 +18,7 @@ use Rattle.format.specs.MetOrder.{decode, decodePartTags}
 use Rattle.wire.specs.declared.Items.{Items}
 use Rattle.wire.specs.declared.ItemsStep.{ItemsStep}
 use Rattle.wire.specs.declared.Rule.{Rule}
-use Rattle.wire.specs.WireAnswers.{itemsIn, ItemsInside, ItemsPlaced, ruleMeaning}
+use Rattle.wire.specs.WireAnswers.{itemsIn, ItemsInside, ruleMeaning}
 use Rattle.format.proofs.Items.{codec-tag}
 use Rattle.format.proofs.Many.{ends-items}
 use Rattle.format.proofs.There.{dword-ends}
@@ -28,12 +28,12 @@ use Rattle.gaps.specs.declared.GapRecord.{GapRecord}
 use Rattle.gaps.specs.GapRecords.{recordOf}
 use Rattle.part_tags.specs.declared.CheckedTags.{CheckedTags}
 use Rattle.part_tags.specs.declared.TagsVerdict.{TagsVerdict}
-use Rattle.part_tags.specs.PartTagAnswers.{tagsAt, GapsHeld, TagsChecked}
+use Rattle.part_tags.specs.PartTagAnswers.{tagsAt, TagsChecked}
 use Rattle.part_tags.specs.Pairs.{firstGaps}
-use Rattle.part_tags.specs.Survey.{GapTagsIn}
+use Rattle.met.specs.declared.PartGaps.{PartGaps}
 use Rattle.met.specs.declared.PartMet.{PartMet}
 use Rattle.met.specs.declared.PartRead.{PartRead}
-use Rattle.met.specs.MetAnswers.{TagsSized, partMetIn, PartMetSized, tagsOf, tagsPlace}
+use Rattle.met.specs.MetAnswers.{GapsThere, TagsSized, partMetIn, PartMetSized, tagsOf, tagsPlace}
 use Rattle.met.specs.MetAnswers.{PartAnswerSized, sizeFound, gapsAnswer, partIn, PartReadSized}
 
 -- the four clauses of a reader of whole inputs that also answers a size
@@ -42,10 +42,10 @@ module _ (k : Kind) (s : List ℕ) (known : (i : ℕ) → Fits w8 (getD s i 0)) 
       (r ≡ reply (decode k s)) × (Placed × (Sized × ((m : Message k) → (r ≡ message m) ↔ ((s ≡ encode k m) × Valid k m))))
   exact-sized e p z = (e, (p, (z, exact k s known e)))
 
--- the answer without the byte range of the gap tags
-pub part-sized : (s : List ℕ) (r : PartRead) → PartReadSized s r → PartAnswerSized s (partIn r)
-part-sized s (PartRead.Accepted m size range) h = h .0
-part-sized s (PartRead.Refused n) h = tt
+-- the answer without the gaps
+pub part-sized : (s starts : List ℕ) (r : PartRead) → PartReadSized s starts r → PartAnswerSized s (partIn r)
+part-sized s starts (PartRead.Accepted m gaps) h = h .0
+part-sized s starts (PartRead.Refused n) h = tt
 
 -- A counted tag list whose tags were checked: refused, or there whole.
 module _ (s : List ℕ) (at count first : ℕ) (counted : got count first ≡ decodeDword s at) where
@@ -67,7 +67,7 @@ module _ (s : List ℕ) (at count first : ℕ) (counted : got count first ≡ de
 
     pub tags-pass : ((i : ℕ) → Fits w8 (getD s i 0)) → (size : ℕ) → r .verdict ≡ TagsVerdict.Passes size
         → (got (size, itemsIn decodeTag s tags) (r .end) ≡ decodePartTags s at)
-        × (ItemsInside decodeTag s tags × (TagsSized (itemsIn decodeTag s tags) size × GapTagsIn s tags (r .range)))
+        × (ItemsInside decodeTag s tags × (TagsSized (itemsIn decodeTag s tags) size × GapsThere s starts tags (record { range = r .range; count = r .gaps; size = size })))
     unfolding decodePartTags decodeTags decodeCounted
     tags-pass known size e =
         let passed = rw e at (h .verdict) in
@@ -75,7 +75,7 @@ module _ (s : List ℕ) (at count first : ℕ) (counted : got count first ≡ de
           rw (← counted, ← there, ← passed) refl,
           (
             items-inside codec-tag s known (ItemsStep.Got tags (record { at = r .end })) count first (omega (arith, from)) there (h .placed, refl),
-            (sym passed, h .range),
+            (sym passed, (h .range, record { few = h .few; inside = h .inside; gaps = rw e at (h .gaps) })),
           ),
         )
 
@@ -83,19 +83,12 @@ tags-in : (s : List ℕ) (file : PartMet) → itemsIn decodeTag s (tagsPlace fil
 tags-in s (PartMet.E0 e) = refl
 tags-in s (PartMet.E1 m) = refl
 
--- An accepted part.met, by its tags and the byte range of its gap tags.
-module _ (s : List ℕ) (file : PartMet) (size : ℕ) (range : Items) (h : PartMetSized s file size × GapTagsIn s (tagsPlace file) range) where
-  pub range-placed : ItemsPlaced decodeTag s range
-  unfolding ends
-  range-placed = ap ends (h .1 .mid-read)
-
-  pub file-passes : checkPartTags (itemsIn decodeTag s (tagsPlace file)) ≡ passes (size, itemsIn decodeTag s (tagsPlace file))
-  file-passes = subst (λ l. TagsSized l size) (sym (tags-in s file)) (h .0)
-
-  -- the gaps that the range holds are those that a caller is to be told
-  pub gaps-told : (starts : List ℕ) (n : ℕ) {g : GapRecord} → GapsHeld s starts n (itemsIn decodeTag s (tagsPlace file)) → g ≡ recordOf size (firstGaps s n starts)
+-- The gaps of an accepted part.met are those that a caller is to be told.
+module _ (s : List ℕ) (file : PartMet) (starts : List ℕ) (found : PartGaps)
+    (h : PartMetSized s file (found .size) × GapsThere s starts (tagsPlace file) found) where
+  pub gaps-told : {g : GapRecord} → g ≡ recordOf (found .size) (firstGaps s (found .count) starts)
       → record { number = 0; gaps = g } ≡ gapsAnswer (message (partMetIn s file))
-  gaps-told starts n held e =
-      let gaps = held .gaps ∙ ap gapsOf (tags-in s file) in
-      let found : size ≡ sizeFound (checkPartTags (tagsOf (partMetIn s file))) = sym (ap sizeFound (h .0)) in
-      ap (λ g. record { number = 0; gaps = g }) (e ∙ ap (recordOf size) gaps ∙ ap (λ n. recordOf n (gapsOf (tagsOf (partMetIn s file)))) found)
+  gaps-told e =
+      let gaps = h .1 .1 .gaps ∙ ap gapsOf (tags-in s file) in
+      let size : found .size ≡ sizeFound (checkPartTags (tagsOf (partMetIn s file))) = sym (ap sizeFound (h .0)) in
+      ap (λ g. record { number = 0; gaps = g }) (e ∙ ap (recordOf (found .size)) gaps ∙ ap (λ n. recordOf n (gapsOf (tagsOf (partMetIn s file)))) size)

@@ -16,6 +16,7 @@ use Rattle.wire.specs.declared.Items.{Items}
 use Rattle.wire.specs.WireAnswers.{faultMeaning, hashAt, HashInside, placeBytes, PlaceInside, itemsIn, ItemsInside, noFault}
 use Rattle.gaps.specs.GapRecords.{recordOf, noneMissing}
 use Rattle.part_tags.specs.Survey.{GapTagsIn}
+use Rattle.part_tags.specs.PartTagAnswers.{GapsHeld}
 use Rattle.met.specs.declared.FileEntry.{FileEntry}
 use Rattle.met.specs.declared.FileEntryStep.{FileEntryStep}
 use Rattle.met.specs.declared.KnownMet.{KnownMet}
@@ -33,6 +34,7 @@ use Rattle.met.specs.declared.BlocksStep.{BlocksStep}
 use Rattle.met.specs.declared.Edition.{Edition}
 use Rattle.met.specs.declared.EditionStep.{EditionStep}
 use Rattle.met.specs.declared.PartTagsStep.{PartTagsStep}
+use Rattle.met.specs.declared.PartGaps.{PartGaps}
 use Rattle.met.specs.declared.PartE1.{PartE1}
 use Rattle.met.specs.declared.PartMet.{PartMet}
 use Rattle.met.specs.declared.PartMetStep.{PartMetStep}
@@ -159,17 +161,21 @@ abbrev pub TagsSized : List messages.Tag → ℕ → Type 0
 TagsSized tags size = checkPartTags tags ≡ passes (size, tags)
 
 abbrev pub partTagsMeaning : List ℕ → PartTagsStep → Outcome (ℕ × List messages.Tag)
-partTagsMeaning s (PartTagsStep.Got l size range c) = got (size, itemsIn decodeTag s l) (c .at)
+partTagsMeaning s (PartTagsStep.Got l gaps c) = got (gaps .size, itemsIn decodeTag s l) (c .at)
 partTagsMeaning s (PartTagsStep.Refused f) = refused (faultMeaning f)
 
 abbrev pub PartTagsStepPlaced : List ℕ → PartTagsStep → Type 0
-PartTagsStepPlaced s (PartTagsStep.Got l size range c) = ItemsInside decodeTag s l
+PartTagsStepPlaced s (PartTagsStep.Got l gaps c) = ItemsInside decodeTag s l
 PartTagsStepPlaced s (PartTagsStep.Refused f) = Unit {0}
 
--- its size, and where its gap tags lie
-abbrev pub PartTagsStepSized : List ℕ → PartTagsStep → Type 0
-PartTagsStepSized s (PartTagsStep.Got l size range c) = TagsSized (itemsIn decodeTag s l) size × GapTagsIn s l range
-PartTagsStepSized s (PartTagsStep.Refused f) = Unit {0}
+-- where the gap tags of a list lie, and the offsets of its gaps, as an array that is lent holds them
+abbrev pub GapsThere : List ℕ → (starts : List ℕ) → Items → PartGaps → Type 0
+GapsThere s starts tags gaps = GapTagsIn s tags (gaps .range) × GapsHeld s starts (gaps .count) (itemsIn decodeTag s tags)
+
+-- its size, and its gaps
+abbrev pub PartTagsStepSized : List ℕ → (starts : List ℕ) → PartTagsStep → Type 0
+PartTagsStepSized s starts (PartTagsStep.Got l gaps c) = TagsSized (itemsIn decodeTag s l) (gaps .size) × GapsThere s starts l gaps
+PartTagsStepSized s starts (PartTagsStep.Refused f) = Unit {0}
 
 abbrev pub partE1In : List ℕ → PartE1 → messages.PartE1
 partE1In s m = record { date = m .date; hash = hashAt s (m .hash); tags = itemsIn decodeTag s (m .tags); blocks = blocksIn s (m .blocks) }
@@ -196,16 +202,16 @@ abbrev pub PartMetSized : List ℕ → PartMet → ℕ → Type 0
 PartMetSized s m size = TagsSized (tagsOf (partMetIn s m)) size
 
 abbrev pub partMetMeaning : List ℕ → PartMetStep → Outcome messages.PartMet
-partMetMeaning s (PartMetStep.Got m size range c) = got (partMetIn s m) (c .at)
+partMetMeaning s (PartMetStep.Got m gaps c) = got (partMetIn s m) (c .at)
 partMetMeaning s (PartMetStep.Refused f) = refused (faultMeaning f)
 
 abbrev pub PartMetStepPlaced : List ℕ → PartMetStep → Type 0
-PartMetStepPlaced s (PartMetStep.Got m size range c) = PartMetPlaced s m
+PartMetStepPlaced s (PartMetStep.Got m gaps c) = PartMetPlaced s m
 PartMetStepPlaced s (PartMetStep.Refused f) = Unit {0}
 
-abbrev pub PartMetStepSized : List ℕ → PartMetStep → Type 0
-PartMetStepSized s (PartMetStep.Got m size range c) = PartMetSized s m size × GapTagsIn s (tagsPlace m) range
-PartMetStepSized s (PartMetStep.Refused f) = Unit {0}
+abbrev pub PartMetStepSized : List ℕ → (starts : List ℕ) → PartMetStep → Type 0
+PartMetStepSized s starts (PartMetStep.Got m gaps c) = PartMetSized s m (gaps .size) × GapsThere s starts (tagsPlace m) gaps
+PartMetStepSized s starts (PartMetStep.Refused f) = Unit {0}
 
 abbrev pub partReply : List ℕ → PartAnswer → Reply messages.PartMet
 partReply s (PartAnswer.Accepted m size) = message (partMetIn s m)
@@ -219,14 +225,14 @@ abbrev pub PartAnswerSized : List ℕ → PartAnswer → Type 0
 PartAnswerSized s (PartAnswer.Accepted m size) = PartMetSized s m size
 PartAnswerSized s (PartAnswer.Refused n) = Unit {0}
 
--- The answer with the byte range of the gap tags, and without it.
+-- The answer with the gaps, and without them.
 abbrev pub partIn : PartRead → PartAnswer
-partIn (PartRead.Accepted m size range) = PartAnswer.Accepted m size
+partIn (PartRead.Accepted m gaps) = PartAnswer.Accepted m (gaps .size)
 partIn (PartRead.Refused n) = PartAnswer.Refused n
 
-abbrev pub PartReadSized : List ℕ → PartRead → Type 0
-PartReadSized s (PartRead.Accepted m size range) = PartMetSized s m size × GapTagsIn s (tagsPlace m) range
-PartReadSized s (PartRead.Refused n) = Unit {0}
+abbrev pub PartReadSized : List ℕ → (starts : List ℕ) → PartRead → Type 0
+PartReadSized s starts (PartRead.Accepted m gaps) = PartMetSized s m (gaps .size) × GapsThere s starts (tagsPlace m) gaps
+PartReadSized s starts (PartRead.Refused n) = Unit {0}
 
 -- The gaps
 
@@ -269,9 +275,9 @@ editionFault (EditionStep.Got e c) = noFault
 editionFault (EditionStep.Refused f) = f
 
 abbrev pub partTagsFault : PartTagsStep → Fault
-partTagsFault (PartTagsStep.Got l size range c) = noFault
+partTagsFault (PartTagsStep.Got l gaps c) = noFault
 partTagsFault (PartTagsStep.Refused f) = f
 
 abbrev pub partMetFault : PartMetStep → Fault
-partMetFault (PartMetStep.Got m size range c) = noFault
+partMetFault (PartMetStep.Got m gaps c) = noFault
 partMetFault (PartMetStep.Refused f) = f

@@ -261,9 +261,17 @@ impl EditionStep {
     }
 }
 
-// A tag list that passes the check of a part.met, with its size and the byte range of its gap tags, which the check finds.
+// The gaps of a part.met, whose offsets are left in an array that is lent: the byte range of its gap tags, outside of which no tag is a
+// gap tag; how many gaps it has; and the size of its file.
+pub struct PartGaps {
+    pub range: Items,
+    pub count: usize,
+    pub size: u32,
+}
+
+// A tag list that passes the check of a part.met, with what the check found.
 enum PartTagsStep {
-    Got(Items, u32, Items, Cursor),
+    Got(Items, PartGaps, Cursor),
     Refused(Fault),
 }
 
@@ -272,7 +280,7 @@ impl PartTagsStep {
         ensures { λ r. ⌜ r ≡ partTagsFault self ⌝ }
     {
         match self {
-            PartTagsStep::Got(_, _, _, _) => no_fault(),
+            PartTagsStep::Got(_, _, _) => no_fault(),
             PartTagsStep::Refused(f) => f,
         }
     }
@@ -303,9 +311,9 @@ impl PartMet {
     }
 }
 
-// A part.met, the size of its file, and the byte range of its gap tags.
+// A part.met and its gaps.
 enum PartMetStep {
-    Got(PartMet, u32, Items, Cursor),
+    Got(PartMet, PartGaps, Cursor),
     Refused(Fault),
 }
 
@@ -314,7 +322,7 @@ impl PartMetStep {
         ensures { λ r. ⌜ r ≡ partMetFault self ⌝ }
     {
         match self {
-            PartMetStep::Got(_, _, _, _) => no_fault(),
+            PartMetStep::Got(_, _, _) => no_fault(),
             PartMetStep::Refused(f) => f,
         }
     }
@@ -326,19 +334,19 @@ pub enum PartAnswer {
     Refused(u8),
 }
 
-// The same, with the byte range of the gap tags: the tags of the list before it and after it are no gap tags.
+// The same, with the gaps.
 pub enum PartRead {
-    Accepted(PartMet, u32, Items),
+    Accepted(PartMet, PartGaps),
     Refused(u8),
 }
 
 impl PartRead {
-    // The answer without the range.
+    // The answer without the gaps.
     pub fn part(self) -> PartAnswer
         ensures { λ r. ⌜ r ≡ partIn self ⌝ }
     {
         match self {
-            PartRead::Accepted(file, size, _) => PartAnswer::Accepted(file, size),
+            PartRead::Accepted(file, gaps) => PartAnswer::Accepted(file, gaps.size),
             PartRead::Refused(n) => PartAnswer::Refused(n),
         }
     }

@@ -1,6 +1,7 @@
 // The reader of part.met, and of its gaps.
 ghost use mathlib.Core.Path.{_≡_};
 ghost use mathlib.Core.Logic.{_↔_};
+ghost use lib.ListN.{length};
 ghost use Rattle.format.specs.Messages as messages;
 ghost use Rattle.format.specs.Messages.{partMet};
 ghost use Rattle.format.specs.Layout.{encode};
@@ -27,6 +28,7 @@ use crate::Mark;
 use crate::MarkStep;
 use crate::PartAnswer;
 use crate::PartE1;
+use crate::PartGaps;
 use crate::PartMet;
 use crate::PartMetStep;
 use crate::PartRead;
@@ -37,7 +39,6 @@ use crate::part_count;
 use gaps::none_missing;
 use part_tags::CheckedStep;
 use part_tags::TagsVerdict;
-use part_tags::gap_starts;
 use part_tags::part_tags_from;
 use part_tags::record_of;
 use records::hashes_from;
@@ -179,19 +180,20 @@ fn read_edition(s: &[u8], c: Cursor) -> EditionStep
     }
 }
 
-// A tag list, which is checked when it is there. Where it breaks a rule, the faulty item is the whole list.
-fn read_part_tags(s: &[u8], c: Cursor) -> PartTagsStep
+// A tag list, which is checked when it is there. Where it breaks a rule, the faulty item is the whole list. The offsets of the start tags
+// are left in the array, here and in the readers below.
+fn read_part_tags(s: &[u8], c: Cursor, starts: &mut [usize; 64]) -> PartTagsStep
+    requires { ⌜ length (now starts) ≡ 64 ⌝ }
     ensures meaning { λ r. ⌜ partTagsMeaning (now (s .entry)) r ≡ decodePartTags (now (s .entry)) (c .at) ⌝ }
     ensures placed { λ r. ⌜ PartTagsStepPlaced (now (s .entry)) r ⌝ }
-    ensures sized { λ r. ⌜ PartTagsStepSized (now (s .entry)) r ⌝ }
+    ensures sized { λ r. ⌜ PartTagsStepSized (now (s .entry)) (now (starts .exit)) r ⌝ }
 {
     let count_step = c.dword(s);
     let DwordStep::Got(count, first) = count_step else {
         return PartTagsStep::Refused(count_step.fault());
     };
     let at = first.at;
-    let mut starts: [usize; 64] = [0; 64];
-    let tags_step = part_tags_from(s, at, count, &mut starts);
+    let tags_step = part_tags_from(s, at, count, starts);
     let CheckedStep::Got(checked) = tags_step else {
         return PartTagsStep::Refused(tags_step.fault());
     };
@@ -200,7 +202,15 @@ fn read_part_tags(s: &[u8], c: Cursor) -> PartTagsStep
     let verdict = checked.verdict;
     match verdict {
         TagsVerdict::Passes(size) => {
-            PartTagsStep::Got(Items { at, end, count }, size, range, Cursor { at: end })
+            PartTagsStep::Got(
+                Items { at, end, count },
+                PartGaps {
+                    range,
+                    count: checked.gaps,
+                    size,
+                },
+                Cursor { at: end },
+            )
         }
         TagsVerdict::Violates(rule) => PartTagsStep::Refused(Fault {
             rule,
@@ -211,10 +221,11 @@ fn read_part_tags(s: &[u8], c: Cursor) -> PartTagsStep
 }
 
 // After E0 stands one entry, as in known.met, whose tags are checked.
-fn read_part_e0(s: &[u8], c: Cursor) -> PartMetStep
+fn read_part_e0(s: &[u8], c: Cursor, starts: &mut [usize; 64]) -> PartMetStep
+    requires { ⌜ length (now starts) ≡ 64 ⌝ }
     ensures meaning { λ r. ⌜ partMetMeaning (now (s .entry)) r ≡ decodePartBody isE0 (now (s .entry)) (c .at) ⌝ }
     ensures placed { λ r. ⌜ PartMetStepPlaced (now (s .entry)) r ⌝ }
-    ensures sized { λ r. ⌜ PartMetStepSized (now (s .entry)) r ⌝ }
+    ensures sized { λ r. ⌜ PartMetStepSized (now (s .entry)) (now (starts .exit)) r ⌝ }
 {
     let date_step = c.dword(s);
     let DwordStep::Got(date, after_date) = date_step else {
@@ -228,8 +239,8 @@ fn read_part_e0(s: &[u8], c: Cursor) -> PartMetStep
     let ItemsStep::Got(parts, after_parts) = parts_step else {
         return PartMetStep::Refused(parts_step.fault());
     };
-    let tags_step = read_part_tags(s, after_parts);
-    let PartTagsStep::Got(tags, size, range, next) = tags_step else {
+    let tags_step = read_part_tags(s, after_parts, starts);
+    let PartTagsStep::Got(tags, gaps, next) = tags_step else {
         return PartMetStep::Refused(tags_step.fault());
     };
     let entry = FileEntry {
@@ -238,14 +249,15 @@ fn read_part_e0(s: &[u8], c: Cursor) -> PartMetStep
         parts,
         tags,
     };
-    PartMetStep::Got(PartMet::E0(entry), size, range, next)
+    PartMetStep::Got(PartMet::E0(entry), gaps, next)
 }
 
 // The tags are checked before the blocks are read, and their size says how many hashes a block has.
-fn read_part_e1(s: &[u8], c: Cursor) -> PartMetStep
+fn read_part_e1(s: &[u8], c: Cursor, starts: &mut [usize; 64]) -> PartMetStep
+    requires { ⌜ length (now starts) ≡ 64 ⌝ }
     ensures meaning { λ r. ⌜ partMetMeaning (now (s .entry)) r ≡ decodePartBody isE1 (now (s .entry)) (c .at) ⌝ }
     ensures placed { λ r. ⌜ PartMetStepPlaced (now (s .entry)) r ⌝ }
-    ensures sized { λ r. ⌜ PartMetStepSized (now (s .entry)) r ⌝ }
+    ensures sized { λ r. ⌜ PartMetStepSized (now (s .entry)) (now (starts .exit)) r ⌝ }
 {
     let fixed_step = c.fixed(s, 0x02);
     let DoneStep::Got(after_fixed) = fixed_step else {
@@ -259,11 +271,11 @@ fn read_part_e1(s: &[u8], c: Cursor) -> PartMetStep
     let HashStep::Got(hash, after_hash) = hash_step else {
         return PartMetStep::Refused(hash_step.fault());
     };
-    let tags_step = read_part_tags(s, after_hash);
-    let PartTagsStep::Got(tags, size, range, after_tags) = tags_step else {
+    let tags_step = read_part_tags(s, after_hash, starts);
+    let PartTagsStep::Got(tags, gaps, after_tags) = tags_step else {
         return PartMetStep::Refused(tags_step.fault());
     };
-    let blocks_step = read_blocks(s, after_tags, size);
+    let blocks_step = read_blocks(s, after_tags, gaps.size);
     let BlocksStep::Got(blocks, next) = blocks_step else {
         return PartMetStep::Refused(blocks_step.fault());
     };
@@ -273,44 +285,46 @@ fn read_part_e1(s: &[u8], c: Cursor) -> PartMetStep
         tags,
         blocks,
     };
-    PartMetStep::Got(PartMet::E1(file), size, range, next)
+    PartMetStep::Got(PartMet::E1(file), gaps, next)
 }
 
-fn read_part_met_at(s: &[u8], c: Cursor) -> PartMetStep
+fn read_part_met_at(s: &[u8], c: Cursor, starts: &mut [usize; 64]) -> PartMetStep
+    requires { ⌜ length (now starts) ≡ 64 ⌝ }
     ensures meaning { λ r. ⌜ partMetMeaning (now (s .entry)) r ≡ decodePartMet (now (s .entry)) (c .at) ⌝ }
     ensures placed { λ r. ⌜ PartMetStepPlaced (now (s .entry)) r ⌝ }
-    ensures sized { λ r. ⌜ PartMetStepSized (now (s .entry)) r ⌝ }
+    ensures sized { λ r. ⌜ PartMetStepSized (now (s .entry)) (now (starts .exit)) r ⌝ }
 {
     let edition_step = read_edition(s, c);
     let EditionStep::Got(edition, next) = edition_step else {
         return PartMetStep::Refused(edition_step.fault());
     };
     match edition {
-        Edition::E0 => read_part_e0(s, next),
-        Edition::E1 => read_part_e1(s, next),
+        Edition::E0 => read_part_e0(s, next, starts),
+        Edition::E1 => read_part_e1(s, next, starts),
     }
 }
 
-// A part.met, its size, and the byte range of its gap tags.
-pub fn read_part(s: &[u8]) -> PartRead
+// A part.met and its gaps.
+pub fn read_part(s: &[u8], starts: &mut [usize; 64]) -> PartRead
+    requires { ⌜ length (now starts) ≡ 64 ⌝ }
     ensures meaning { λ r. ⌜ partReply (now (s .entry)) (partIn r) ≡ reply (decode partMet (now (s .entry))) ⌝ }
     ensures placed { λ r. ⌜ PartAnswerPlaced (now (s .entry)) (partIn r) ⌝ }
-    ensures sized { λ r. ⌜ PartReadSized (now (s .entry)) r ⌝ }
+    ensures sized { λ r. ⌜ PartReadSized (now (s .entry)) (now (starts .exit)) r ⌝ }
     ensures exact { λ r. ⌜ ((m : messages.PartMet) →
         (partReply (now (s .entry)) (partIn r) ≡ message m) ↔ ((now (s .entry) ≡ encode partMet m) × Valid partMet m)) ⌝ }
 {
     if MET_CEILING < s.len() {
         return PartRead::Refused(number(Rule::BytesCeiling));
     }
-    let part_step = read_part_met_at(s, Cursor { at: 0 });
-    let PartMetStep::Got(file, size, range, next) = part_step else {
+    let part_step = read_part_met_at(s, Cursor { at: 0 }, starts);
+    let PartMetStep::Got(file, gaps, next) = part_step else {
         let fault = part_step.fault();
         let rule = fault.rule;
         return PartRead::Refused(number(rule));
     };
     let end = next.at;
     if end == s.len() {
-        return PartRead::Accepted(file, size, range);
+        return PartRead::Accepted(file, gaps);
     }
     PartRead::Refused(number(Rule::Rest))
 }
@@ -322,26 +336,28 @@ pub fn read_part_met(s: &[u8]) -> PartAnswer
     ensures exact { λ r. ⌜ ((m : messages.PartMet) →
         (partReply (now (s .entry)) r ≡ message m) ↔ ((now (s .entry) ≡ encode partMet m) × Valid partMet m)) ⌝ }
 {
-    let read = read_part(s);
+    let mut starts: [usize; 64] = [0; 64];
+    let read = read_part(s, &mut starts);
     read.part()
 }
 
-// An answer that is an enum holds no array, so the gaps have a reader of their own: once the tags have passed, it reads
-// the byte range of the gap tags alone.
+// An answer that is an enum holds no array, so the gaps have a reader of their own.
 pub fn read_gaps(s: &[u8]) -> GapsAnswer
     ensures { λ r. ⌜ r ≡ gapsAnswer (reply (decode partMet (now (s .entry)))) ⌝ }
 {
-    let read = read_part(s);
+    let mut starts: [usize; 64] = [0; 64];
+    let read = read_part(s, &mut starts);
     match read {
         PartRead::Refused(n) => GapsAnswer {
             number: n,
             gaps: none_missing(0),
         },
-        PartRead::Accepted(_, size, range) => {
-            let mut starts: [usize; 64] = [0; 64];
-            let count = gap_starts(s, range, size, &mut starts);
-            let gaps = record_of(s, &starts, count, size);
-            GapsAnswer { number: 0, gaps }
+        PartRead::Accepted(_, gaps) => {
+            let found = record_of(s, &starts, gaps.count, gaps.size);
+            GapsAnswer {
+                number: 0,
+                gaps: found,
+            }
         }
     }
 }

@@ -5,11 +5,9 @@ use mathlib.Core.List.{List, [], append-nil}
 use native.Mathlib.Omega.{arith}
 use Rattle.format.specs.Messages.{Tag}
 use Rattle.format.specs.Decoding.{ends, itemsOf, passes, violates}
-use Rattle.format.specs.GapTags.{gapsOf}
-use Rattle.format.specs.Rules.{GapPair}
 use Rattle.format.specs.Order.{decodeTag}
 use Rattle.format.specs.PartTagOrder.{between, checkPartTags, scan, sizes, sole}
-use Rattle.format.proofs.PartTags.{andCheck-passes, gaps-found, passes-same, violates-passes}
+use Rattle.format.proofs.PartTags.{gaps-found}
 use Rattle.wire.specs.declared.Items.{Items}
 use Rattle.wire.specs.declared.Rule.{Rule}
 use Rattle.wire.specs.WireAnswers.{itemsIn, ItemsPlaced, ruleMeaning}
@@ -19,8 +17,8 @@ use Rattle.part_tags.specs.declared.Surveyed.{Surveyed}
 use Rattle.part_tags.specs.declared.TagsVerdict.{TagsVerdict}
 use Rattle.part_tags.specs.declared.Verdict.{Verdict}
 use Rattle.part_tags.specs.Survey.{GapTagsIn, onlySize, soleAfter, listAt, SurveyedTags}
-use Rattle.part_tags.specs.Pairs.{checkOf, firstGaps, firstPairs, PairsInside, Scans}
-use Rattle.part_tags.specs.PartTagAnswers.{GapsHeld, TagsChecked}
+use Rattle.part_tags.specs.Pairs.{firstPairs, PairsInside, Scans}
+use Rattle.part_tags.specs.PartTagAnswers.{TagsChecked}
 use Rattle.part_tags.proofs.SizeTags.{only-none, only-some}
 use Rattle.part_tags.proofs.GapTags.{gaps-of-pairs, scan-range}
 
@@ -89,27 +87,3 @@ module _ (s : List ℕ) (at count : ℕ) (v : Surveyed) (h : SurveyedTags s at c
           inside = k .inside;
           gaps = sym (gaps-of-pairs s (r .count) starts) ∙ gaps-found size tags pairs scanned;
         }
-
--- A list that passes: the scan of its range finds its gaps.
-module _ (s : List ℕ) (size : ℕ) (tags range : Items) (g : GapTagsIn s tags range) where
-  abbrev list : List Tag
-  list = itemsIn decodeTag s tags
-
-  passed-scan : checkPartTags list ≡ passes (size, list) → (ps : List GapPair) × (scan size (between []) list ≡ passes ps)
-  unfolding checkPartTags
-  passed-scan e =
-      let a = andCheck-passes (sole (sizes list)) _ e in
-      let b = andCheck-passes (scan (a .first) (between []) list) _ (a .then) in
-      let same = ap (λ p. p .0) (passes-same (b .then)) in
-      (b .first, ap (λ n. scan n (between []) list) (sym same) ∙ b .was)
-
-  pub gaps-held : (starts : List ℕ) (r : Scanned) → Scans s size range starts r → checkPartTags list ≡ passes (size, list) → GapsHeld s starts (r .count) list
-  gaps-held starts r k e =
-      let found = passed-scan e in
-      let scanned : checkOf (r .verdict) (firstPairs s (r .count) starts) ≡ scan size (between []) list = k .verdict ∙ sym (range-scan s tags range g size) in
-      record { few = k .few; inside = k .inside; gaps = go (r .verdict) scanned (found .1) }
-    where
-      go : (v : Verdict) → checkOf v (firstPairs s (r .count) starts) ≡ scan size (between []) list → {ps : List GapPair} → scan size (between []) list ≡ passes ps
-          → firstGaps s (r .count) starts ≡ gapsOf list
-      go Verdict.Passes a b = sym (gaps-of-pairs s (r .count) starts) ∙ gaps-found size list (firstPairs s (r .count) starts) (sym a)
-      go (Verdict.Violates rule) a b = absurd (violates-passes (a ∙ b))

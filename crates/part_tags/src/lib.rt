@@ -9,16 +9,15 @@
 ghost use mathlib.Core.Path.{_≡_};
 ghost use Prim.Native.Nat.{_+_, _≤_};
 ghost use lib.ListN.{length};
-ghost use Rattle.format.specs.Decoding.{passes};
 ghost use Rattle.format.specs.Gaps.{gapLimit};
 ghost use Rattle.format.specs.Order.{decodeTag};
 ghost use Rattle.format.specs.PartTagOrder.{checkPartTags};
 ghost use Rattle.wire.specs.WireAnswers.{itemsIn, ItemsPlaced};
 ghost use Rattle.gaps.specs.GapRecords.{placeOf, recordOf};
-ghost use Rattle.part_tags.specs.PartTagAnswers.{verdictMeaning, gapsMeaning, CheckedFound, checkedFault, GapsHeld};
+ghost use Rattle.part_tags.specs.PartTagAnswers.{verdictMeaning, gapsMeaning, CheckedFound, checkedFault};
 ghost use Rattle.part_tags.specs.TagBytes.{dwordAt, nameLength};
 ghost use Rattle.wire.specs.declared.Items.{Items};
-ghost use Rattle.part_tags.specs.Survey.{GapTagsIn, joined, onlySize, leadingFault, surveyFault};
+ghost use Rattle.part_tags.specs.Survey.{joined, onlySize, leadingFault, surveyFault};
 ghost use Rattle.part_tags.specs.Pairs.{startRule, pairRule, gapIn, firstGaps, PairInside, PairsInside};
 use gaps::Gap;
 use gaps::GapRecord;
@@ -289,16 +288,6 @@ pub fn part_tags_from(s: &[u8], at: usize, count: u32, starts: &mut [usize; 64])
             gaps: 0,
         }),
     }
-}
-
-// How many gaps a list that passes has, by the byte range of its gap tags. The offsets of the start tags are left in the array.
-pub fn gap_starts(s: &[u8], range: Items, size: u32, starts: &mut [usize; 64]) -> usize
-    requires { ⌜ ItemsPlaced decodeTag (now s) range × (length (now starts) ≡ 64) ⌝ }
-    ensures { λ r. ⌜ ((tags : Items) → GapTagsIn (now (s .entry)) tags range → checkPartTags (itemsIn decodeTag (now (s .entry)) tags)
-        ≡ passes (size, itemsIn decodeTag (now (s .entry)) tags) → GapsHeld (now (s .entry)) (now (starts .exit)) r (itemsIn decodeTag (now (s .entry)) tags)) ⌝ }
-{
-    let scanned = pairs::scan_gaps(s, range, size, starts);
-    scanned.count
 }
 
 // The gap of the pair whose start tag lies there.

@@ -19,11 +19,11 @@ use Rattle.format.proofs.Gaps.{both-true}
 use Rattle.format.proofs.PartTags.{either-test}
 use Rattle.gaps.specs.declared.GapRecord.{GapRecord}
 use Rattle.gaps.specs.GapRecords.{gapsOf, lawfulRecord}
+use Rattle.met.specs.declared.PartGaps.{PartGaps}
 use Rattle.met.specs.declared.PartMet as code
 use Rattle.met.specs.declared.PartRead.{PartRead}
 use Rattle.met.specs.MetAnswers.{partIn, partMetIn, partReply, PartAnswerPlaced, PartReadSized, PartMetSized, tagsPlace}
 use Rattle.part_tags.specs.Survey.{GapTagsIn}
-use Rattle.wire.specs.declared.Items.{Items}
 use Rattle.put_gaps.specs.PutAnswers.{putRecord}
 use Rattle.put_gaps.specs.Pieces.{WasRead}
 
@@ -59,11 +59,11 @@ module _ (s : List ℕ) (g : GapRecord) (output : List ℕ) where
           rw (accepted-as (decode partMet s) m read, t .0, t .1, sized, eq-eqb (g .size) size fits) refl
 
 -- What the reader of the file says of a part.met that it accepts.
-pub record Accepts (s : List ℕ) (part : code.PartMet) (size : ℕ) (range : Items) : Type 0 where
+pub record Accepts (s : List ℕ) (part : code.PartMet) (found : PartGaps) : Type 0 where
   pub read : WasRead s part
   pub told : message (partMetIn s part) ≡ reply (decode partMet s)
-  pub sized : checkPartTags (tagsOf (partMetIn s part)) ≡ passes (size, tagsOf (partMetIn s part))
-  pub ranged : GapTagsIn s (tagsPlace part) range
+  pub sized : checkPartTags (tagsOf (partMetIn s part)) ≡ passes (found .size, tagsOf (partMetIn s part))
+  pub ranged : GapTagsIn s (tagsPlace part) (found .range)
 
 sized-same : (s : List ℕ) (part : code.PartMet) (size : ℕ) → PartMetSized s part size →
     checkPartTags (tagsOf (partMetIn s part)) ≡ passes (size, tagsOf (partMetIn s part))
@@ -71,15 +71,15 @@ unfolding tagsOf
 sized-same s (code.PartMet.E0 e) size h = h
 sized-same s (code.PartMet.E1 m) size h = h
 
-pub reads : (s : List ℕ) (r : PartRead) (part : code.PartMet) (size : ℕ) (range : Items) → r ≡ PartRead.Accepted part size range →
-    (partReply s (partIn r) ≡ reply (decode partMet s)) × (PartAnswerPlaced s (partIn r) × (PartReadSized s r ×
-    ((m : PartMet) → (partReply s (partIn r) ≡ message m) ↔ ((s ≡ encode partMet m) × Valid partMet m)))) → Accepts s part size range
-reads s r part size range e h =
+pub reads : (s starts : List ℕ) (r : PartRead) (part : code.PartMet) (found : PartGaps) → r ≡ PartRead.Accepted part found →
+    (partReply s (partIn r) ≡ reply (decode partMet s)) × (PartAnswerPlaced s (partIn r) × (PartReadSized s starts r ×
+    ((m : PartMet) → (partReply s (partIn r) ≡ message m) ↔ ((s ≡ encode partMet m) × Valid partMet m)))) → Accepts s part found
+reads s starts r part found e h =
     let k = rw e at h in
     let exact = k .1 .1 .1 (partMetIn s part) .0 refl in
     record {
       read = record { bytes = exact .0; valid = exact .1; placed = k .1 .0 };
       told = k .0;
-      sized = sized-same s part size (k .1 .1 .0 .0);
-      ranged = k .1 .1 .0 .1;
+      sized = sized-same s part (found .size) (k .1 .1 .0 .0);
+      ranged = k .1 .1 .0 .1 .0;
     }

@@ -392,18 +392,19 @@ fn put_file(out: &mut [u8], file: &[u8], part: PartMet, range: Items, gaps: &[u6
 pub fn put_gap_numbers(file: &[u8], gaps: &[u64], out: &mut [u8]) -> WriteAnswer
     ensures { λ r. ⌜ answered r (now (out .exit)) ≡ putRecord (now (file .entry)) (recordIn (now (gaps .entry))) (now (out .entry)) ⌝ }
 {
-    let read = read_part(file);
+    let mut starts: [usize; 64] = [0; 64];
+    let read = read_part(file, &mut starts);
     match read {
         PartRead::Refused(number) => refused(number),
-        PartRead::Accepted(part, size, range) => {
+        PartRead::Accepted(part, found) => {
             let judged = judge_numbers(gaps);
             if !judged.lawful {
                 return refused(RANGE);
             }
-            if gaps[0] != size as u64 {
+            if gaps[0] != found.size as u64 {
                 return refused(RANGE);
             }
-            put_file(out, file, part, range, gaps)
+            put_file(out, file, part, found.range, gaps)
         }
     }
 }

@@ -1,21 +1,59 @@
-use Rattle.put_gaps.proofs.Puts.{reads, put-refused, put-unlawful, put-other-size, put-fitting}
+-- The file was accepted (`accepted`) and the record was found lawful (`lawful`); each answer follows by a law of Puts from these two.
+use Rattle.put_gaps.proofs.Puts.{Accepts, reads, put-refused, put-unlawful, put-other-size, put-fitting}
 use Rattle.put_gaps.specs.PutAnswers.{putRecord}
-use Rattle.gap_numbers.specs.Numbers.{held}
+use Rattle.gap_numbers.specs.Numbers.{held, recordIn}
 use Rattle.gap_numbers.proofs.Records.{lawful-numbers}
 use Rattle.gaps.specs.GapRecords.{lawfulRecord}
 use Rattle.gaps.proofs.GapRecords.{lawful-record-exactly}
+use Rattle.met.specs.declared.PartGaps.{PartGaps}
+use Rattle.met.specs.declared.PartMet as code
 use Rattle.format.specs.Gaps.{sizeLimit}
 use borrow.Author.Tests.{not-true, not-false}
 use denote.Ref.{now}
 use native.Mathlib.Omega.{arith}
+use lib.ListN.{length}
+use Prim.Native.Nat.{ℕ, _≤_}
 use mathlib.Core.Bool.{true}
+use mathlib.Core.List.{List}
 use mathlib.Core.Path.{_≡_, refl, sym, ap, _∙_}
 use borrow.Author.Needs.{needs}
 use Rattle.put_gaps.proofs.put_gap_numbers.Statement.{statement}
 use Rattle.put_gaps.proofs.put_gap_numbers.Tie as tie
 
+module _ (c : tie.After-judge-numbers) where
+  abbrev start : tie.Start
+  start = c .before .before .before .before .before .before .before .before .before
+
+  abbrev file : List ℕ
+  file = now (start .args .file)
+
+  abbrev numbers : List ℕ
+  numbers = now (start .args .gaps)
+
+  abbrev part : code.PartMet
+  part = c .before .before .read2 .given .0 .0
+
+  abbrev found : PartGaps
+  found = c .before .before .read2 .given .0 .1 .0
+
+  accepted : Accepts file part found
+  accepted = reads file _ _ part found (c .before .before .read2 .given .1) (c .before .before .before .before .read-part .ensures)
+
+module _ (c : tie.Else1) where
+  abbrev tried : List ℕ
+  tried = numbers (c .before .before)
+
+  judged : lawfulRecord sizeLimit (recordIn tried) ≡ true
+  judged = sym (c .before .before .judge-numbers .ensures .told) ∙ not-false _ (c .if1 .left)
+
+  there : (130 ≤ length tried) × (recordIn tried ≡ held tried)
+  there = lawful-numbers tried judged
+
+  lawful : lawfulRecord sizeLimit (held tried) ≡ true
+  lawful = rw (there .1) at judged
+
 read-part-requires : tie.Need-read-part-requires
-read-part-requires c κs = search needs
+read-part-requires c κs = refl
 
 enum-known-read : tie.Need-enum-known-read
 enum-known-read c = search needs
@@ -34,16 +72,12 @@ refused-requires-2 c κs = search needs
 
 returns : tie.Need-returns
 returns c =
-    let s = now (c .before .before .before .before .before .before .before .before .before .before .before .args .file) in
-    let part = reads s _ _ _ _ (c .before .before .before .before .before .read2 .given .1) (c .before .before .before .before .before .before .before .read-part .ensures) in
-    let unlawful = sym (c .before .before .before .judge-numbers .ensures .told) ∙ not-true _ (c .before .if1 .taken) in
-    rw (c .refused2 .ensures, put-unlawful _ _ _ _ (part .told) unlawful) refl
+    let j = c .before .before .before in
+    let unlawful = sym (j .judge-numbers .ensures .told) ∙ not-true _ (c .before .if1 .taken) in
+    rw (c .refused2 .ensures, put-unlawful _ _ _ _ (accepted j .told) unlawful) refl
 
 shared-slice-read-if2 : tie.Need-shared-slice-read-if2
-shared-slice-read-if2 c =
-    let l = now (c .before .before .before .before .before .before .before .before .before .before .before .args .gaps) in
-    let there = lawful-numbers l (sym (c .before .before .before .judge-numbers .ensures .told) ∙ not-false _ (c .before .if1 .left)) in
-    omega (arith, there .0)
+shared-slice-read-if2 c = omega (arith, there (c .before) .0)
 
 cast-if2 : tie.Need-cast-if2
 cast-if2 c = search needs
@@ -53,25 +87,15 @@ refused-requires-3 c κs = search needs
 
 returns-2 : tie.Need-returns-2
 returns-2 c =
-    let j = c .before .before .before .before .before in
-    let a = c .before .before .before .before .before .before .before .before .before .before .before .before .before .args in
-    let part = reads (now (a .file)) _ _ _ _ (c .before .before .before .before .before .before .before .read2 .given .1) (c .before .before .before .before .before .before .before .before .before .read-part .ensures) in
-    let l = now (a .gaps) in
-    let judged = sym (j .judge-numbers .ensures .told) ∙ not-false _ (c .before .before .before .if1 .left) in
-    let there = lawful-numbers l judged in
-    let lawful : lawfulRecord sizeLimit (held l) ≡ true = rw (there .1) at judged in
-    rw (c .refused3 .ensures, there .1, put-other-size _ (held l) _ _ (part .told) lawful _ (part .sized) (c .before .if2 .taken)) refl
+    let e = c .before .before .before .before in
+    let a = accepted (e .before .before) in
+    rw (c .refused3 .ensures, there e .1, put-other-size _ (held (tried e)) _ _ (a .told) (lawful e) _ (a .sized) (c .before .if2 .taken)) refl
 
 put-file-requires : tie.Need-put-file-requires
 put-file-requires c κs =
-    let j = c .before .before .before .before .before in
-    let a = c .before .before .before .before .before .before .before .before .before .before .before .before .before .args in
-    let part = reads (now (a .file)) _ _ _ _ (c .before .before .before .before .before .before .before .read2 .given .1) (c .before .before .before .before .before .before .before .before .before .read-part .ensures) in
-    let l = now (a .gaps) in
-    let judged = sym (j .judge-numbers .ensures .told) ∙ not-false _ (c .before .before .before .if1 .left) in
-    let there = lawful-numbers l judged in
-    let lawful : lawfulRecord sizeLimit (held l) ≡ true = rw (there .1) at judged in
-    (part .read, part .ranged, (there .0, lawful-record-exactly sizeLimit (held l) .0 lawful))
+    let e = c .before .before .before .before in
+    let a = accepted (e .before .before) in
+    (a .read, a .ranged, (there e .0, lawful-record-exactly sizeLimit (held (tried e)) .0 (lawful e)))
 
 returns-3 : tie.Need-returns-3
 returns-3 c =
@@ -84,17 +108,11 @@ same-length c = search needs
 returns-4 : tie.Need-returns-4
 returns-4 c =
     let sized = c .before .before .before .before in
-    let lawful-test = sized .before .before in
-    let accepted = lawful-test .before .before .before .before in
-    let read = accepted .before .before in
-    let a = read .before .before .before .before .args in
-    let part = reads (now (a .file)) _ _ _ _ (accepted .read2 .given .1) (read .read-part .ensures) in
-    let l = now (a .gaps) in
-    let judged = sym (lawful-test .before .before .judge-numbers .ensures .told) ∙ not-false _ (lawful-test .if1 .left) in
-    let there = lawful-numbers l judged in
-    let lawful : lawfulRecord sizeLimit (held l) ≡ true = rw (there .1) at judged in
-    let fitting = put-fitting _ (held l) _ _ (part .told) lawful _ (part .sized) (sized .if2 .left) in
-    c .before .before .put-file .ensures ∙ sym (ap (λ g. putRecord (now (a .file)) g (now (a .out))) (there .1) ∙ fitting)
+    let e = sized .before .before .before in
+    let a = accepted (e .before .before) in
+    let b = start (e .before .before) .args in
+    let fitting = put-fitting _ (held (tried e)) _ _ (a .told) (lawful e) _ (a .sized) (sized .if2 .left) in
+    c .before .before .put-file .ensures ∙ sym (ap (λ g. putRecord (now (b .file)) g (now (b .out))) (there e .1) ∙ fitting)
 
 pub put-gap-numbers-spec : {M : Type 1} → statement M
 put-gap-numbers-spec =

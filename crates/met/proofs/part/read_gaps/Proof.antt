@@ -1,13 +1,12 @@
 use mathlib.Core.Path.{refl}
 use denote.Ref.{now}
-use Rattle.met.specs.MetAnswers.{tagsPlace}
-use Rattle.met.proofs.PartFile.{file-passes, gaps-told, range-placed}
+use Rattle.met.proofs.PartFile.{gaps-told}
 use borrow.Author.Needs.{needs}
 use Rattle.met.proofs.part.read_gaps.Statement.{statement}
 use Rattle.met.proofs.part.read_gaps.Tie as tie
 
 read-part-requires : tie.Need-read-part-requires
-read-part-requires c κs = search needs
+read-part-requires c κs = refl
 
 enum-known-read : tie.Need-enum-known-read
 enum-known-read c = search needs
@@ -18,21 +17,10 @@ none-missing-requires c κs = search needs
 enum-known-read-2 : tie.Need-enum-known-read-2
 enum-known-read-2 c = search needs
 
-gap-starts-requires : tie.Need-gap-starts-requires
-gap-starts-requires c κs =
-    let a = c .before .before in
-    let f = a .read2 .given in
-    let s = now (a .before .before .before .before .args .s) in
-    let h = rw (f .1) at (a .before .before .read-part .ensures .1 .1 .0) in
-    (range-placed s (f .0 .0) (f .0 .1 .0) (f .0 .1 .1 .0) h, refl)
-
 record-of-requires : tie.Need-record-of-requires
 record-of-requires c κs =
-    let a = c .before .before .before .before in
-    let f = a .read2 .given in
-    let s = now (a .before .before .before .before .args .s) in
-    let h = rw (f .1) at (a .before .before .read-part .ensures .1 .1 .0) in
-    let held = c .before .gap-starts .ensures (tagsPlace (f .0 .0)) (h .1) (file-passes s (f .0 .0) (f .0 .1 .0) (f .0 .1 .1 .0) h) in
+    let a = c .before .before in
+    let held = (rw (a .read2 .given .1) at (a .before .before .read-part .ensures .1 .1 .0)) .1 .1 in
     (held .few, held .inside)
 
 returns : tie.Need-returns
@@ -40,13 +28,11 @@ returns c = rw (c .none-missing .ensures, ← c .before .before .before .before 
 
 returns-2 : tie.Need-returns-2
 returns-2 c =
-    let a = c .before .before .before .before .before in
+    let a = c .before .before .before in
     let f = a .read2 .given in
-    let s = now (a .before .before .before .before .args .s) in
-    let h = rw (f .1) at (a .before .before .read-part .ensures .1 .1 .0) in
-    let found = c .before .before .gap-starts in
-    let held = found .ensures (tagsPlace (f .0 .0)) (h .1) (file-passes s (f .0 .0) (f .0 .1 .0) (f .0 .1 .1 .0) h) in
-    rw (← a .before .before .read-part .ensures .0, f .1) (gaps-told s (f .0 .0) (f .0 .1 .0) (f .0 .1 .1 .0) h _ (found .result) held (c .record-of .ensures))
+    let read = a .before .before in
+    let h = rw (f .1) at (read .read-part .ensures .1 .1 .0) in
+    rw (← read .read-part .ensures .0, f .1) (gaps-told (now (read .before .before .before .args .s)) (f .0 .0) _ (f .0 .1 .0) h (c .record-of .ensures))
 
 pub read-gaps-spec : {M : Type 1} → statement M
 read-gaps-spec =
@@ -56,7 +42,6 @@ read-gaps-spec =
     enum-known-read
     none-missing-requires
     enum-known-read-2
-    gap-starts-requires
     record-of-requires
     returns
     returns-2)

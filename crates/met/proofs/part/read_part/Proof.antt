@@ -40,11 +40,11 @@ returns-2 : tie.Need-returns-2
 unfolding decode
 returns-2 c =
     let b = c .before .before .before .before in
-    exact-sized partMet (now (b .before .before .before .args .s)) (b .before .before .shared-slice-known .given)
+    exact-sized partMet (now (b .before .before .before .before .args .s)) (b .before .before .before .shared-slice-known .given)
     (rw (
       c .number2 .ensures,
       c .before .fault .ensures,
-      le-leb _ metCeiling (b .before .if1 .left),
+      le-leb _ metCeiling (b .before .before .if1 .left),
       ← b .read-part-met-at .ensures .0,
       c .before .before .enum-told .given .1,
     )
@@ -57,8 +57,8 @@ unfolding decode
 returns-3 c =
     let b = c .before .before .before .before in
     let m = c .before .before .part-step .given .1 in
-    exact-sized partMet (now (b .before .before .before .args .s)) (b .before .before .shared-slice-known .given)
-    (rw (le-leb _ metCeiling (b .before .if1 .left), ← b .read-part-met-at .ensures .0, m, eq-eqb _ _ (c .if2 .taken)) refl)
+    exact-sized partMet (now (b .before .before .before .before .args .s)) (b .before .before .before .shared-slice-known .given)
+    (rw (le-leb _ metCeiling (b .before .before .if1 .left), ← b .read-part-met-at .ensures .0, m, eq-eqb _ _ (c .if2 .taken)) refl)
     (rw m at (b .read-part-met-at .ensures .1 .0))
     (rw m at (b .read-part-met-at .ensures .1 .1))
 
@@ -69,10 +69,10 @@ returns-4 : tie.Need-returns-4
 unfolding decode
 returns-4 c =
     let b = c .before .before .before .before .before in
-    exact-sized partMet (now (b .before .before .before .args .s)) (b .before .before .shared-slice-known .given)
+    exact-sized partMet (now (b .before .before .before .before .args .s)) (b .before .before .before .shared-slice-known .given)
     (rw (
       c .number3 .ensures,
-      le-leb _ metCeiling (b .before .if1 .left),
+      le-leb _ metCeiling (b .before .before .if1 .left),
       ← b .read-part-met-at .ensures .0,
       c .before .before .before .part-step .given .1,
       ne-eqb _ _ (c .before .if2 .left),

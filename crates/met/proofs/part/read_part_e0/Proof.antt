@@ -93,7 +93,7 @@ fault-requires-4 c κs = search needs
 returns-4 : tie.Need-returns-4
 unfolding decodePartE0
 returns-4 c =
-    let parts = c .before .before .before .before .before in
+    let parts = c .before .before .before .before .before .before in
     let hash = parts .before .before .before .before in
     let date = hash .before .before .before .before in (
       rw (
@@ -114,7 +114,7 @@ returns-4 c =
 returns-5 : tie.Need-returns-5
 unfolding decodePartE0
 returns-5 c =
-    let parts = c .before .before .before .before .before in
+    let parts = c .before .before .before .before .before .before in
     let hash = parts .before .before .before .before in
     let date = hash .before .before .before .before in (
       rw (

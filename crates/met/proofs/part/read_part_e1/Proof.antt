@@ -93,7 +93,7 @@ fault-requires-4 c κs = search needs
 returns-4 : tie.Need-returns-4
 unfolding decodePartE1
 returns-4 c =
-    let hash = c .before .before .before .before .before in
+    let hash = c .before .before .before .before .before .before in
     let date = hash .before .before .before .before in
     let fixed = date .before .before .before .before in (
       rw (
@@ -127,7 +127,7 @@ returns-5 : tie.Need-returns-5
 unfolding decodePartE1
 returns-5 c =
     let tags = c .before .before .before .before .before in
-    let hash = tags .before .before .before .before in
+    let hash = tags .before .before .before .before .before in
     let date = hash .before .before .before .before in
     let fixed = date .before .before .before .before in (
       rw (
@@ -151,7 +151,7 @@ returns-6 : tie.Need-returns-6
 unfolding decodePartE1
 returns-6 c =
     let tags = c .before .before .before .before .before in
-    let hash = tags .before .before .before .before in
+    let hash = tags .before .before .before .before .before in
     let date = hash .before .before .before .before in
     let fixed = date .before .before .before .before in (
       rw (

@@ -35,16 +35,16 @@ read-part-e1-requires c κs = search needs
 returns-2 : tie.Need-returns-2
 unfolding decodePartMet
 returns-2 c =
-    let e = c .before .before .before .before in (
-      rw (← e .before .before .read-edition .ensures, e .edition-step .given .1, c .before .enum-told2 .given .1) (c .read-part-e0 .ensures .0),
+    let e = c .before .before .before .before .before in (
+      rw (← e .before .before .read-edition .ensures, e .edition-step .given .1, c .before .before .enum-told2 .given .1) (c .read-part-e0 .ensures .0),
       c .read-part-e0 .ensures .1,
     )
 
 returns-3 : tie.Need-returns-3
 unfolding decodePartMet
 returns-3 c =
-    let e = c .before .before .before .before in (
-      rw (← e .before .before .read-edition .ensures, e .edition-step .given .1, c .before .enum-told3 .given .1) (c .read-part-e1 .ensures .0),
+    let e = c .before .before .before .before .before in (
+      rw (← e .before .before .read-edition .ensures, e .edition-step .given .1, c .before .before .enum-told3 .given .1) (c .read-part-e1 .ensures .0),
       c .read-part-e1 .ensures .1,
     )
 
