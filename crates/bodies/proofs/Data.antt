@@ -1,21 +1,17 @@
--- The data of a 'Sending part' reach to the end of the bytes.
+-- The data of a 'Sending part' lie wholly inside the bytes.
 use Prim.Native.Nat.{ℕ, _-_}
 use mathlib.Core.Path.{_≡_, sym}
 use mathlib.Core.List.{List}
-use lib.ListN.{length, drop, length-drop}
-use lib.Seq.{take-all}
+use lib.ListN.{length}
 use native.Mathlib.Omega.{arith}
-use Rattle.format.specs.Decoding.{bytesAt, got}
+use Rattle.format.specs.Decoding.{got}
 use Rattle.format.specs.Order.{decodeDword}
 use Rattle.format.specs.PacketOrder.{both, checkRange, decodeRange}
 use Rattle.format.proofs.Codec.{same-place, settled-got, went}
 use Rattle.format.proofs.There.{dword-ends}
 use Rattle.wire.specs.WireAnswers.{Inside}
 
-pub to-the-end : (s : List ℕ) (at : ℕ) → bytesAt s at (length s - at) ≡ drop at s
-to-the-end s at = take-all (length s - at) (drop at s) (simp length-drop (omega arith))
-
--- They begin inside, after a start and an end that were read.
+-- They begin after a start and an end that were read.
 pub data-inside : (s : List ℕ) (at : ℕ) {range : ℕ × ℕ} {next : ℕ} → got range next ≡ decodeRange s at → Inside s next (length s - next)
 unfolding decodeRange
 data-inside s at e =

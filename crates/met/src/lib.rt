@@ -71,9 +71,9 @@ fn length_between(from: usize, to: usize) -> usize
 fn read_opening(s: &[u8], c: Cursor) -> ByteStep
     ensures { λ r. ⌜ byteMeaning r ≡ decodeOpening metOpenings (now (s .entry)) (c .at) ⌝ }
 {
-    let b = c.byte(s);
-    let ByteStep::Got(opening, next) = b else {
-        return ByteStep::Refused(b.fault());
+    let opening_step = c.byte(s);
+    let ByteStep::Got(opening, next) = opening_step else {
+        return ByteStep::Refused(opening_step.fault());
     };
     if opening == 0x0E {
         return ByteStep::Got(opening, next);

@@ -7,7 +7,7 @@ use native.Mathlib.Omega.{arith}
 use mir.Syntax.{w8}
 use mir.Val.{Fits}
 use Rattle.format.specs.Decoding.{Decoder, bytesAt, decodeMany, got}
-use Rattle.format.specs.Order.{decodeHash}
+use Rattle.format.specs.Order.{decodeCounted, decodeHash}
 use Rattle.format.proofs.Codec.{Codec, anywhere, codec-many}
 use Rattle.format.proofs.There.{run-length, run-was}
 use Rattle.wire.specs.declared.ItemsStep.{ItemsStep}
@@ -28,7 +28,10 @@ module _ {A : Type 0} {d : Decoder A} {encode : A → List ℕ} {Valid : A → T
       (p .0, omega (arith, p .1, codec-many {p = anywhere} n C .sound s (slice-bytes s known) first h _ _ (sym read) tt .inside))
   items-inside (ItemsStep.Refused f) n first h read p = tt
 
-  -- The list after a count of k bytes.
-  pub counted-inside : (r : ItemsStep) (n first at k : ℕ) → (at + k ≤ length s) × (first ≡ at + k) →
-      (itemsMeaning d s r ≡ decodeMany n d s first) × ItemsStepPlaced d s r → (itemsMeaning d s r ≡ decodeMany n d s first) × ItemsStepInside d s r
-  counted-inside r n first at k count list = (list .0, items-inside r n first (omega (arith, count .0, count .1)) (list .0) (list .1))
+  -- A count of k bytes and the list after it: the two clauses of its reader's contract.
+  pub counted-inside : (count : Decoder ℕ) (at k : ℕ) {n first : ℕ} → (count s at ≡ got n first → (at + k ≤ length s) × (first ≡ at + k)) → got n first ≡ count s at → (r : ItemsStep) →
+      (itemsMeaning d s r ≡ decodeMany n d s first) × ItemsStepPlaced d s r → (itemsMeaning d s r ≡ decodeCounted count d s at) × ItemsStepInside d s r
+  unfolding decodeCounted
+  counted-inside count at k {n} {first} size read r list =
+      let there = size (sym read) in
+      (rw (← read) (list .0), items-inside r n first (omega (arith, there .0, there .1)) (list .0) (list .1))

@@ -1,4 +1,4 @@
--- Parts of the lent bytes that begin after the end or run past it, and the bytes of a DWORD.
+-- Parts of the lent bytes that begin after the end, run past it or reach to it, and the bytes of a DWORD.
 use Prim.Native.Nat.{ℕ, _+_, _-_, _*_, _≤_, _<_}
 use mathlib.Core.Path.{_≡_, refl, sym, _∙_}
 use mathlib.Core.List.{List, []}
@@ -18,6 +18,9 @@ module _ (s : List ℕ) (at n : ℕ) where
       let k : length (drop at s) ≤ length s - at = simp length-drop (omega arith) in
       let m : length (drop at s) ≤ n = omega arith in
       take-all (length s - at) (drop at s) k ∙ sym (take-all n (drop at s) m)
+
+pub to-the-end : (s : List ℕ) (at : ℕ) → bytesAt s at (length s - at) ≡ drop at s
+to-the-end s at = take-all (length s - at) (drop at s) (simp length-drop (omega arith))
 
 -- the four bytes of a DWORD, each at its place
 pub dword-here : (s : List ℕ) (at : ℕ) → at + 4 ≤ length s →

@@ -1,3 +1,4 @@
+-- Each turn reads one address and keeps none: the laws of Loops.
 use Prim.Native.Nat.{_-_}
 use Rattle.format.specs.Order.{decodeAddress}
 use borrow.Author.Needs.{needs}
@@ -28,10 +29,9 @@ fault-requires c κs = search needs
 
 returns : tie.Need-returns Inv-loop μ-loop
 returns c =
+    let told = c .before .enum-told .given .1 in
     let turn = c .before .before .before .before in
-    let step = c .before .enum-told .given .1 in
-    let read = rw step at (c .before .before .before .read-address .ensures) in
-    rw (c .fault .ensures, step) (refuses decodeAddress _ _ _ _ _ (turn .loop-test .taken) (turn .before .loop .inv) read)
+    rw (c .fault .ensures, told) (refuses decodeAddress _ _ _ _ _ (turn .loop-test .taken) (turn .before .loop .inv) (rw told at (c .before .before .before .read-address .ensures)))
 
 add-i : tie.Need-add-i Inv-loop μ-loop
 add-i c = search needs
@@ -40,10 +40,7 @@ loop-less : tie.Need-loop-less Inv-loop μ-loop
 loop-less c = search needs
 
 loop-again : tie.Need-loop-again Inv-loop μ-loop
-loop-again c =
-    let turn = c .before .before .before .before in
-    let read = rw (c .before .address-step .given .1) at (c .before .before .before .read-address .ensures) in
-    goes-on decodeAddress _ _ _ _ _ (turn .loop-test .taken) (turn .before .loop .inv) read
+loop-again c = let read = rw (c .before .address-step .given .1) at (c .before .before .before .read-address .ensures) in search (goes-on decodeAddress, read)
 
 returns-2 : tie.Need-returns-2 Inv-loop μ-loop
 returns-2 c = finishes decodeAddress _ _ _ _ _ (c .loop-test .left) (c .before .loop .inv)

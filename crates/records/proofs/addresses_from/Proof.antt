@@ -1,3 +1,4 @@
+-- All have 6 bytes, so that they are there at once (`even-list`), or are read one by one for the fault.
 use native.Mathlib.Omega.{arith}
 use denote.Ref.{now}
 use Rattle.format.specs.Order.{decodeAddress}

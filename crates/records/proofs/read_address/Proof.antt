@@ -1,8 +1,15 @@
-use mathlib.Core.Path.{refl}
-use Rattle.format.specs.Order.{decodeAddress}
+-- An IP and a port: the IP is named once it is read, and the returns after it rewrite by that.
+use mathlib.Core.Path.{_≡_, refl}
+use denote.Ref.{now}
+use Rattle.format.specs.Order.{decodeAddress, decodeDword}
+use Rattle.format.specs.Decoding.{got}
 use borrow.Author.Needs.{needs}
 use Rattle.records.proofs.read_address.Statement.{statement}
 use Rattle.records.proofs.read_address.Tie as tie
+
+ip-read : (c : tie.After-ip-step) → let start = c .before .before .before .before .args in
+    decodeDword (now (start .s)) (start .c .at) ≡ got (c .ip-step .given .0 .0) (c .ip-step .given .0 .1 .0 .at)
+ip-read c = rw (← c .before .before .dword .ensures, c .ip-step .given .1) refl
 
 dword-requires : tie.Need-dword-requires
 dword-requires c κs = search needs
@@ -34,23 +41,11 @@ fault-requires-2 c κs = search needs
 
 returns-2 : tie.Need-returns-2
 unfolding decodeAddress
-returns-2 c =
-    let d = c .before .before .before .before .before in
-    rw (
-      c .fault2 .ensures,
-      ← d .before .before .dword .ensures,
-      d .ip-step .given .1,
-      ← c .before .before .before .word .ensures,
-      c .before .enum-told2 .given .1,
-    )
-    refl
+returns-2 c = rw (c .fault2 .ensures, ip-read, ← c .before .before .before .word .ensures, c .before .enum-told2 .given .1) refl
 
 returns-3 : tie.Need-returns-3
 unfolding decodeAddress
-returns-3 c =
-    let w = c .before in
-    let d = w .before .before .before .before in
-    rw (← d .before .before .dword .ensures, d .ip-step .given .1, ← w .before .before .word .ensures, w .port-step .given .1) refl
+returns-3 c = rw (ip-read, ← c .before .before .before .word .ensures, c .before .port-step .given .1) refl
 
 pub read-address-spec : {M : Type 1} → statement M
 read-address-spec =

@@ -1,6 +1,6 @@
-use mathlib.Core.Path.{refl, sym}
-use denote.Ref.{now}
-use Rattle.format.specs.Order.{decodeCounted}
+-- A count and the addresses after it, by the law of such lists.
+use mathlib.Core.Path.{refl}
+use Rattle.format.specs.Order.{decodeCounted, decodeByte}
 use Rattle.format.proofs.There.{byte-ends}
 use Rattle.format.proofs.Items.{codec-address}
 use Rattle.wire.proofs.Inside.{counted-inside}
@@ -31,13 +31,10 @@ addresses-from-requires : tie.Need-addresses-from-requires
 addresses-from-requires c κs = search needs
 
 returns-2 : tie.Need-returns-2
-unfolding decodeCounted
 returns-2 c =
-    let b = c .before .before in
-    let x = b .before .before in
-    let count = byte-ends _ _ (sym (rw (b .count-step .given .1) at (x .byte .ensures))) in
-    rw (← x .byte .ensures, b .count-step .given .1)
-    (counted-inside codec-address (now (x .before .before .args .s)) (x .before .shared-slice-known .given) (c .addresses-from .result) (b .count-step .given .0 .0) _ _ _ count (c .addresses-from .ensures))
+    let read = c .before .before .before .before in
+    let told = c .before .before .count-step .given .1 in
+    counted-inside codec-address _ (read .before .shared-slice-known .given) decodeByte _ _ (byte-ends _ _) (rw told at (read .byte .ensures)) (c .addresses-from .result) (c .addresses-from .ensures)
 
 pub read-addresses-spec : {M : Type 1} → statement M
 read-addresses-spec =

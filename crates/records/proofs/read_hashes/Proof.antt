@@ -1,6 +1,6 @@
-use mathlib.Core.Path.{refl, sym}
-use denote.Ref.{now}
-use Rattle.format.specs.Order.{decodeCounted}
+-- A count and the hashes after it, by the law of such lists.
+use mathlib.Core.Path.{refl}
+use Rattle.format.specs.Order.{decodeCounted, decodeWord}
 use Rattle.format.proofs.There.{word-ends}
 use Rattle.format.proofs.Items.{codec-hash}
 use Rattle.wire.proofs.Inside.{counted-inside}
@@ -31,13 +31,10 @@ hashes-from-requires : tie.Need-hashes-from-requires
 hashes-from-requires c κs = search needs
 
 returns-2 : tie.Need-returns-2
-unfolding decodeCounted
 returns-2 c =
-    let w = c .before .before in
-    let b = w .before .before in
-    let count = word-ends _ _ (sym (rw (w .count-step .given .1) at (b .word .ensures))) in
-    rw (← b .word .ensures, w .count-step .given .1)
-    (counted-inside codec-hash (now (b .before .before .args .s)) (b .before .shared-slice-known .given) (c .hashes-from .result) (w .count-step .given .0 .0) _ _ _ count (c .hashes-from .ensures))
+    let read = c .before .before .before .before in
+    let told = c .before .before .count-step .given .1 in
+    counted-inside codec-hash _ (read .before .shared-slice-known .given) decodeWord _ _ (word-ends _ _) (rw told at (read .word .ensures)) (c .hashes-from .result) (c .hashes-from .ensures)
 
 pub read-hashes-spec : {M : Type 1} → statement M
 read-hashes-spec =

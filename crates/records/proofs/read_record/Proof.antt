@@ -1,9 +1,25 @@
-use mathlib.Core.Path.{refl}
-use Rattle.format.specs.Order.{decodeRecord}
+-- A hash, a client, a port and tags: each is named once it is read, and the returns after it rewrite by that.
+use mathlib.Core.Path.{_≡_, refl, sym}
+use denote.Ref.{now}
+use Rattle.format.specs.Order.{decodeRecord, decodeDword, decodeHash, decodeWord}
+use Rattle.format.specs.Decoding.{got}
 use Rattle.wire.proofs.Inside.{hash-inside}
+use Rattle.wire.specs.WireAnswers.{hashAt}
 use borrow.Author.Needs.{needs}
 use Rattle.records.proofs.read_record.Statement.{statement}
 use Rattle.records.proofs.read_record.Tie as tie
+
+hash-read : (c : tie.After-hash-step) → let start = c .before .before .before .before .args in
+    decodeHash (now (start .s)) (start .c .at) ≡ got (hashAt (now (start .s)) (c .hash-step .given .0 .0)) (c .hash-step .given .0 .1 .0 .at)
+hash-read c = rw (← c .before .before .hash .ensures, c .hash-step .given .1) refl
+
+client-read : (c : tie.After-client-step) → let hash = c .before .before .before .before in
+    decodeDword (now (hash .before .before .before .before .args .s)) (hash .hash-step .given .0 .1 .0 .at) ≡ got (c .client-step .given .0 .0) (c .client-step .given .0 .1 .0 .at)
+client-read c = rw (← c .before .before .dword .ensures, c .client-step .given .1) refl
+
+port-read : (c : tie.After-port-step) → let client = c .before .before .before .before in
+    decodeWord (now (client .before .before .before .before .before .before .before .before .args .s)) (client .client-step .given .0 .1 .0 .at) ≡ got (c .port-step .given .0 .0) (c .port-step .given .0 .1 .0 .at)
+port-read c = rw (← c .before .before .word .ensures, c .port-step .given .1) refl
 
 hash-requires : tie.Need-hash-requires
 hash-requires c κs = search needs
@@ -35,16 +51,7 @@ fault-requires-2 c κs = search needs
 
 returns-2 : tie.Need-returns-2
 unfolding decodeRecord
-returns-2 c =
-    let h = c .before .before .before .before .before in
-    rw (
-      c .fault2 .ensures,
-      ← h .before .before .hash .ensures,
-      h .hash-step .given .1,
-      ← c .before .before .before .dword .ensures,
-      c .before .enum-told2 .given .1,
-    )
-    (refl, tt)
+returns-2 c = rw (c .fault2 .ensures, hash-read, ← c .before .before .before .dword .ensures, c .before .enum-told2 .given .1) (refl, tt)
 
 word-requires : tie.Need-word-requires
 word-requires c κs = search needs
@@ -60,19 +67,7 @@ fault-requires-3 c κs = search needs
 
 returns-3 : tie.Need-returns-3
 unfolding decodeRecord
-returns-3 c =
-    let d = c .before .before .before .before .before in
-    let h = d .before .before .before .before in
-    rw (
-      c .fault3 .ensures,
-      ← h .before .before .hash .ensures,
-      h .hash-step .given .1,
-      ← d .before .before .dword .ensures,
-      d .client-step .given .1,
-      ← c .before .before .before .word .ensures,
-      c .before .enum-told3 .given .1,
-    )
-    (refl, tt)
+returns-3 c = rw (c .fault3 .ensures, hash-read, client-read, ← c .before .before .before .word .ensures, c .before .enum-told3 .given .1) (refl, tt)
 
 read-tags-requires : tie.Need-read-tags-requires
 read-tags-requires c κs = search needs
@@ -88,41 +83,15 @@ fault-requires-4 c κs = search needs
 
 returns-4 : tie.Need-returns-4
 unfolding decodeRecord
-returns-4 c =
-    let w = c .before .before .before .before .before in
-    let d = w .before .before .before .before in
-    let h = d .before .before .before .before in
-    rw (
-      c .fault4 .ensures,
-      ← h .before .before .hash .ensures,
-      h .hash-step .given .1,
-      ← d .before .before .dword .ensures,
-      d .client-step .given .1,
-      ← w .before .before .word .ensures,
-      w .port-step .given .1,
-      ← c .before .before .before .read-tags .ensures .0,
-      c .before .enum-told4 .given .1,
-    )
-    (refl, tt)
+returns-4 c = rw (c .fault4 .ensures, hash-read, client-read, port-read, ← c .before .before .before .read-tags .ensures .0, c .before .enum-told4 .given .1) (refl, tt)
 
 returns-5 : tie.Need-returns-5
 unfolding decodeRecord
 returns-5 c =
-    let t = c .before in
-    let w = t .before .before .before .before in
-    let d = w .before .before .before .before in
-    let h = d .before .before .before .before in
-    rw (
-      ← h .before .before .hash .ensures,
-      h .hash-step .given .1,
-      ← d .before .before .dword .ensures,
-      d .client-step .given .1,
-      ← w .before .before .word .ensures,
-      w .port-step .given .1,
-      ← t .before .before .read-tags .ensures .0,
-      t .tags-step .given .1,
-    )
-    (refl, (hash-inside _ _ _ (rw (h .hash-step .given .1) at (h .before .before .hash .ensures)), rw (t .tags-step .given .1) at (t .before .before .read-tags .ensures .1)))
+    let hash = c .before .before .before .before .before .before .before .before .before .before .before .before .before in
+    let told = c .before .tags-step .given .1 in
+    let read = c .before .before .before .read-tags .ensures in
+    rw (hash-read, client-read, port-read, ← read .0, told) (refl, (hash-inside _ _ _ (sym (hash-read hash)), rw told at (read .1)))
 
 pub read-record-spec : {M : Type 1} → statement M
 read-record-spec =

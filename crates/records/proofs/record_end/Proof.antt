@@ -1,3 +1,4 @@
+-- Where the parts before the tags are there, the record ends where its tags do: `record-ends` of Skips.
 use mathlib.Core.Path.{refl}
 use mathlib.Core.Logic.{inl}
 use native.Mathlib.Omega.{arith}

@@ -1,3 +1,4 @@
+-- A tag that lies there ends after its value, by its type: the laws of WholeTags.
 use native.Mathlib.Omega.{arith}
 use Rattle.tags.proofs.WholeTags.{hash-ends, head-lies, name-lies, other-ends, text-ends, text-lies}
 use borrow.Author.Needs.{needs}

@@ -1,3 +1,4 @@
+-- The three tests of a type, as the specification has them.
 use mathlib.Core.Path.{refl}
 use borrow.Author.Tests.{eq-eqb, ne-eqb}
 use Rattle.tags.proofs.own_size.Statement.{statement}

@@ -1,3 +1,4 @@
+-- The tag is read: its end, or none.
 use mathlib.Core.Path.{refl}
 use borrow.Author.Needs.{needs}
 use Rattle.tags.proofs.read_tag_after.Statement.{statement}

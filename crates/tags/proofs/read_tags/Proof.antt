@@ -1,6 +1,6 @@
-use mathlib.Core.Path.{refl, sym}
-use denote.Ref.{now}
-use Rattle.format.specs.Order.{decodeCounted, decodeTags}
+-- A count and the tags after it, by the law of such lists.
+use mathlib.Core.Path.{refl}
+use Rattle.format.specs.Order.{decodeCounted, decodeTags, decodeDword}
 use Rattle.format.proofs.There.{dword-ends}
 use Rattle.format.proofs.Items.{codec-tag}
 use Rattle.wire.proofs.Inside.{counted-inside}
@@ -28,13 +28,11 @@ tags-from-requires : tie.Need-tags-from-requires
 tags-from-requires c κs = search needs
 
 returns-2 : tie.Need-returns-2
-unfolding decodeTags decodeCounted
+unfolding decodeTags
 returns-2 c =
-    let d = c .before .before in
-    let b = d .before .before in
-    let count = dword-ends _ _ (sym (rw (d .count-step .given .1) at (b .dword .ensures))) in
-    rw (← b .dword .ensures, d .count-step .given .1)
-    (counted-inside codec-tag (now (b .before .before .args .s)) (b .before .shared-slice-known .given) (c .tags-from .result) (d .count-step .given .0 .0) _ _ _ count (c .tags-from .ensures))
+    let read = c .before .before .before .before in
+    let told = c .before .before .count-step .given .1 in
+    counted-inside codec-tag _ (read .before .shared-slice-known .given) decodeDword _ _ (dword-ends _ _) (rw told at (read .dword .ensures)) (c .tags-from .result) (c .tags-from .ensures)
 
 pub read-tags-spec : {M : Type 1} → statement M
 read-tags-spec =

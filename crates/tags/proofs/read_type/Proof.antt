@@ -1,9 +1,19 @@
-use mathlib.Core.Path.{refl}
+-- A byte of a table: once it is read, a return rewrites by its row.
+use mathlib.Core.Path.{refl, _≡_}
+use denote.Ref.{now}
 use borrow.Author.Tests.{ne-eqb}
-use Rattle.format.specs.Order.{decodeCode, decodeType}
+use Rattle.format.specs.Order.{decodeCode, decodeType, tagTypes}
+use Rattle.format.specs.Decoding.{choice, found, settled}
+use Rattle.format.specs.Tables.{lookup}
 use borrow.Author.Needs.{needs}
 use Rattle.tags.proofs.read_type.Statement.{statement}
 use Rattle.tags.proofs.read_type.Tie as tie
+
+-- The byte is read: what is left is to find it in the table.
+type-checked : (c : tie.After-code-step) → let start = c .before .before .before .before .args in
+    decodeType (now (start .s)) (start .c .at) ≡ settled (start .c .at) 1 (found choice (lookup tagTypes (c .code-step .given .0 .0))) (c .code-step .given .0 .1 .0 .at)
+unfolding decodeType decodeCode
+type-checked c = rw (← c .before .before .byte .ensures, c .code-step .given .1) refl
 
 byte-requires : tie.Need-byte-requires
 byte-requires c κs = search needs
@@ -22,34 +32,21 @@ unfolding decodeType decodeCode
 returns c = rw (c .fault .ensures, ← c .before .before .before .byte .ensures, c .before .enum-told .given .1) refl
 
 returns-2 : tie.Need-returns-2
-unfolding decodeType decodeCode
-returns-2 c = rw (← c .before .before .before .before .byte .ensures, c .before .before .code-step .given .1, c .match2 .keys1) refl
+returns-2 c = rw (type-checked, c .match2 .keys1) refl
 
 returns-3 : tie.Need-returns-3
-unfolding decodeType decodeCode
-returns-3 c = rw (← c .before .before .before .before .byte .ensures, c .before .before .code-step .given .1, c .match2 .keys2) refl
+returns-3 c = rw (type-checked, c .match2 .keys2) refl
 
 returns-4 : tie.Need-returns-4
-unfolding decodeType decodeCode
-returns-4 c = rw (← c .before .before .before .before .byte .ensures, c .before .before .code-step .given .1, c .match2 .keys3) refl
+returns-4 c = rw (type-checked, c .match2 .keys3) refl
 
 returns-5 : tie.Need-returns-5
-unfolding decodeType decodeCode
-returns-5 c = rw (← c .before .before .before .before .byte .ensures, c .before .before .code-step .given .1, c .match2 .keys4) refl
+returns-5 c = rw (type-checked, c .match2 .keys4) refl
 
 returns-6 : tie.Need-returns-6
-unfolding decodeType decodeCode
 returns-6 c =
     let others = c .match2 .rest in
-    rw (
-      ← c .before .before .before .before .byte .ensures,
-      c .before .before .code-step .given .1,
-      ne-eqb _ _ (others .0 .0 .0 .1),
-      ne-eqb _ _ (others .0 .0 .1),
-      ne-eqb _ _ (others .0 .1),
-      ne-eqb _ _ (others .1),
-    )
-    refl
+    rw (type-checked, ne-eqb _ _ (others .0 .0 .0 .1), ne-eqb _ _ (others .0 .0 .1), ne-eqb _ _ (others .0 .1), ne-eqb _ _ (others .1)) refl
 
 pub read-type-spec : {M : Type 1} → statement M
 read-type-spec =

@@ -1,3 +1,4 @@
+-- A reader for each type: what the type was told as, and what its reader says.
 use mathlib.Core.Path.{refl}
 use Rattle.format.proofs.There.{value-is}
 use Rattle.wire.proofs.Inside.{hash-inside}
@@ -22,8 +23,8 @@ fault-requires c κs = search needs
 
 returns : tie.Need-returns
 returns c =
-    let b = c .before .before .before in
-    rw (c .fault .ensures, b .before .enum-told .given .1, value-is, ← b .hash .ensures, c .before .enum-told2 .given .1) (refl, tt)
+    let read = c .before .before .before in
+    rw (c .fault .ensures, read .before .enum-told .given .1, value-is, ← read .hash .ensures, c .before .enum-told2 .given .1) (refl, tt)
 
 enum-told-3 : tie.Need-enum-told-3
 enum-told-3 c = search needs
@@ -42,8 +43,8 @@ fault-requires-2 c κs = search needs
 
 returns-2 : tie.Need-returns-2
 returns-2 c =
-    let b = c .before .before .before in
-    rw (c .fault2 .ensures, b .before .enum-told3 .given .1, value-is, ← b .string .ensures .0, c .before .enum-told4 .given .1) (refl, tt)
+    let read = c .before .before .before in
+    rw (c .fault2 .ensures, read .before .enum-told3 .given .1, value-is, ← read .string .ensures .0, c .before .enum-told4 .given .1) (refl, tt)
 
 enum-told-5 : tie.Need-enum-told-5
 enum-told-5 c = search needs
@@ -62,8 +63,8 @@ fault-requires-3 c κs = search needs
 
 returns-3 : tie.Need-returns-3
 returns-3 c =
-    let b = c .before .before .before in
-    rw (c .fault3 .ensures, b .before .enum-told5 .given .1, value-is, ← b .dword .ensures, c .before .enum-told6 .given .1) (refl, tt)
+    let read = c .before .before .before in
+    rw (c .fault3 .ensures, read .before .enum-told5 .given .1, value-is, ← read .dword .ensures, c .before .enum-told6 .given .1) (refl, tt)
 
 enum-told-7 : tie.Need-enum-told-7
 enum-told-7 c = search needs
@@ -82,30 +83,30 @@ fault-requires-4 c κs = search needs
 
 returns-4 : tie.Need-returns-4
 returns-4 c =
-    let b = c .before .before .before in
-    rw (c .fault4 .ensures, b .before .enum-told7 .given .1, value-is, ← b .dword2 .ensures, c .before .enum-told8 .given .1) (refl, tt)
+    let read = c .before .before .before in
+    rw (c .fault4 .ensures, read .before .enum-told7 .given .1, value-is, ← read .dword2 .ensures, c .before .enum-told8 .given .1) (refl, tt)
 
 returns-5 : tie.Need-returns-5
 returns-5 c =
-    let b = c .before .before .before in
-    rw (b .before .enum-told .given .1, value-is, ← b .hash .ensures, c .before .hash-step .given .1)
-    (refl, hash-inside _ _ _ (rw (c .before .hash-step .given .1) at (b .hash .ensures)))
+    let read = c .before .before .before in
+    rw (read .before .enum-told .given .1, value-is, ← read .hash .ensures, c .before .hash-step .given .1)
+    (refl, hash-inside _ _ _ (rw (c .before .hash-step .given .1) at (read .hash .ensures)))
 
 returns-6 : tie.Need-returns-6
 returns-6 c =
-    let b = c .before .before .before in
-    rw (b .before .enum-told3 .given .1, value-is, ← b .string .ensures .0, c .before .text-step .given .1)
-    (refl, rw (c .before .text-step .given .1) at (b .string .ensures .1))
+    let read = c .before .before .before in
+    rw (read .before .enum-told3 .given .1, value-is, ← read .string .ensures .0, c .before .text-step .given .1)
+    (refl, rw (c .before .text-step .given .1) at (read .string .ensures .1))
 
 returns-7 : tie.Need-returns-7
 returns-7 c =
-    let b = c .before .before .before in
-    rw (b .before .enum-told5 .given .1, value-is, ← b .dword .ensures, c .before .dword-step .given .1) (refl, tt)
+    let read = c .before .before .before in
+    rw (read .before .enum-told5 .given .1, value-is, ← read .dword .ensures, c .before .dword-step .given .1) (refl, tt)
 
 returns-8 : tie.Need-returns-8
 returns-8 c =
-    let b = c .before .before .before in
-    rw (b .before .enum-told7 .given .1, value-is, ← b .dword2 .ensures, c .before .bits-step .given .1) (refl, tt)
+    let read = c .before .before .before in
+    rw (read .before .enum-told7 .given .1, value-is, ← read .dword2 .ensures, c .before .bits-step .given .1) (refl, tt)
 
 pub read-value-spec : {M : Type 1} → statement M
 read-value-spec =

@@ -1,3 +1,4 @@
+-- By the end that the tests tell, else by reading the tag.
 use denote.Ref.{now}
 use Rattle.format.specs.Order.{decodeTag}
 use Rattle.tags.proofs.Skips.{end-is-after}

@@ -1,3 +1,4 @@
+-- Where all tests pass, the tag ends where they say: `tag-ends` of Skips. Else nothing is told.
 use mathlib.Core.Path.{refl}
 use mathlib.Core.Logic.{inl}
 use Prim.Native.Nat.{_+_, _*_}

@@ -1,3 +1,4 @@
+-- Each turn passes one tag whose end the tests tell: the laws of Loops.
 use Prim.Native.Nat.{_-_}
 use mathlib.Core.Path.{refl}
 use mathlib.Core.Logic.{inl, inr}
@@ -30,9 +31,7 @@ loop-less : tie.Need-loop-less Inv-loop μ-loop
 loop-less c = search needs
 
 loop-again : tie.Need-loop-again Inv-loop μ-loop
-loop-again c =
-    let turn = c .before .before in
-    goes-over decodeTag _ _ _ _ _ (turn .loop-test .taken) (turn .before .loop .inv) (told (c .before .tag-end .ensures) (c .if1 .left))
+loop-again c = search (goes-over decodeTag, told)
 
 returns-2 : tie.Need-returns-2 Inv-loop μ-loop
 returns-2 c = inr (finishes decodeTag _ _ _ _ _ (c .loop-test .left) (c .before .loop .inv) .1 .0)

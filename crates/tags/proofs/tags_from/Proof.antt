@@ -1,3 +1,4 @@
+-- The list ends where the tests tell it; where they do not, tag by tag.
 use mathlib.Core.Path.{refl, sym}
 use denote.Ref.{now}
 use Rattle.format.specs.Decoding.{decodeMany}

@@ -1,3 +1,4 @@
+-- The length of a text, or 0 for another type.
 use mathlib.Core.Path.{refl}
 use borrow.Author.Needs.{needs}
 use borrow.Author.Tests.{eq-eqb, ne-eqb}

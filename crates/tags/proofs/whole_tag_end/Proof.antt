@@ -1,3 +1,4 @@
+-- A tag that lies there has a name of one byte or a longer one; its head lies there.
 use native.Mathlib.Omega.{arith}
 use Rattle.tags.proofs.WholeTags.{head-lies}
 use borrow.Author.Needs.{needs}

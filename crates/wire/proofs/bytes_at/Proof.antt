@@ -1,3 +1,4 @@
+-- A part that begins past the end, one that is whole, and one that is cut off at the end.
 use Rattle.wire.proofs.Parts.{part-past, part-clipped}
 use mathlib.Core.Path.{refl}
 use denote.Ref.{now}

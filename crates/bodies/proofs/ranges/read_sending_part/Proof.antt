@@ -5,9 +5,10 @@ use Rattle.format.specs.PacketOrder.{decodeSendingPart, decodeRange}
 use Rattle.format.specs.Decoding.{decodeTail, got}
 use Rattle.format.specs.Order.{decodeHash}
 use Rattle.wire.proofs.Inside.{hash-inside}
+use Rattle.wire.proofs.Parts.{to-the-end}
 use Rattle.wire.specs.WireAnswers.{hashAt}
 use Rattle.bodies.proofs.Bodies.{body-is}
-use Rattle.bodies.proofs.Data.{data-inside, to-the-end}
+use Rattle.bodies.proofs.Data.{data-inside}
 use borrow.Author.Needs.{needs}
 use Rattle.bodies.proofs.ranges.read_sending_part.Statement.{statement}
 use Rattle.bodies.proofs.ranges.read_sending_part.Tie as tie

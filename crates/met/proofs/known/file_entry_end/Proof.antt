@@ -1,3 +1,4 @@
+-- Where the parts before the tags are there, the entry ends where its tags do: `file-entry-ends` of Skips.
 use mathlib.Core.Path.{refl}
 use mathlib.Core.Logic.{inl}
 use native.Mathlib.Omega.{arith}

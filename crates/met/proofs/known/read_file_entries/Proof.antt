@@ -1,6 +1,6 @@
-use mathlib.Core.Path.{refl, sym}
-use denote.Ref.{now}
-use Rattle.format.specs.Order.{decodeCounted}
+-- A count and the entries after it, by the law of such lists.
+use mathlib.Core.Path.{refl}
+use Rattle.format.specs.Order.{decodeCounted, decodeDword}
 use Rattle.format.proofs.There.{dword-ends}
 use Rattle.format.proofs.MetFiles.{codec-entry}
 use Rattle.wire.proofs.Inside.{counted-inside}
@@ -28,13 +28,10 @@ file-entries-from-requires : tie.Need-file-entries-from-requires
 file-entries-from-requires c κs = search needs
 
 returns-2 : tie.Need-returns-2
-unfolding decodeCounted
 returns-2 c =
-    let d = c .before .before in
-    let b = d .before .before in
-    let count = dword-ends _ _ (sym (rw (d .count-step .given .1) at (b .dword .ensures))) in
-    rw (← b .dword .ensures, d .count-step .given .1)
-    (counted-inside codec-entry (now (b .before .before .args .s)) (b .before .shared-slice-known .given) (c .file-entries-from .result) (d .count-step .given .0 .0) _ _ _ count (c .file-entries-from .ensures))
+    let read = c .before .before .before .before in
+    let told = c .before .before .count-step .given .1 in
+    counted-inside codec-entry _ (read .before .shared-slice-known .given) decodeDword _ _ (dword-ends _ _) (rw told at (read .dword .ensures)) (c .file-entries-from .result) (c .file-entries-from .ensures)
 
 pub read-file-entries-spec : {M : Type 1} → statement M
 read-file-entries-spec =

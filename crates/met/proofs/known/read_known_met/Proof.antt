@@ -1,10 +1,6 @@
-use mathlib.Core.Path.{refl}
-use denote.Ref.{now}
-use borrow.Author.Tests.{lt-leb, le-leb, eq-eqb, ne-eqb}
+-- Each answer is a law of Replies, by what the reader of the file found.
 use Rattle.format.specs.Messages.{knownMet}
-use Rattle.format.specs.Rules.{metCeiling}
-use Rattle.format.specs.MetOrder.{decode}
-use Rattle.wire.proofs.Replies.{exact-placed}
+use Rattle.wire.proofs.Replies.{over-ceiling, faulty, whole, bytes-left}
 use borrow.Author.Needs.{needs}
 use Rattle.met.proofs.known.read_known_met.Statement.{statement}
 use Rattle.met.proofs.known.read_known_met.Tie as tie
@@ -13,12 +9,7 @@ number-requires : tie.Need-number-requires
 number-requires c κs = search needs
 
 returns : tie.Need-returns
-unfolding decode
-returns c =
-    let b = c .before .before in
-    exact-placed knownMet (now (b .before .args .s)) (b .shared-slice-known .given)
-    (rw (c .number .ensures, lt-leb _ metCeiling (c .before .if1 .taken)) refl)
-    tt
+returns c = rw (c .number .ensures) (over-ceiling knownMet _ (c .before .before .shared-slice-known .given) (c .before .if1 .taken))
 
 read-known-met-at-requires : tie.Need-read-known-met-at-requires
 read-known-met-at-requires c κs = search needs
@@ -36,45 +27,28 @@ number-requires-2 : tie.Need-number-requires-2
 number-requires-2 c κs = search needs
 
 returns-2 : tie.Need-returns-2
-unfolding decode
 returns-2 c =
-    let b = c .before .before .before .before in
-    exact-placed knownMet (now (b .before .before .before .args .s)) (b .before .before .shared-slice-known .given)
-    (rw (
-      c .number2 .ensures,
-      c .before .fault .ensures,
-      le-leb _ metCeiling (b .before .if1 .left),
-      ← b .read-known-met-at .ensures .0,
-      c .before .before .enum-told .given .1,
-    )
-    refl)
-    tt
+    let read = c .before .before .before .before in
+    let told = c .before .before .enum-told .given .1 in
+    rw (c .number2 .ensures, c .before .fault .ensures, told)
+    (faulty knownMet _ (read .before .before .shared-slice-known .given) (read .before .if1 .left) (rw told at (read .read-known-met-at .ensures .0)))
 
 returns-3 : tie.Need-returns-3
-unfolding decode
 returns-3 c =
-    let b = c .before .before .before .before in
-    exact-placed knownMet (now (b .before .before .before .args .s)) (b .before .before .shared-slice-known .given)
-    (rw (le-leb _ metCeiling (b .before .if1 .left), ← b .read-known-met-at .ensures .0, c .before .before .file-step .given .1, eq-eqb _ _ (c .if2 .taken)) refl)
-    (rw (c .before .before .file-step .given .1) at (b .read-known-met-at .ensures .1))
+    let read = c .before .before .before .before in
+    let told = c .before .before .file-step .given .1 in
+    whole knownMet _ (read .before .before .shared-slice-known .given) (read .before .if1 .left) (rw told at (read .read-known-met-at .ensures .0)) (c .if2 .taken)
+    (rw told at (read .read-known-met-at .ensures .1))
 
 number-requires-3 : tie.Need-number-requires-3
 number-requires-3 c κs = search needs
 
 returns-4 : tie.Need-returns-4
-unfolding decode
 returns-4 c =
-    let b = c .before .before .before .before .before in
-    exact-placed knownMet (now (b .before .before .before .args .s)) (b .before .before .shared-slice-known .given)
-    (rw (
-      c .number3 .ensures,
-      le-leb _ metCeiling (b .before .if1 .left),
-      ← b .read-known-met-at .ensures .0,
-      c .before .before .before .file-step .given .1,
-      ne-eqb _ _ (c .before .if2 .left),
-    )
-    refl)
-    tt
+    let read = c .before .before .before .before .before in
+    let told = c .before .before .before .file-step .given .1 in
+    rw (c .number3 .ensures)
+    (bytes-left knownMet _ (read .before .before .shared-slice-known .given) (read .before .if1 .left) (rw told at (read .read-known-met-at .ensures .0)) (c .before .if2 .left))
 
 pub read-known-met-spec : {M : Type 1} → statement M
 read-known-met-spec =

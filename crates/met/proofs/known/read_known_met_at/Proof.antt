@@ -1,8 +1,17 @@
-use mathlib.Core.Path.{refl}
+-- The opening byte and the entries: the byte is named once it is read, and the returns after it rewrite by that.
+use mathlib.Core.Path.{_≡_, refl}
+use denote.Ref.{now}
 use Rattle.format.specs.MetOrder.{decodeKnownMet}
+use Rattle.format.specs.Decoding.{got}
+use Rattle.format.specs.PacketOrder.{decodeOpening}
+use Rattle.format.specs.Rules.{metOpenings}
 use borrow.Author.Needs.{needs}
 use Rattle.met.proofs.known.read_known_met_at.Statement.{statement}
 use Rattle.met.proofs.known.read_known_met_at.Tie as tie
+
+opening-read : (c : tie.After-opening-step) → let start = c .before .before .before .before .args in
+    decodeOpening metOpenings (now (start .s)) (start .c .at) ≡ got (c .opening-step .given .0 .0) (c .opening-step .given .0 .1 .0 .at)
+opening-read c = rw (← c .before .before .read-opening .ensures, c .opening-step .given .1) refl
 
 read-opening-requires : tie.Need-read-opening-requires
 read-opening-requires c κs = search needs
@@ -34,32 +43,14 @@ fault-requires-2 c κs = search needs
 
 returns-2 : tie.Need-returns-2
 unfolding decodeKnownMet
-returns-2 c =
-    let opening = c .before .before .before .before .before in (
-      rw (
-        c .fault2 .ensures,
-        ← opening .before .before .read-opening .ensures,
-        opening .opening-step .given .1,
-        ← c .before .before .before .read-file-entries .ensures .0,
-        c .before .enum-told2 .given .1,
-      )
-          refl,
-      tt,
-    )
+returns-2 c = (rw (c .fault2 .ensures, opening-read, ← c .before .before .before .read-file-entries .ensures .0, c .before .enum-told2 .given .1) refl, tt)
 
 returns-3 : tie.Need-returns-3
 unfolding decodeKnownMet
 returns-3 c =
-    let opening = c .before .before .before .before .before in (
-      rw (
-        ← opening .before .before .read-opening .ensures,
-        opening .opening-step .given .1,
-        ← c .before .before .before .read-file-entries .ensures .0,
-        c .before .entries-step .given .1,
-      )
-          refl,
-      rw (c .before .entries-step .given .1) at (c .before .before .before .read-file-entries .ensures .1),
-    )
+    let told = c .before .entries-step .given .1 in
+    let read = c .before .before .before .read-file-entries .ensures in
+    (rw (opening-read, ← read .0, told) refl, rw told at (read .1))
 
 pub read-known-met-at-spec : {M : Type 1} → statement M
 read-known-met-at-spec =

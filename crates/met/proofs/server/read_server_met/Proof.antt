@@ -1,11 +1,7 @@
+-- Each answer is a law of Replies, by what the reader of the file found. The tail leaves no bytes.
 use mathlib.Core.Path.{refl}
-use denote.Ref.{now}
-use borrow.Author.Tests.{lt-leb, le-leb, eq-eqb}
 use Rattle.format.specs.Messages.{serverMet}
-use Rattle.format.specs.Rules.{metCeiling}
-use Rattle.format.specs.MetOrder.{decode}
-use Rattle.wire.proofs.Replies.{exact-placed}
-use lib.ListN.{length}
+use Rattle.wire.proofs.Replies.{over-ceiling, faulty, whole}
 use borrow.Author.Needs.{needs}
 use Rattle.met.proofs.server.read_server_met.Statement.{statement}
 use Rattle.met.proofs.server.read_server_met.Tie as tie
@@ -14,12 +10,7 @@ number-requires : tie.Need-number-requires
 number-requires c κs = search needs
 
 returns : tie.Need-returns
-unfolding decode
-returns c =
-    let b = c .before .before in
-    exact-placed serverMet (now (b .before .args .s)) (b .shared-slice-known .given)
-    (rw (c .number .ensures, lt-leb _ metCeiling (c .before .if1 .taken)) refl)
-    tt
+returns c = rw (c .number .ensures) (over-ceiling serverMet _ (c .before .before .shared-slice-known .given) (c .before .if1 .taken))
 
 read-server-met-at-requires : tie.Need-read-server-met-at-requires
 read-server-met-at-requires c κs = search needs
@@ -37,28 +28,18 @@ number-requires-2 : tie.Need-number-requires-2
 number-requires-2 c κs = search needs
 
 returns-2 : tie.Need-returns-2
-unfolding decode
 returns-2 c =
-    let b = c .before .before .before .before in
-    exact-placed serverMet (now (b .before .before .before .args .s)) (b .before .before .shared-slice-known .given)
-    (rw (
-      c .number2 .ensures,
-      c .before .fault .ensures,
-      le-leb _ metCeiling (b .before .if1 .left),
-      ← b .read-server-met-at .ensures .0,
-      c .before .before .enum-told .given .1,
-    )
-    refl)
-    tt
+    let read = c .before .before .before .before in
+    let told = c .before .before .enum-told .given .1 in
+    rw (c .number2 .ensures, c .before .fault .ensures, told)
+    (faulty serverMet _ (read .before .before .shared-slice-known .given) (read .before .if1 .left) (rw told at (read .read-server-met-at .ensures .0)))
 
 returns-3 : tie.Need-returns-3
-unfolding decode
 returns-3 c =
-    let b = c .before .before .before in
-    let s = now (b .before .before .before .args .s) in
-    exact-placed serverMet s (b .before .before .shared-slice-known .given)
-    (rw (le-leb _ metCeiling (b .before .if1 .left), ← b .read-server-met-at .ensures .0, c .before .file-step .given .1, eq-eqb (length s) (length s) refl) refl)
-    (rw (c .before .file-step .given .1) at (b .read-server-met-at .ensures .1))
+    let read = c .before .before .before in
+    let told = c .before .file-step .given .1 in
+    whole serverMet _ (read .before .before .shared-slice-known .given) (read .before .if1 .left) (rw told at (read .read-server-met-at .ensures .0)) refl
+    (rw told at (read .read-server-met-at .ensures .1))
 
 pub read-server-met-spec : {M : Type 1} → statement M
 read-server-met-spec =

@@ -26,9 +26,7 @@ loop-less : tie.Need-loop-less Inv-loop μ-loop
 loop-less c = search needs
 
 loop-again : tie.Need-loop-again Inv-loop μ-loop
-loop-again c =
-    let turn = c .before .before in
-    goes-over decodeServerEntry _ _ _ _ _ (turn .loop-test .taken) (turn .before .loop .inv) (told (c .before .server-entry-end .ensures) (c .if1 .taken))
+loop-again c = search (goes-over decodeServerEntry, told)
 
 read-server-entry-requires : tie.Need-read-server-entry-requires Inv-loop μ-loop
 read-server-entry-requires c κs = search needs
@@ -45,9 +43,8 @@ fault-requires c κs = search needs
 returns : tie.Need-returns Inv-loop μ-loop
 returns c =
     let step = c .before .enum-told .given .1 in
-    let read = c .before .before .before in
-    let turn = read .before .before .before in
-    rw (c .fault .ensures, step) (refuses decodeServerEntry _ _ _ _ _ (turn .loop-test .taken) (turn .before .loop .inv) (rw step at (read .read-server-entry .ensures .0)))
+    let turn = c .before .before .before .before .before .before in
+    rw (c .fault .ensures, step) (refuses decodeServerEntry _ _ _ _ _ (turn .loop-test .taken) (turn .before .loop .inv) (rw step at (c .before .before .before .read-server-entry .ensures .0)))
 
 add-passed-2 : tie.Need-add-passed-2 Inv-loop μ-loop
 add-passed-2 c = search needs
@@ -56,10 +53,7 @@ loop-less-2 : tie.Need-loop-less-2 Inv-loop μ-loop
 loop-less-2 c = search needs
 
 loop-again-2 : tie.Need-loop-again-2 Inv-loop μ-loop
-loop-again-2 c =
-    let read = c .before .before .before in
-    let turn = read .before .before .before in
-    goes-on decodeServerEntry _ _ _ _ _ (turn .loop-test .taken) (turn .before .loop .inv) (rw (c .before .entry-step .given .1) at (read .read-server-entry .ensures .0))
+loop-again-2 c = let read = rw (c .before .entry-step .given .1) at (c .before .before .before .read-server-entry .ensures .0) in search (goes-on decodeServerEntry, read)
 
 returns-2 : tie.Need-returns-2 Inv-loop μ-loop
 returns-2 c = finishes decodeServerEntry _ _ _ _ _ (c .loop-test .left) (c .before .loop .inv)

@@ -1,3 +1,4 @@
+-- One byte: it is there, or short.
 use native.Mathlib.Omega.{arith}
 use denote.Ref.{now}
 use Rattle.format.proofs.There.{byte-there, byte-short}

@@ -1,3 +1,4 @@
+-- Four bytes: they are there, or short.
 use native.Mathlib.Omega.{arith}
 use denote.Ref.{now}
 use Rattle.format.proofs.There.{dword-short}

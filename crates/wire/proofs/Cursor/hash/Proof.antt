@@ -1,3 +1,4 @@
+-- A run of 16 bytes: it is there, or short.
 use native.Mathlib.Omega.{arith}
 use denote.Ref.{now}
 use Rattle.format.proofs.There.{run-there, run-short}

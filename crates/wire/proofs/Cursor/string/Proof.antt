@@ -1,3 +1,4 @@
+-- A WORD that is the length, and the bytes.
 use mathlib.Core.Path.{refl}
 use Rattle.format.specs.Order.{decodeString}
 use borrow.Author.Needs.{needs}

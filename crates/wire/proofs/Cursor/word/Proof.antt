@@ -1,3 +1,4 @@
+-- Two bytes: they are there, or short.
 use native.Mathlib.Omega.{arith}
 use denote.Ref.{now}
 use Rattle.format.proofs.There.{word-there, word-short}
