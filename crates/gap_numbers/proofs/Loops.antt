@@ -3,13 +3,14 @@ use Prim.Native.Nat.{ℕ, suc, _+_, _-_, _*_, _≤_, _<_, min, max}
 use native.Mathlib.Omega.{arith}
 use native.Mathlib.Decide.{decLt}
 use mathlib.Core.Path.{_≡_, refl, sym, ap, _∙_}
-use mathlib.Core.Bool.{false, _&&_}
+use mathlib.Core.Bool.{true, false, _&&_}
 use mathlib.Core.List.{List, _∷_, _++_, append-assoc}
 use lib.ListN.{length, getD, take, drop, take-append-drop, drop-of-length-le}
 use Rattle.format.specs.Gaps.{Gap, Ordered, follows, ordered, total, remaining, subtract, sizeLimit}
+use Rattle.format.proofs.Gaps.{follows-true}
 use Rattle.gaps.specs.declared.GapRecord.{GapRecord}
 use Rattle.gaps.specs.GapRecords.{lawfulRecord, missingCount}
-use Rattle.gaps.proofs.GapRecords.{gaps-length}
+use Rattle.gaps.proofs.GapRecords.{At, gaps-length, none-left, lawful-by-gaps, total-missing}
 use Rattle.gap_numbers.specs.Numbers.{held, Judges}
 use Rattle.gap_numbers.specs.NumberSteps.{gapsIn, Holds, EndBy, pieces, Touches}
 use Rattle.gap_numbers.proofs.Lists.{total-append, kept-before, total-remaining, no-pieces, pieces-next, subtract-after, ordered-drop}
@@ -18,20 +19,62 @@ use Rattle.gap_numbers.proofs.Numbers.{gapAt, at, drop-in, take-in}
 pub length-gaps : (l : List ℕ) (n : ℕ) → Holds l n → length (gapsIn l) ≡ n
 length-gaps l n h = let e = h .counted in gaps-length (held l) 0 (at l 0 (omega arith) (omega (arith, h .few))) ∙ sym e
 
--- Judging: the gap at i decides, or those after it
-module _ (l : List ℕ) (i : ℕ) (h : i < getD l 1 0) (k : getD l 1 0 ≤ 64) where
-  pub judge-next : (low : ℕ) → ordered (getD l 0 0) low (drop i (gapsIn l))
-      ≡ (follows (getD l 0 0) low (gapAt l i) && ordered (getD l 0 0) (gapAt l i .end + 1) (drop (i + 1) (gapsIn l)))
-  unfolding ordered
-  judge-next low = rw (drop-in l i h k) refl
-
-  pub total-next : total (drop i (gapsIn l)) ≡ (gapAt l i .end - gapAt l i .start) + total (drop (i + 1) (gapsIn l))
-  unfolding total
-  total-next = rw (drop-in l i h k) refl
-
 pub unlawful-judged : (g : GapRecord) → lawfulRecord sizeLimit g ≡ false → Judges g false 0
 unfolding missingCount
 unlawful-judged g q = record { told = sym q; counted = rw q refl }
+
+-- i gaps are judged: they end before `low` and miss `missing` bytes, and those after them decide.
+pub record Judging (l : List ℕ) (low missing i : ℕ) : Type 0 where
+  pub walk : At (held l) i
+  pub decide : lawfulRecord sizeLimit (held l) ≡ ordered (getD l 0 0) low (drop i (gapsIn l))
+  pub counted : missing + total (drop i (gapsIn l)) ≡ total (gapsIn l)
+  pub below : missing ≤ low
+  pub inside : (low ≤ getD l 0 0 + 1) × (getD l 0 0 ≤ sizeLimit)
+
+pub judging-none : (l : List ℕ) → getD l 1 0 ≤ 64 → getD l 0 0 ≤ sizeLimit → Judging l 0 0 0
+judging-none l few size = record {
+  walk = at l 0 (omega arith) few;
+  decide = lawful-by-gaps sizeLimit (held l) few size;
+  counted = omega arith;
+  below = omega arith;
+  inside = (omega arith, size);
+}
+
+module _ {l : List ℕ} {low missing i : ℕ} (c : Judging l low missing i) where
+  pub judged-all : getD l 1 0 ≤ i → Judges (held l) true missing
+  unfolding ordered total
+  judged-all h =
+      let none = none-left (held l) i (c .walk) h in
+      let lawful : lawfulRecord sizeLimit (held l) ≡ true = c .decide ∙ rw none refl in
+      let all : missing + 0 ≡ total (gapsIn l) = rw none at (c .counted) in
+      record { told = sym lawful; counted = omega (arith, all, total-missing sizeLimit (held l) lawful) }
+
+  -- the gap at i
+  module _ (h : i < getD l 1 0) where
+    abbrev judged : Gap
+    judged = gapAt l i
+
+    next-decides : lawfulRecord sizeLimit (held l)
+        ≡ (follows (getD l 0 0) low judged && ordered (getD l 0 0) (judged .end + 1) (drop (i + 1) (gapsIn l)))
+    unfolding ordered
+    next-decides = c .decide ∙ rw (drop-in l i h (c .walk .few)) refl
+
+    pub judged-out : follows (getD l 0 0) low judged ≡ false → Judges (held l) false 0
+    judged-out f = unlawful-judged (held l) (next-decides ∙ rw f refl)
+
+    module _ (f : follows (getD l 0 0) low judged ≡ true) where
+      pub gap-lies : (low ≤ judged .start) × (judged .start < judged .end) × (judged .end ≤ getD l 0 0)
+      gap-lies = follows-true (getD l 0 0) low judged f
+
+      pub judging-next : Judging l (judged .end + 1) (missing + (judged .end - judged .start)) (i + 1)
+      unfolding total
+      judging-next = record {
+        walk = at l (i + 1) (omega arith) (c .walk .few);
+        decide = next-decides ∙ rw f refl;
+        counted = omega (arith, ap total (drop-in l i h (c .walk .few)), c .counted, gap-lies);
+        below = omega (arith, c .below, gap-lies);
+        inside = (omega (arith, gap-lies), c .inside .1);
+      }
 
 -- The gap at i, and those after it
 module _ (l : List ℕ) (n : ℕ) (h : Holds l n) (i : ℕ) (k : i < n) where

@@ -29,7 +29,7 @@ pub record PairsWritten (g : GapRecord) (old out : List ℕ) (wrote i : ℕ) : T
 room : (g : GapRecord) (old : List ℕ) → length (g .gaps) ≡ 64 → 128 ≤ length old → length (pairNumbers (g .gaps)) ≤ length old
 room g old e h = omega (arith, length-numbers (g .gaps))
 
-module _ (g : GapRecord) (old : List ℕ) (fits : 128 ≤ length old) (out : List ℕ) (wrote i : ℕ) (w : PairsWritten g old out wrote i) where
+module _ {g : GapRecord} {old : List ℕ} (fits : 128 ≤ length old) {out : List ℕ} {wrote i : ℕ} (w : PairsWritten g old out wrote i) where
   pub pairs-all : 64 ≤ i → out ≡ overwritten (pairNumbers (g .gaps)) old
   unfolding pairNumbers
   pairs-all h =
@@ -47,9 +47,9 @@ module _ (g : GapRecord) (old : List ℕ) (fits : 128 ≤ length old) (out : Lis
         let p = piece-room (pairNumbers (g .gaps)) old r out wrote _ (placeAt g i .start ∷ placeAt g i .end ∷ []) _ (w .written) next in
         omega (arith, r, p, w .written .same-length)
 
-    pub pairs-next : (new : List ℕ) → new ≡ overwritten (placeAt g i .start ∷ placeAt g i .end ∷ []) (midOf wrote (length out - wrote) out) →
+    pub pairs-next : {new : List ℕ} → new ≡ overwritten (placeAt g i .start ∷ placeAt g i .end ∷ []) (midOf wrote (length out - wrote) out) →
         PairsWritten g old (putMid wrote (length out - wrote) out new) (wrote + 2) (i + 1)
-    pairs-next new q =
+    pairs-next {new} q =
         let r = room g old (w .places) fits in
         record {
           passed = omega arith;

@@ -1,33 +1,29 @@
-use Prim.Native.Nat.{_+_, _-_, _≤_, _<_}
+use Prim.Native.Nat.{_-_}
 use native.Mathlib.Omega.{arith}
 use mathlib.Core.Path.{_≡_, refl, sym, _∙_}
 use mathlib.Core.Bool.{true}
-use lib.ListN.{getD, drop}
+use lib.ListN.{getD}
 use denote.Ref.{now}
 use borrow.Author.Needs.{needs}
 use borrow.Author.Tests.{le-leb, lt-leb, not-true, not-false}
-use Rattle.format.specs.Gaps.{ordered, lawful, total, sizeLimit}
-use Rattle.format.proofs.Gaps.{follows-true}
+use Rattle.format.specs.Gaps.{follows, lawful}
 use Rattle.gaps.specs.GapRecords.{lawfulRecord}
-use Rattle.gaps.proofs.GapRecords.{At, none-left, lawful-by-gaps, total-missing}
 use Rattle.gap_numbers.specs.Numbers.{held}
-use Rattle.gap_numbers.specs.NumberSteps.{gapsIn}
-use Rattle.gap_numbers.proofs.Numbers.{gapAt, at}
-use Rattle.gap_numbers.proofs.Loops.{judge-next, total-next, unlawful-judged}
+use Rattle.gap_numbers.proofs.Numbers.{gapAt}
+use Rattle.gap_numbers.proofs.Loops.{Judging, judging-none, judged-all, judged-out, gap-lies, judging-next, unlawful-judged}
 use Rattle.gap_numbers.proofs.judge.Statement.{statement}
 use Rattle.gap_numbers.proofs.judge.Tie as tie
 
 abbrev Inv-loop : tie.InvT-loop
-Inv-loop numbers size gaps low₀ missing₀ i₀ low missing i =
-    At (held numbers) i
-    × (getD numbers 0 0 ≤ sizeLimit)
-    × (lawfulRecord sizeLimit (held numbers) ≡ ordered (getD numbers 0 0) low (drop i (gapsIn numbers)))
-    × (missing + total (drop i (gapsIn numbers)) ≡ total (gapsIn numbers))
-    × (missing ≤ low)
-    × (low ≤ getD numbers 0 0 + 1)
+Inv-loop numbers size gaps low₀ missing₀ i₀ low missing i = Judging numbers low missing i
 
 abbrev μ-loop : tie.MeasureT-loop
 μ-loop numbers size gaps low₀ missing₀ i₀ low missing i = gaps - i
+
+-- the gap may stand there
+follows-here : (c : tie.Else3 Inv-loop μ-loop) → let turn = c .before .before .before .before .before in
+    let l = now (turn .before .before .before .before .before .before .args .numbers) in follows (getD l 0 0) (turn .loop .low) (gapAt l (turn .loop .i)) ≡ true
+follows-here c = sym (c .before .may-follow .ensures) ∙ not-false _ (c .if3 .left)
 
 shared-slice-read-size : tie.Need-shared-slice-read-size Inv-loop μ-loop
 shared-slice-read-size c = search needs
@@ -46,9 +42,7 @@ returns-2 c =
     unlawful-judged (held (now (c .before .before .before .before .before .args .numbers))) (rw (le-leb _ _ (c .before .if1 .left), lt-leb _ _ (c .if2 .taken)) refl)
 
 loop-holds : tie.Need-loop-holds Inv-loop μ-loop
-loop-holds c =
-    let l = now (c .before .before .before .before .before .args .numbers) in
-    (at l 0 (omega arith) (c .before .if1 .left), c .if2 .left, lawful-by-gaps sizeLimit (held l) (c .before .if1 .left) (c .if2 .left), omega arith, omega arith, omega arith)
+loop-holds c = judging-none (now (c .before .before .before .before .before .args .numbers)) (c .before .if1 .left) (c .if2 .left)
 
 mul-start : tie.Need-mul-start Inv-loop μ-loop
 mul-start c = search needs
@@ -79,39 +73,18 @@ may-follow-requires c κs = search needs
 
 returns-3 : tie.Need-returns-3 Inv-loop μ-loop
 returns-3 c =
-    let p = c .before .before .before .before .before in
-    let l = now (p .before .before .before .before .before .before .args .numbers) in
-    let v = p .loop .inv in
-    let h : p .loop .i < getD l 1 0 = omega arith in
-    let f = sym (c .before .may-follow .ensures) ∙ not-true _ (c .if3 .taken) in
-    unlawful-judged (held l) (v .2 ∙ judge-next l (p .loop .i) h (v .0 .few) (p .loop .low) ∙ rw f refl)
+    judged-out (c .before .before .before .before .before .loop .inv) (omega arith) (sym (c .before .may-follow .ensures) ∙ not-true _ (c .if3 .taken))
 
 add-low : tie.Need-add-low Inv-loop μ-loop
-add-low c =
-    let p = c .before .before .before .before .before in
-    let l = now (p .before .before .before .before .before .before .args .numbers) in
-    let v = p .loop .inv in
-    let h : p .loop .i < getD l 1 0 = omega arith in
-    let f = sym (c .before .may-follow .ensures) ∙ not-false _ (c .if3 .left) in
-    omega (arith, follows-true (getD l 0 0) (p .loop .low) (gapAt l (p .loop .i)) f)
+add-low c = omega (arith, gap-lies (c .before .before .before .before .before .loop .inv) (omega arith) (follows-here c))
 
 sub-missing : tie.Need-sub-missing Inv-loop μ-loop
-sub-missing c =
-    let p = c .before .before .before .before .before in
-    let l = now (p .before .before .before .before .before .before .args .numbers) in
-    let v = p .loop .inv in
-    let h : p .loop .i < getD l 1 0 = omega arith in
-    let f = sym (c .before .may-follow .ensures) ∙ not-false _ (c .if3 .left) in
-    omega (arith, follows-true (getD l 0 0) (p .loop .low) (gapAt l (p .loop .i)) f)
+sub-missing c = omega (arith, gap-lies (c .before .before .before .before .before .loop .inv) (omega arith) (follows-here c))
 
 add-missing : tie.Need-add-missing Inv-loop μ-loop
 add-missing c =
-    let p = c .before .before .before .before .before in
-    let l = now (p .before .before .before .before .before .before .args .numbers) in
-    let v = p .loop .inv in
-    let h : p .loop .i < getD l 1 0 = omega arith in
-    let f = sym (c .before .may-follow .ensures) ∙ not-false _ (c .if3 .left) in
-    omega (arith, follows-true (getD l 0 0) (p .loop .low) (gapAt l (p .loop .i)) f, v .1, v .4)
+    let v = c .before .before .before .before .before .loop .inv in
+    omega (arith, gap-lies v (omega arith) (follows-here c), v .below, v .inside)
 
 add-i : tie.Need-add-i Inv-loop μ-loop
 add-i c = search needs
@@ -120,31 +93,10 @@ loop-less : tie.Need-loop-less Inv-loop μ-loop
 loop-less c = search needs
 
 loop-again : tie.Need-loop-again Inv-loop μ-loop
-loop-again c =
-    let p = c .before .before .before .before .before in
-    let l = now (p .before .before .before .before .before .before .args .numbers) in
-    let v = p .loop .inv in
-    let h : p .loop .i < getD l 1 0 = omega arith in
-    let f = sym (c .before .may-follow .ensures) ∙ not-false _ (c .if3 .left) in
-    let o = follows-true (getD l 0 0) (p .loop .low) (gapAt l (p .loop .i)) f in (
-      at l (p .loop .i + 1) (omega arith) (v .0 .few),
-      v .1,
-      v .2 ∙ judge-next l (p .loop .i) h (v .0 .few) (p .loop .low) ∙ rw f refl,
-      omega (arith, total-next l (p .loop .i) h (v .0 .few), v .3, o),
-      omega (arith, v .4, o),
-      omega (arith, o),
-    )
+loop-again c = judging-next (c .before .before .before .before .before .loop .inv) (omega arith) (follows-here c)
 
 returns-4 : tie.Need-returns-4 Inv-loop μ-loop
-unfolding ordered total
-returns-4 c =
-    let p = c .before in
-    let l = now (p .before .before .before .before .before .before .args .numbers) in
-    let v = p .loop .inv in
-    let z = none-left (held l) (p .loop .i) (v .0) (omega arith) in
-    let lawful : lawfulRecord sizeLimit (held l) ≡ true = v .2 ∙ rw z refl in
-    let e : p .loop .missing + 0 ≡ total (gapsIn l) = rw z at (v .3) in
-    record { told = sym lawful; counted = omega (arith, e, total-missing sizeLimit (held l) lawful) }
+returns-4 c = judged-all (c .before .loop .inv) (omega arith)
 
 pub judge-spec : {M : Type 1} → statement M
 judge-spec =

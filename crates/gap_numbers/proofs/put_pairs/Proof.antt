@@ -2,7 +2,6 @@ use Prim.Native.Nat.{_-_}
 use native.Mathlib.Omega.{arith}
 use mathlib.Core.Path.{_≡_, sym, _∙_}
 use lib.ListN.{length, length-map, length-drop, length-take}
-use denote.Ref.{now}
 use borrow.Author.Needs.{needs}
 use Rattle.output.proofs.Loops.{written-none}
 use Rattle.gap_numbers.proofs.Records.{PairsWritten, pairs-all, pair-room, pairs-next}
@@ -29,44 +28,32 @@ element-copy-out-gap c = search needs
 
 mul-put-pair : tie.Need-mul-put-pair Inv-loop μ-loop
 mul-put-pair c =
-    let l = c .before .before in
-    let e = l .before .before in
-    let r = pair-room (e .args .t2) (now (e .args .out)) (e .pre) _ _ _ (l .loop .inv) (c .before .loop-test .taken) in
+    let r = pair-room (c .before .before .before .before .pre) (c .before .before .loop .inv) (c .before .loop-test .taken) in
     search needs
 
 sub-put-pair : tie.Need-sub-put-pair Inv-loop μ-loop
 sub-put-pair c =
-    let l = c .before .before in
-    let e = l .before .before in
-    let r = pair-room (e .args .t2) (now (e .args .out)) (e .pre) _ _ _ (l .loop .inv) (c .before .loop-test .taken) in
+    let r = pair-room (c .before .before .before .before .pre) (c .before .before .loop .inv) (c .before .loop-test .taken) in
     omega (arith, r)
 
 part-put-pair-start : tie.Need-part-put-pair-start Inv-loop μ-loop
 part-put-pair-start c =
-    let l = c .before .before in
-    let e = l .before .before in
-    let r = pair-room (e .args .t2) (now (e .args .out)) (e .pre) _ _ _ (l .loop .inv) (c .before .loop-test .taken) in
+    let r = pair-room (c .before .before .before .before .pre) (c .before .before .loop .inv) (c .before .loop-test .taken) in
     omega (arith, r)
 
 part-put-pair-end : tie.Need-part-put-pair-end Inv-loop μ-loop
 part-put-pair-end c =
-    let l = c .before .before in
-    let e = l .before .before in
-    let r = pair-room (e .args .t2) (now (e .args .out)) (e .pre) _ _ _ (l .loop .inv) (c .before .loop-test .taken) in
+    let r = pair-room (c .before .before .before .before .pre) (c .before .before .loop .inv) (c .before .loop-test .taken) in
     omega (arith, r)
 
 put-pair-requires : tie.Need-put-pair-requires Inv-loop μ-loop
 put-pair-requires c κs =
-    let l = c .before .before .before in
-    let e = l .before .before in
-    let r = pair-room (e .args .t2) (now (e .args .out)) (e .pre) _ _ _ (l .loop .inv) (c .before .before .loop-test .taken) in
+    let r = pair-room (c .before .before .before .before .before .pre) (c .before .before .before .loop .inv) (c .before .before .loop-test .taken) in
     simp (length-take, length-drop) (omega (arith, r))
 
 add-wrote : tie.Need-add-wrote Inv-loop μ-loop
 add-wrote c =
-    let l = c .before .before .before .before .before .before in
-    let e = l .before .before in
-    let r = pair-room (e .args .t2) (now (e .args .out)) (e .pre) _ _ _ (l .loop .inv) (c .before .before .before .before .before .loop-test .taken) in
+    let r = pair-room (c .before .before .before .before .before .before .before .before .pre) (c .before .before .before .before .before .before .loop .inv) (c .before .before .before .before .before .loop-test .taken) in
     search needs
 
 add-i : tie.Need-add-i Inv-loop μ-loop
@@ -77,17 +64,14 @@ loop-less c = search needs
 
 loop-again : tie.Need-loop-again Inv-loop μ-loop
 loop-again c =
-    let l = c .before .before .before .before .before .before in
-    let e = l .before .before in
-    pairs-next (e .args .t2) (now (e .args .out)) (e .pre) _ _ _ (l .loop .inv) (c .before .before .before .before .before .loop-test .taken) _ (c .before .before .put-pair .ensures)
+    let turn = c .before .before .before .before .before .before in
+    pairs-next (turn .before .before .pre) (turn .loop .inv) (c .before .before .before .before .before .loop-test .taken) (c .before .before .put-pair .ensures)
 
 same-length : tie.Need-same-length Inv-loop μ-loop
 same-length c = c .before .loop .inv .written .same-length
 
 returns : tie.Need-returns Inv-loop μ-loop
-returns c =
-    let e = c .before .before .before in
-    pairs-all (e .args .t2) (now (e .args .out)) (e .pre) _ _ _ (c .before .loop .inv) (c .loop-test .left)
+returns c = pairs-all (c .before .before .before .pre) (c .before .loop .inv) (c .loop-test .left)
 
 pub put-pairs-spec : {M : Type 1} → statement M
 put-pairs-spec =

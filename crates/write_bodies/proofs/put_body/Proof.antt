@@ -2,10 +2,15 @@
 use Prim.Native.Nat.{ℕ}
 use mathlib.Core.Path.{_≡_, refl}
 use mathlib.Core.List.{List}
+use lib.ListN.{length}
 use denote.Ref.{now}
 use Rattle.format.specs.Rules.{Bytes}
+use Rattle.format.specs.Writing.{overwritten}
 use Rattle.wire.proofs.Replies.{slice-bytes}
 use Rattle.bodies.specs.declared.Body.{Body}
+use Rattle.bodies.specs.BodyAnswers.{bodyIn}
+use Rattle.check_bodies.specs.Bodies.{bytesOf}
+use Rattle.write_items.specs.Puts.{Puts}
 use Rattle.write_bodies.specs.PutBodies.{Puttable}
 use Rattle.write_bodies.proofs.Bodies.{address-asks, address-dword-asks, addresses-asks, addresses-bytes, dword-asks, entry-asks, entry-bytes, extended-status-asks, extended-status-bytes, file-status-asks, file-status-bytes, finished, hash-addresses-asks, hash-addresses-bytes, hash-asks, hash-text-asks, hashset-asks, hashset-bytes, hello-asks, hello-bytes, query-asks, query-bytes, record-address-asks, record-address-bytes, record-asks, record-bytes, records-asks, records-bytes, records-flag-asks, records-flag-bytes, request-parts-asks, request-parts-bytes, sending-part-asks, sending-part-bytes, status-asks, status-request-asks, text-asks, two-dwords-asks, two-texts-asks}
 use borrow.Author.Needs.{needs}
@@ -21,6 +26,12 @@ module _ (c : tie.After-shared-slice-known) where
 
   puttable : {b : Body} → c .before .args .b ≡ b → Puttable src b (c .before .args .end) (now (c .before .args .out))
   puttable told = rw told at (c .before .pre)
+
+  -- an arm: what its function put are the bytes of the body
+  arm : {b : Body} {raw new : List ℕ} {size written : ℕ} → c .before .args .b ≡ b → (Puttable src b (c .before .args .end) (now (c .before .args .out)) → raw ≡ bytesOf (bodyIn src b))
+      → Puts raw size (now (c .before .args .out)) new written
+      → let bytes = bytesOf (bodyIn src (c .before .args .b)) in (written ≡ length bytes) × (new ≡ overwritten bytes (now (c .before .args .out)))
+  arm told bytes put = rw told (finished (bytes (puttable told)) put)
 
 enum-told : tie.Need-enum-told
 enum-told c = search needs
@@ -177,10 +188,8 @@ same-length c = search needs
 
 returns-2 : tie.Need-returns-2
 returns-2 c =
-    let b-at = c .before .before .before .before .before in
     let k = c .before .before .before .before .before .before .before .before in
-    let told = b-at .b .given .1 in
-    rw told (finished (query-bytes (src k) (held k) (puttable k told)) (c .before .before .put-query .ensures))
+    arm k (c .before .before .before .before .before .b .given .1) (query-bytes (src k) (held k)) (c .before .before .put-query .ensures)
 
 same-length-2 : tie.Need-same-length-2
 same-length-2 c = search needs
@@ -223,20 +232,16 @@ same-length-8 c = search needs
 
 returns-9 : tie.Need-returns-9
 returns-9 c =
-    let b8-at = c .before .before .before .before .before in
     let k = c .before .before .before .before .before .before .before .before in
-    let told = b8-at .b8 .given .1 in
-    rw told (finished (addresses-bytes (src k) (held k) (puttable k told)) (c .before .before .put-byte-list .ensures))
+    arm k (c .before .before .before .before .before .b8 .given .1) (addresses-bytes (src k) (held k)) (c .before .before .put-byte-list .ensures)
 
 same-length-9 : tie.Need-same-length-9
 same-length-9 c = search needs
 
 returns-10 : tie.Need-returns-10
 returns-10 c =
-    let b9-at = c .before .before .before .before .before in
     let k = c .before .before .before .before .before .before .before .before in
-    let told = b9-at .b9 .given .1 in
-    rw told (finished (hash-addresses-bytes (src k) (held k) (puttable k told)) (c .before .before .put-hash-addresses .ensures))
+    arm k (c .before .before .before .before .before .b9 .given .1) (hash-addresses-bytes (src k) (held k)) (c .before .before .put-hash-addresses .ensures)
 
 same-length-10 : tie.Need-same-length-10
 same-length-10 c = search needs
@@ -249,60 +254,48 @@ same-length-11 c = search needs
 
 returns-12 : tie.Need-returns-12
 returns-12 c =
-    let b11-at = c .before .before .before .before .before in
     let k = c .before .before .before .before .before .before .before .before in
-    let told = b11-at .b11 .given .1 in
-    rw told (finished (entry-bytes (src k) (held k) (puttable k told)) (c .before .before .put-entry .ensures))
+    arm k (c .before .before .before .before .before .b11 .given .1) (entry-bytes (src k) (held k)) (c .before .before .put-entry .ensures)
 
 same-length-12 : tie.Need-same-length-12
 same-length-12 c = search needs
 
 returns-13 : tie.Need-returns-13
 returns-13 c =
-    let b12-at = c .before .before .before .before .before in
     let k = c .before .before .before .before .before .before .before .before in
-    let told = b12-at .b12 .given .1 in
-    rw told (finished (record-bytes (src k) (held k) (puttable k told)) (c .before .before .put-record .ensures))
+    arm k (c .before .before .before .before .before .b12 .given .1) (record-bytes (src k) (held k)) (c .before .before .put-record .ensures)
 
 same-length-13 : tie.Need-same-length-13
 same-length-13 c = search needs
 
 returns-14 : tie.Need-returns-14
 returns-14 c =
-    let b13-at = c .before .before .before .before .before in
     let k = c .before .before .before .before .before .before .before .before in
-    let told = b13-at .b13 .given .1 in
-    rw told (finished (records-bytes (src k) (held k) (puttable k told)) (c .before .before .put-dword-list .ensures))
+    arm k (c .before .before .before .before .before .b13 .given .1) (records-bytes (src k) (held k)) (c .before .before .put-dword-list .ensures)
 
 same-length-14 : tie.Need-same-length-14
 same-length-14 c = search needs
 
 returns-15 : tie.Need-returns-15
 returns-15 c =
-    let b14-at = c .before .before .before .before .before in
     let k = c .before .before .before .before .before .before .before .before in
-    let told = b14-at .b14 .given .1 in
-    rw told (finished (records-flag-bytes (src k) (held k) (puttable k told)) (c .before .before .put-records-flag .ensures))
+    arm k (c .before .before .before .before .before .b14 .given .1) (records-flag-bytes (src k) (held k)) (c .before .before .put-records-flag .ensures)
 
 same-length-15 : tie.Need-same-length-15
 same-length-15 c = search needs
 
 returns-16 : tie.Need-returns-16
 returns-16 c =
-    let b15-at = c .before .before .before .before .before in
     let k = c .before .before .before .before .before .before .before .before in
-    let told = b15-at .b15 .given .1 in
-    rw told (finished (record-address-bytes (src k) (held k) (puttable k told)) (c .before .before .put-record-address .ensures))
+    arm k (c .before .before .before .before .before .b15 .given .1) (record-address-bytes (src k) (held k)) (c .before .before .put-record-address .ensures)
 
 same-length-16 : tie.Need-same-length-16
 same-length-16 c = search needs
 
 returns-17 : tie.Need-returns-17
 returns-17 c =
-    let b16-at = c .before .before .before .before .before in
     let k = c .before .before .before .before .before .before .before .before in
-    let told = b16-at .b16 .given .1 in
-    rw told (finished (hello-bytes (src k) (held k) (puttable k told)) (c .before .before .put-hello .ensures))
+    arm k (c .before .before .before .before .before .b16 .given .1) (hello-bytes (src k) (held k)) (c .before .before .put-hello .ensures)
 
 same-length-17 : tie.Need-same-length-17
 same-length-17 c = search needs
@@ -315,10 +308,8 @@ same-length-18 c = search needs
 
 returns-19 : tie.Need-returns-19
 returns-19 c =
-    let b18-at = c .before .before .before .before .before in
     let k = c .before .before .before .before .before .before .before .before in
-    let told = b18-at .b18 .given .1 in
-    rw told (finished (hashset-bytes (src k) (held k) (puttable k told)) (c .before .before .put-hashset .ensures))
+    arm k (c .before .before .before .before .before .b18 .given .1) (hashset-bytes (src k) (held k)) (c .before .before .put-hashset .ensures)
 
 same-length-19 : tie.Need-same-length-19
 same-length-19 c = search needs
@@ -341,10 +332,8 @@ same-length-21 c = search needs
 
 returns-22 : tie.Need-returns-22
 returns-22 c =
-    let b21-at = c .before .before .before .before .before in
     let k = c .before .before .before .before .before .before .before .before in
-    let told = b21-at .b21 .given .1 in
-    rw told (finished (file-status-bytes (src k) (held k) (puttable k told)) (c .before .before .put-file-status .ensures))
+    arm k (c .before .before .before .before .before .b21 .given .1) (file-status-bytes (src k) (held k)) (c .before .before .put-file-status .ensures)
 
 same-length-22 : tie.Need-same-length-22
 same-length-22 c = search needs
