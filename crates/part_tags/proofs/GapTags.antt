@@ -22,15 +22,16 @@ use Rattle.format.specs.Order.{decodeTag}
 use Rattle.format.specs.PartTagOrder.{Progress, between, within, checkStart, checkEnd, decimal, nextStart, numbered, used, step, scan}
 use Rattle.format.specs.PutGaps.{isPlain}
 use Rattle.format.proofs.Differ.{differ}
-use Rattle.format.proofs.PartTags.{same-true}
+use Rattle.format.proofs.PartTags.{same-true, violates-passes}
 use Rattle.gaps.specs.declared.Gap.{Gap as Slot}
 use Rattle.gaps.specs.declared.GapRecord.{GapRecord}
 use Rattle.gaps.specs.GapRecords.{place, placeOf, recordOf}
 use Rattle.tags.specs.Skips.{offsetAfter}
 use Rattle.part_tags.specs.declared.Key.{Key}
 use Rattle.part_tags.specs.TagBytes.{TagThere, afterAt, digitsAt, dwordAt, nameLength, numberAt, roleAt}
-use Rattle.part_tags.specs.Survey.{Plain}
+use Rattle.part_tags.specs.Survey.{Plain, sizesAt}
 use Rattle.part_tags.specs.Pairs.{keyFrom, keyOf, keyFound, pairOf, PairInside, firstPairs, PairsInside, gapIn, firstGaps, KeysBelow}
+use Rattle.part_tags.proofs.SizeTags.{size-byte}
 use Rattle.part_tags.proofs.TagLaws.{bytes-of, role-other, role-start, role-end, dword-number, other-number}
 
 -- Digits, byte by byte, as the loop goes
@@ -246,6 +247,16 @@ module _ (s : List ℕ) (at : ℕ) (there : TagThere s at) (ps : List GapPair) w
       pub ends-pair : same d digits ≡ true → n < numberAt s at → numberAt s at ≤ size
           → step size (within ps d n) own ≡ passes (between (record { digits = d; start = n; end = numberAt s at } ∷ ps))
       ends-pair a b c = ends-with name type ∙ rw (a, lt-ltb n (numberAt s at) b, le-leb (numberAt s at) size c) refl
+
+-- A gap tag is no size tag, and so is a tag that ends a pair
+module _ (s : List ℕ) (at : ℕ) (there : TagThere s at) where
+  pub gap-unsized : isPlain (roleAt (decodeTag s at)) ≡ false → [] ≡ sizesAt (decodeTag s at)
+  gap-unsized gap = size-byte s at there (λ two. differ (cc (gap, ap isPlain (role-other s at there (λ e. omega (arith, two, e)) (λ e. omega (arith, two, e))))))
+
+  pub end-unsized : (size : ℕ) (ps : List GapPair) (d : List ℕ) (from : ℕ) {later : Progress} → step size (within ps d from) (roleAt (decodeTag s at)) ≡ passes later
+      → [] ≡ sizesAt (decodeTag s at)
+  end-unsized size ps d from e =
+      size-byte s at there (λ two. violates-passes (sym (ends-not s at there ps d from size (λ ten. omega (arith, two, ten))) ∙ e))
 
 -- The number of a DWORD tag that is there, and the offset after it, as the code works them out
 module _ (s : List ℕ) (at : ℕ) {size : ℕ} (e : size ≡ nameLength s at) where

@@ -13,6 +13,7 @@ use Rattle.format.specs.Order.{decodeTag}
 use Rattle.format.specs.PutGaps.{isPlain}
 use Rattle.format.proofs.Differ.{differ}
 use Rattle.format.proofs.Codec.{same-place, same-value, went}
+use Rattle.format.proofs.Many.{ends-items}
 use Rattle.wire.proofs.Loops.{ReadUpTo, begins, goes-on, refuses, ended-refused}
 use Rattle.tags.specs.Skips.{offsetAfter}
 use Rattle.part_tags.specs.declared.Leading.{Leading}
@@ -23,10 +24,10 @@ use Rattle.part_tags.specs.declared.SurveyStep.{SurveyStep}
 use Rattle.part_tags.specs.TagBytes.{roleAt}
 use Rattle.part_tags.specs.Survey.{listOf, sizesIn, sizesAt, joined, Sized, Plain, LeadingTags, RangeTags, RangeFound, SurveyedTags, SurveyFound}
 use Rattle.part_tags.proofs.TagLaws.{tag-there}
-use Rattle.part_tags.proofs.SizeTags.{sized-none, sized-append, sized-next}
+use Rattle.part_tags.proofs.SizeTags.{sized-none, sized-append, sized-next, sized-two}
 
 module _ {A : Type 0} (d : Decoder A) (s : List ℕ) where
-  cons-many : (n at : ℕ) {a : A} {l : List A} {mid end : ℕ} → d s at ≡ got a mid → decodeMany n d s mid ≡ got l end → decodeMany (suc n) d s at ≡ got (a ∷ l) end
+  pub cons-many : (n at : ℕ) {a : A} {l : List A} {mid end : ℕ} → d s at ≡ got a mid → decodeMany n d s mid ≡ got l end → decodeMany (suc n) d s at ≡ got (a ∷ l) end
   cons-many n at e f = rw (e, f) refl
 
   -- Items, and others after them.
@@ -42,7 +43,7 @@ module _ {A : Type 0} (d : Decoder A) (s : List ℕ) where
       let rest = many-append n m (w .mid) (v .was) (ap (decodeMany m d s) (same-place (v .then)) ∙ f) in
       ap (λ j. decodeMany j d s at) next ∙ cons-many (n + m) at (w .was) rest ∙ ap (λ k. got (k ++ l) end) (same-value (v .then))
 
-  one : (at : ℕ) {a : A} {next : ℕ} → d s at ≡ got a next → decodeMany 1 d s at ≡ got (a ∷ []) next
+  pub one : (at : ℕ) {a : A} {next : ℕ} → d s at ≡ got a next → decodeMany 1 d s at ≡ got (a ∷ []) next
   one at e = rw e refl
 
   pub many-next : (l : List A) (at : ℕ) {mid next : ℕ} {a : A} → decodeMany (length l) d s at ≡ got l mid → d s mid ≡ got a next
@@ -68,7 +69,7 @@ plain-is odd e = differ cc
 plain-is (start d n) e = differ cc
 plain-is (end d n) e = differ cc
 
-plain-tag : {s : List ℕ} {at after : ℕ} {n : Number} (k : Skipped s at n after) → isPlain (roleAt (decodeTag s at)) ≡ true → role (k .tag) ≡ plain
+pub plain-tag : {s : List ℕ} {at after : ℕ} {n : Number} (k : Skipped s at n after) → isPlain (roleAt (decodeTag s at)) ≡ true → role (k .tag) ≡ plain
 plain-tag k p = plain-is (role (k .tag)) (sym (ap (λ o. isPlain (roleAt o)) (k .read)) ∙ p)
 
 -- Before the first gap tag, with i tags skipped.
@@ -124,7 +125,7 @@ pub record Ranges (s : List ℕ) (at count : ℕ) (before found : Sizes) (gapEnd
   pub sized : Sized before (mid ++ post) found
 
 module _ (s : List ℕ) (at count : ℕ) (before : Sizes) where
-  pub ranges-first : Ranges s at count before before at 0 at 0
+  unfoldable pub ranges-first : Ranges s at count before before at 0 at 0
   ranges-first = record {
     mid = [];
     post = [];
@@ -145,11 +146,11 @@ module _ (s : List ℕ) (at count : ℕ) (before : Sizes) where
       abbrev t : Tag
       t = k .tag
 
-      longer : Sized before ((h .mid ++ h .post) ++ (t ∷ [])) (joined found n)
+      pub longer : Sized before ((h .mid ++ h .post) ++ (t ∷ [])) (joined found n)
       longer = sized-next before found n (h .mid ++ h .post) t (h .sized) (k .sizes)
 
       -- a tag that is no gap tag
-      pub ranges-plain : isPlain (roleAt (decodeTag s next)) ≡ true → Ranges s at count before (joined found n) gapEnd gapCount after (i + 1)
+      unfoldable pub ranges-plain : isPlain (roleAt (decodeTag s next)) ≡ true → Ranges s at count before (joined found n) gapEnd gapCount after (i + 1)
       ranges-plain p = record {
         mid = h .mid;
         post = h .post ++ (t ∷ []);
@@ -179,7 +180,40 @@ module _ (s : List ℕ) (at count : ℕ) (before : Sizes) where
             sized = sized-append before (joined found n) (joined found n) ((h .mid ++ h .post) ++ (t ∷ [])) [] longer (sized-none (joined found n));
           }
 
-    pub ranges-done : count ≤ i → RangeTags s at count before (record { range = record { at = at; end = gapEnd; count = gapCount }; end = next; sizes = found })
+    -- two gap tags at once
+    unfoldable pub ranges-pair : {middle after : ℕ} (t u : Tag) → i + 2 ≤ count → decodeTag s next ≡ got t middle → decodeTag s middle ≡ got u after
+        → [] ≡ sizesIn t → [] ≡ sizesIn u → Ranges s at count before found after (i + 2) after (i + 2)
+    ranges-pair {middle} {after} t u room e f k m =
+        let both = length-append (h .mid) (h .post) in
+        let all = many-append decodeTag s (length (h .mid)) (length (h .post)) at (h .mid-read) (h .post-read) in
+        let pair : decodeMany 2 decodeTag s next ≡ got (t ∷ u ∷ []) after = cons-many decodeTag s 1 next e (one decodeTag s middle f) in
+        let longer = length-append (h .mid ++ h .post) (t ∷ u ∷ []) in
+        let n : length ((h .mid ++ h .post) ++ (t ∷ u ∷ [])) ≡ length (h .mid) + length (h .post) + 2 = omega (arith, longer, both) in
+        let once = goes-on decodeTag s at count i next (omega arith) (h .up-to) (sym e) in
+        let twice = goes-on decodeTag s at count (i + 1) middle (omega arith) once (sym f) in
+        let two : count - (i + 1 + 1) ≡ count - (i + 2) = omega arith in
+        let sized = sized-append before found found (h .mid ++ h .post) (t ∷ u ∷ []) (h .sized) (sized-two found t u k m) in record {
+          mid = (h .mid ++ h .post) ++ (t ∷ u ∷ []);
+          post = [];
+          up-to = (room, twice .1 ∙ ap (λ j. ends (decodeMany j decodeTag s after)) two);
+          mid-counted = omega (arith, n, h .counted, h .mid-counted);
+          mid-read = ap (λ j. decodeMany j decodeTag s at) n ∙ many-append decodeTag s (length (h .mid) + length (h .post)) 2 at all pair;
+          post-read = refl;
+          counted = omega arith;
+          plains = tt;
+          sized = sized-append before found found ((h .mid ++ h .post) ++ (t ∷ u ∷ [])) [] sized (sized-none found);
+        }
+
+    -- the tags that are left, of a list that is there
+    pub ranges-left : {end : ℕ} → ends (decodeMany count decodeTag s at) ≡ got tt end
+        → itemsOf (decodeMany count decodeTag s at) ≡ (h .mid ++ h .post) ++ itemsOf (decodeMany (count - i) decodeTag s next)
+    ranges-left {end} placed =
+        let left = sym (ends-items (decodeMany (count - i) decodeTag s next) end (sym (h .up-to .1) ∙ placed)) in
+        let all = many-append decodeTag s (length (h .mid)) (length (h .post)) at (h .mid-read) (h .post-read) in
+        let n : length (h .mid) + length (h .post) + (count - i) ≡ count = omega (arith, h .mid-counted, h .counted, h .up-to .0) in
+        ap itemsOf (ap (λ j. decodeMany j decodeTag s at) (sym n) ∙ many-append decodeTag s (length (h .mid) + length (h .post)) (count - i) at all left)
+
+    unfoldable pub ranges-done : count ≤ i → RangeTags s at count before (record { range = record { at = at; end = gapEnd; count = gapCount }; end = next; sizes = found })
     ranges-done all = record {
       mid = h .mid;
       post = h .post;
@@ -193,7 +227,7 @@ module _ (s : List ℕ) (at count : ℕ) (before : Sizes) where
 
 -- The whole list, by its two parts.
 module _ (s : List ℕ) (at count : ℕ) (leading : Leading) (l : LeadingTags s at count leading) where
-  whole : (r : Surveyed) → RangeTags s (leading .end) (count - leading .count) (leading .sizes) r → SurveyedTags s at count r
+  pub whole : (r : Surveyed) → RangeTags s (leading .end) (count - leading .count) (leading .sizes) r → SurveyedTags s at count r
   unfolding ends
   whole r h =
       let middle = many-append decodeTag s (r .range .count) (length (h .post)) (leading .end) (h .mid-read) (h .post-read) in

@@ -14,9 +14,9 @@ use Rattle.format.specs.Messages.{Tag}
 use Rattle.format.specs.Decoding as decoding
 use Rattle.format.specs.Decoding.{bytesAt, passes, violates}
 use Rattle.format.specs.Order.{decodeTag}
-use Rattle.format.specs.PartTagOrder.{sizeIn, sizes}
+use Rattle.format.specs.PartTagOrder.{sizeIn, sizes, sole}
 use Rattle.format.proofs.Differ.{differ}
-use Rattle.format.proofs.PartTags.{same-lengths, same-refl}
+use Rattle.format.proofs.PartTags.{passes-same, same-lengths, same-refl, violates-passes}
 use Rattle.part_tags.specs.declared.Number.{Number}
 use Rattle.part_tags.specs.declared.Sizes.{Sizes}
 use Rattle.part_tags.specs.TagBytes.{TagThere, nameLength, digitsAt, numberAt, dwordAt}
@@ -83,6 +83,19 @@ sized-one found n t e l = rw (← e, append-assoc) (joined-sole found n l)
 
 pub sized-next : (before found : Sizes) (n : Number) (l : List Tag) (t : Tag) → Sized before l found → listOf n ≡ sizesIn t → Sized before (l ++ (t ∷ [])) (joined found n)
 sized-next before found n l t h e = sized-append before found (joined found n) l (t ∷ []) h (sized-one found n t e)
+
+-- two tags that are no size tags
+pub sized-two : (found : Sizes) (t u : Tag) → [] ≡ sizesIn t → [] ≡ sizesIn u → Sized found (t ∷ u ∷ []) found
+unfolding sizes
+sized-two found t u e f l = rw (← e, ← f) refl
+
+-- one size tag before some tags, and one before and among them: it is the same
+pub size-same : (n m : ℕ) (l : List Tag) → Sized (Sizes.One n) l (Sizes.One m) → n ≡ m
+size-same n m l h = go (sizes l ++ []) (h [])
+  where
+    go : (k : List ℕ) → sole (n ∷ k) ≡ passes m → n ≡ m
+    go [] e = passes-same e
+    go (x ∷ k) e = absurd (violates-passes e)
 
 -- The check of the sizes, when all are seen.
 pub only-none : (found : Sizes) → Number.None ≡ onlySize found → soleAfter found [] ≡ violates decoding.sizeTag

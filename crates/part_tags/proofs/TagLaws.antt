@@ -158,6 +158,9 @@ pub fault-is : (s : List ℕ) (at : ℕ) (r : TagStep) → tagMeaning s r ≡ de
 fault-is s at (TagStep.Refused f) e z = e
 fault-is s at (TagStep.Got t c) e z = absurd (omega (arith, tag-at s at (sym e) .after, rw (← e) at z))
 
+pub tag-ends : (s : List ℕ) (at : ℕ) → TagThere s at → offsetAfter (decodeTag s at) ≡ 0 → ⊥
+tag-ends s at there zero = omega (arith, tag-at s at (there .1 .1) .after, sym (ap offsetAfter (there .1 .1)) ∙ zero)
+
 pub tag-there : (s : List ℕ) (at : ℕ) {after : ℕ} → after ≡ offsetAfter (decodeTag s at) → (after ≡ 0 → ⊥) → (t : Tag) × (decodeTag s at ≡ got t after)
 tag-there s at {after} e other = go (decodeTag s at) refl
   where

@@ -1,27 +1,29 @@
--- What the second pass finds: the pairs of gap tags, each known by the offset of its start tag.
+-- What the pass finds: the pairs of gap tags, each known by the offset of its start tag.
 use mathlib.Core.Path.{_≡_}
 use mathlib.Core.List.{List, [], _∷_, _++_}
-use Prim.Native.Nat.{ℕ, zero, suc, _+_, _-_, _*_, _%_, _≤_, _<_}
+use Prim.Native.Nat.{ℕ, zero, suc, _+_, _*_, _%_, _≤_, _<_}
 use lib.ListN.{length, getD}
 use Rattle.format.specs.Gaps as gaps
 use Rattle.format.specs.Gaps.{gapLimit}
 use Rattle.format.specs.Rules.{GapPair}
 use Rattle.format.specs.Tables.{pick}
-use Rattle.format.specs.Decoding.{Check, passes, violates, decodeMany, ends, itemsOf}
+use Rattle.format.specs.Messages.{Tag}
+use Rattle.format.specs.Decoding.{passes, violates, got, decodeMany, ends, itemsOf}
 use Rattle.format.specs.Order.{decodeTag}
 use Rattle.format.specs.PartTagOrder.{between, within, nextStart, numbered, scan, step}
 use Rattle.tags.specs.Skips.{offsetAfter}
-use Rattle.wire.specs.declared.Items.{Items}
 use Rattle.wire.specs.declared.Rule.{Rule}
-use Rattle.wire.specs.WireAnswers.{itemsIn, ruleMeaning}
+use Rattle.wire.specs.WireAnswers.{ruleMeaning}
 use Rattle.part_tags.specs.declared.Key.{Key}
 use Rattle.part_tags.specs.declared.Progress.{Progress as Reached}
 use Rattle.part_tags.specs.declared.StartStep.{StartStep}
 use Rattle.part_tags.specs.declared.EndStep.{EndStep}
 use Rattle.part_tags.specs.declared.PairStep.{PairStep}
-use Rattle.part_tags.specs.declared.Verdict.{Verdict}
-use Rattle.part_tags.specs.declared.Scanned.{Scanned}
+use Rattle.part_tags.specs.declared.PassStep.{PassStep}
+use Rattle.part_tags.specs.declared.Sizes.{Sizes}
+use Rattle.part_tags.specs.declared.Surveyed.{Surveyed}
 use Rattle.part_tags.specs.TagBytes.{digitsAt, numberAt, afterAt, roleAt}
+use Rattle.part_tags.specs.Survey.{sizesIn, RangeTags}
 
 -- The key of digits: a number that is greater for the digits of a greater number. Digits of one key may differ; those of two keys do.
 unfoldable pub keyFrom : ℕ → List ℕ → ℕ
@@ -103,30 +105,41 @@ abbrev pub EndFound : List ℕ → ℕ → List ℕ → ℕ → ℕ → EndStep 
 EndFound s size d start at (EndStep.Takes end after) = EndTakes s size d start at end after
 EndFound s size d start at EndStep.Violates = (ps : List GapPair) → step size (within ps d start) (roleAt (decodeTag s at)) ≡ violates (ruleMeaning Rule.Order)
 
--- A gap tag between two pairs and the tag after it, with the other tags that are left.
-pub record PairTakes (s : List ℕ) (size : ℕ) (ps : List GapPair) (left : Items) (key end after : ℕ) : Type 0 where
-  pub two : 2 ≤ left .count
+-- A gap tag between two pairs, the first of the tags that are left, and the tag after it.
+pub record PairTakes (s : List ℕ) (size : ℕ) (ps : List GapPair) (at left key end after : ℕ) : Type 0 where
+  pub two : 2 ≤ left
   pub room : length ps < gapLimit
-  pub key-of : key ≡ keyOf (digitsAt s (left .at))
-  pub end-of : end ≡ endOf s (left .at)
-  pub inside : PairInside s (left .at)
-  pub rest : ends (decodeMany (left .count) decodeTag s (left .at)) ≡ ends (decodeMany (left .count - 2) decodeTag s after)
-  pub scans : scan size (between ps) (itemsIn decodeTag s left)
-      ≡ scan size (between (pairOf s (left .at) ∷ ps)) (itemsOf (decodeMany (left .count - 2) decodeTag s after))
+  pub key-of : key ≡ keyOf (digitsAt s at)
+  pub end-of : end ≡ endOf s at
+  pub inside : PairInside s at
+  pub first : Tag
+  pub second : Tag
+  pub middle : ℕ
+  pub first-read : decodeTag s at ≡ got first middle
+  pub second-read : decodeTag s middle ≡ got second after
+  pub first-sizes : [] ≡ sizesIn first
+  pub second-sizes : [] ≡ sizesIn second
+  pub scans : (l : List Tag) → scan size (between ps) (first ∷ second ∷ l) ≡ scan size (between (pairOf s at ∷ ps)) l
 
-abbrev pub PairFound : List ℕ → ℕ → List GapPair → Items → PairStep → Type 0
-PairFound s size ps left (PairStep.Takes key end after) = PairTakes s size ps left key end after
-PairFound s size ps left (PairStep.Violates rule) = scan size (between ps) (itemsIn decodeTag s left) ≡ violates (ruleMeaning rule)
+-- the scan of tags that are all there
+abbrev pub Stops : List ℕ → (size : ℕ) → List GapPair → (at count : ℕ) → Rule → Type 0
+Stops s size ps at count rule = (end : ℕ) → ends (decodeMany count decodeTag s at) ≡ got tt end
+    → scan size (between ps) (itemsOf (decodeMany count decodeTag s at)) ≡ violates (ruleMeaning rule)
 
--- The pairs of all tags of a range.
-abbrev pub checkOf : {A : Type 0} → Verdict → A → Check A
-checkOf Verdict.Passes a = passes a
-checkOf (Verdict.Violates rule) a = violates (ruleMeaning rule)
+abbrev pub PairFound : List ℕ → ℕ → List GapPair → (at left : ℕ) → PairStep → Type 0
+PairFound s size ps at left (PairStep.Takes key end after) = PairTakes s size ps at left key end after
+PairFound s size ps at left (PairStep.Violates rule) = Stops s size ps at left rule
 
-pub record Scans (s : List ℕ) (size : ℕ) (range : Items) (starts : List ℕ) (r : Scanned) : Type 0 where
-  pub few : r .count ≤ gapLimit
-  pub inside : PairsInside s (r .count) starts
-  pub verdict : checkOf (r .verdict) (firstPairs s (r .count) starts) ≡ scan size (between []) (itemsIn decodeTag s range)
+-- The tags from the first gap tag on.
+pub record PassedTags (s : List ℕ) (at count : ℕ) (before : Sizes) (size : ℕ) (starts : List ℕ) (r : Surveyed) (n : ℕ) : Type 0 where
+  pub tags : RangeTags s at count before r
+  pub few : n ≤ gapLimit
+  pub inside : PairsInside s n starts
+  pub scans : scan size (between []) (tags .mid ++ tags .post) ≡ passes (firstPairs s n starts)
+
+abbrev pub PassFound : List ℕ → (at count : ℕ) → Sizes → (size : ℕ) → (starts : List ℕ) → PassStep → Type 0
+PassFound s at count before size starts (PassStep.Passes r n) = PassedTags s at count before size starts r n
+PassFound s at count before size starts (PassStep.Violates rule) = Stops s size [] at count rule
 
 -- What the methods `rule` propagate.
 abbrev pub startRule : StartStep → Rule

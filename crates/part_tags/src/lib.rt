@@ -1,8 +1,9 @@
 // The check of a part.met's tag list: exactly one size tag; then the gap tags, from left to right; and the gap record
 // that they stand for.
 //
-// The first pass skips every tag, counts the size tags, and finds the byte range from the first gap tag to the last; the tags outside
-// of it are no gap tags. The second pass is over that range alone, and keeps the offsets of at most 64 pairs in an array that is lent.
+// A pass over the tags from the first gap tag on skips each tag, counts the size tags, finds the byte range up to the last gap tag, and
+// keeps the offsets of at most 64 pairs in an array that is lent. It needs the size. Where that is not known before, or something is
+// wrong, a survey of all tags comes first, and decides between what the list breaks.
 // A pair's digits are compared with those of the earlier ones only where their key is not above all earlier keys.
 //
 // specs/PartTagAnswers.antt says what the answers stand for, specs/Survey.antt and specs/Pairs.antt what the private steps answer.
@@ -220,15 +221,10 @@ impl PairStep {
     }
 }
 
-enum Verdict {
-    Passes,
+// Tags that keep the rules of the pairs, with their survey and the number of pairs; or the rule that is broken, if all tags are there.
+enum PassStep {
+    Passes(Surveyed, usize),
     Violates(Rule),
-}
-
-// How many pairs there are.
-struct Scanned {
-    verdict: Verdict,
-    count: usize,
 }
 
 // The DWORD that lies there; 0 where none does.
@@ -251,8 +247,8 @@ fn name_length(s: &[u8], at: usize) -> usize
     s[at + 1] as usize
 }
 
-// `count` tags that lie from `at` on, and their check. The offsets of the start tags are left in the array.
-pub fn part_tags_from(s: &[u8], at: usize, count: u32, starts: &mut [usize; 64]) -> CheckedStep
+// The check by a survey of all tags and a pass over the range of the gap tags.
+fn check_in_two_passes(s: &[u8], at: usize, count: u32, starts: &mut [usize; 64]) -> CheckedStep
     requires { ⌜ length (now starts) ≡ 64 ⌝ }
     ensures { λ r. ⌜ CheckedFound (now (s .entry)) at count (now (starts .exit)) r ⌝ }
 {
@@ -272,16 +268,15 @@ pub fn part_tags_from(s: &[u8], at: usize, count: u32, starts: &mut [usize; 64])
             gaps: 0,
         });
     };
-    let scanned = pairs::scan_gaps(s, range, size, starts);
-    let verdict = scanned.verdict;
-    match verdict {
-        Verdict::Passes => CheckedStep::Got(CheckedTags {
+    let pass_step = pairs::pass_gaps(s, range.at, range.count, sizes, size, starts);
+    match pass_step {
+        PassStep::Passes(_, gaps) => CheckedStep::Got(CheckedTags {
             end,
             verdict: TagsVerdict::Passes(size),
             range,
-            gaps: scanned.count,
+            gaps,
         }),
-        Verdict::Violates(rule) => CheckedStep::Got(CheckedTags {
+        PassStep::Violates(rule) => CheckedStep::Got(CheckedTags {
             end,
             verdict: TagsVerdict::Violates(rule),
             range,
@@ -290,8 +285,40 @@ pub fn part_tags_from(s: &[u8], at: usize, count: u32, starts: &mut [usize; 64])
     }
 }
 
+// `count` tags that lie from `at` on, and their check. The offsets of the start tags are left in the array. Where the size stands before
+// the gaps, as clients write it, and no rule is broken, one pass finds all.
+pub fn part_tags_from(s: &[u8], at: usize, count: u32, starts: &mut [usize; 64]) -> CheckedStep
+    requires { ⌜ length (now starts) ≡ 64 ⌝ }
+    ensures { λ r. ⌜ CheckedFound (now (s .entry)) at count (now (starts .exit)) r ⌝ }
+{
+    let leading_step = survey::leading_tags(s, at, count);
+    let LeadingStep::Got(leading) = leading_step else {
+        return CheckedStep::Refused(leading_step.fault());
+    };
+    let passed = leading.count;
+    let sizes = leading.sizes;
+    let Sizes::One(size) = sizes else {
+        return check_in_two_passes(s, at, count, starts);
+    };
+    let pass_step = pairs::pass_gaps(s, leading.end, count - passed, sizes, size, starts);
+    let PassStep::Passes(surveyed, gaps) = pass_step else {
+        return check_in_two_passes(s, at, count, starts);
+    };
+    let all_sizes = surveyed.sizes;
+    let Sizes::One(_) = all_sizes else {
+        return check_in_two_passes(s, at, count, starts);
+    };
+    let range = surveyed.range;
+    CheckedStep::Got(CheckedTags {
+        end: surveyed.end,
+        verdict: TagsVerdict::Passes(size),
+        range,
+        gaps,
+    })
+}
+
 // The gap of the pair whose start tag lies there.
-fn gap_at(s: &[u8], at: usize) -> Gap
+pub fn gap_at(s: &[u8], at: usize) -> Gap
     requires { ⌜ PairInside (now s) at ⌝ }
     ensures { λ r. ⌜ r ≡ placeOf (gapIn (now (s .entry)) at) ⌝ }
 {

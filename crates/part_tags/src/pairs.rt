@@ -1,4 +1,4 @@
-// The second pass: the pairs of gap tags in their byte range, once the size is known. A pair is kept as the offset of its start tag;
+// The pass over the gap tags, once the size is known. A pair is kept as the offset of its start tag;
 // its end tag comes right after it, so that both are read in one turn.
 ghost use mathlib.Core.Path.{_≡_};
 ghost use Prim.Native.Nat.{_+_, _≤_, _<_};
@@ -8,23 +8,24 @@ ghost use Rattle.format.specs.Gaps.{gapLimit};
 ghost use Rattle.format.specs.Order.{decodeTag};
 ghost use Rattle.format.specs.PartTagOrder.{used};
 ghost use Rattle.format.specs.PutGaps.{isPlain};
-ghost use Rattle.wire.specs.WireAnswers.{ItemsPlaced};
 ghost use Rattle.part_tags.specs.TagBytes.{TagThere, digitsAt, roleAt};
-ghost use Rattle.part_tags.specs.Pairs.{keyFound, keyOf, firstPairs, PairsInside, Keeps, StartFound, EndFound, PairFound, Scans};
+ghost use Rattle.part_tags.specs.Pairs.{keyFound, keyOf, firstPairs, PairsInside, Keeps, StartFound, EndFound, PairFound, PassFound};
 use crate::DWORD_TYPE;
 use crate::END_NAME;
 use crate::EndStep;
 use crate::GAP_CEILING;
 use crate::Key;
 use crate::PairStep;
+use crate::PassStep;
 use crate::Progress;
 use crate::START_NAME;
-use crate::Scanned;
+use crate::Sizes;
 use crate::StartStep;
-use crate::Verdict;
+use crate::Surveyed;
 use crate::dword_at;
 use crate::name_length;
 use crate::survey::is_plain;
+use crate::survey::size_at;
 use output::same;
 use tags::tag_after;
 use wire::Items;
@@ -168,18 +169,27 @@ fn end_tag(s: &[u8], size: u32, digits: &[u8], start: u32, at: usize) -> EndStep
     EndStep::Takes(end, at + 7 + length)
 }
 
-// A gap tag between two pairs and the tag after it.
-fn take_pair(s: &[u8], left: Items, size: u32, starts: &[usize; 64], progress: Progress) -> PairStep
-    requires { ⌜ ItemsPlaced decodeTag (now s) left × (0 < left .count) × (isPlain (roleAt (decodeTag (now s) (left .at))) ≡ false)
-        × Keeps (now s) (now starts) progress ⌝ }
-    ensures { λ r. ⌜ PairFound (now (s .entry)) size (firstPairs (now (s .entry)) (progress .count) (now (starts .entry))) left r ⌝ }
+// A gap tag between two pairs, the first of `left` tags, and the tag after it.
+fn take_pair(
+    s: &[u8],
+    at: usize,
+    left: u32,
+    size: u32,
+    starts: &[usize; 64],
+    progress: Progress,
+) -> PairStep
+    requires { ⌜ TagThere (now s) at × (isPlain (roleAt (decodeTag (now s) at)) ≡ false) × (0 < left) × Keeps (now s) (now starts) progress ⌝ }
+    ensures { λ r. ⌜ PairFound (now (s .entry)) size (firstPairs (now (s .entry)) (progress .count) (now (starts .entry))) at left r ⌝ }
 {
-    let at = left.at;
     let start_step = start_tag(s, at, starts, progress);
     let StartStep::Takes(key, start, second) = start_step else {
         return PairStep::Violates(start_step.rule());
     };
-    if left.count < 2 {
+    if left < 2 {
+        return PairStep::Violates(Rule::Order);
+    }
+    let second_end = tag_after(s, second);
+    if second_end == 0 {
         return PairStep::Violates(Rule::Order);
     }
     let end_step = end_tag(s, size, digits_at(s, at), start, second);
@@ -195,37 +205,45 @@ fn higher(a: u64, b: u64) -> u64
     if a < b { b } else { a }
 }
 
-// All pairs of the range. The offsets of their start tags are left in the array.
-pub fn scan_gaps(s: &[u8], range: Items, size: u32, starts: &mut [usize; 64]) -> Scanned
-    requires { ⌜ ItemsPlaced decodeTag (now s) range × (length (now starts) ≡ 64) ⌝ }
-    ensures { λ r. ⌜ Scans (now (s .entry)) size range (now (starts .exit)) r ⌝ }
+// The tags from the first gap tag on, after the sizes seen. The offsets of the start tags are left in the array. A tag that is refused
+// stops the pass, whatever the answer: a survey tells its fault.
+pub fn pass_gaps(
+    s: &[u8],
+    at: usize,
+    count: u32,
+    before: Sizes,
+    size: u32,
+    starts: &mut [usize; 64],
+) -> PassStep
+    requires { ⌜ length (now starts) ≡ 64 ⌝ }
+    ensures found { λ r. ⌜ PassFound (now (s .entry)) at count before size (now (starts .exit)) r ⌝ }
+    ensures places { λ _. ⌜ length (now (starts .exit)) ≡ 64 ⌝ }
 {
-    let count = range.count;
-    let range_end = range.end;
     let mut progress = Progress {
         count: 0,
         low: 0,
         highest: 0,
     };
-    let mut next = range.at;
+    let mut sizes = before;
+    let mut gap_end = at;
+    let mut gap_count: u32 = 0;
+    let mut next = at;
     let mut i: u32 = 0;
     while i < count {
         let here = next;
+        let after = tag_after(s, here);
+        if after == 0 {
+            return PassStep::Violates(Rule::Order);
+        }
         if is_plain(s, here) {
-            next = tag_after(s, here);
+            let number = size_at(s, here);
+            sizes = sizes.join(number);
+            next = after;
             i += 1;
         } else {
-            let left = Items {
-                at: here,
-                end: range_end,
-                count: count - i,
-            };
-            let pair_step = take_pair(s, left, size, starts, progress);
-            let PairStep::Takes(key, end, after) = pair_step else {
-                return Scanned {
-                    verdict: Verdict::Violates(pair_step.rule()),
-                    count: 0,
-                };
+            let pair_step = take_pair(s, here, count - i, size, starts, progress);
+            let PairStep::Takes(key, end, pair_end) = pair_step else {
+                return PassStep::Violates(pair_step.rule());
             };
             let pairs = progress.count;
             starts[pairs] = here;
@@ -234,12 +252,22 @@ pub fn scan_gaps(s: &[u8], range: Items, size: u32, starts: &mut [usize; 64]) ->
                 low: end as u64 + 1,
                 highest: higher(progress.highest, key),
             };
-            next = after;
+            next = pair_end;
             i += 2;
+            gap_end = pair_end;
+            gap_count = i;
         }
     }
-    Scanned {
-        verdict: Verdict::Passes,
-        count: progress.count,
-    }
+    PassStep::Passes(
+        Surveyed {
+            range: Items {
+                at,
+                end: gap_end,
+                count: gap_count,
+            },
+            end: next,
+            sizes,
+        },
+        progress.count,
+    )
 }

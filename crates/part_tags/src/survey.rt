@@ -1,4 +1,4 @@
-// The first pass over the tags: each is skipped, the size tags are counted, and the byte range of the gap tags is found.
+// The survey of the tags: each is skipped, the size tags are counted, and the byte range of the gap tags is found.
 ghost use mathlib.Core.Path.{_≡_};
 ghost use Rattle.format.specs.Decoding.{refused};
 ghost use Rattle.format.specs.Order.{decodeTag};
@@ -37,7 +37,7 @@ pub fn is_plain(s: &[u8], at: usize) -> bool
 }
 
 // The number of a size tag: a DWORD whose name is the one byte 02.
-fn size_at(s: &[u8], at: usize) -> Number
+pub fn size_at(s: &[u8], at: usize) -> Number
     requires { ⌜ TagThere (now s) at ⌝ }
     ensures { λ r. ⌜ listOf r ≡ sizesAt (decodeTag (now (s .entry)) at) ⌝ }
 {
@@ -66,7 +66,7 @@ fn fault_at(s: &[u8], at: usize) -> Fault
 }
 
 // The tags before the first gap tag.
-fn leading_tags(s: &[u8], at: usize, count: u32) -> LeadingStep
+pub fn leading_tags(s: &[u8], at: usize, count: u32) -> LeadingStep
     ensures { λ r. ⌜ LeadingFound (now (s .entry)) at count r ⌝ }
 {
     let mut sizes = Sizes::None;
