@@ -1,5 +1,5 @@
--- What the bytes of a tag that lies there tell of its type and its name, and which tags the leaves look for.
-use Prim.Native.Nat.{ℕ, _+_, _-_, _*_, _<_}
+-- What the bytes of a tag that lies there tell of its type and its name, and which tags no leaf looks for.
+use Prim.Native.Nat.{ℕ, _+_, _*_, _<_}
 use mathlib.Core.Path.{_≡_, refl, sym, ap, _∙_}
 use mathlib.Core.Bool.{Bool, true, false}
 use mathlib.Core.List.{List, [], _∷_}
@@ -10,7 +10,7 @@ use borrow.Author.Tests.{eq-eqb, ne-eqb}
 use Rattle.format.specs.Tables.{pick, same}
 use Rattle.format.specs.Messages.{Tag, TagType, TagValue, hashType, stringType, dwordType, floatType}
 use Rattle.format.specs.Layout.{typeCode}
-use Rattle.format.specs.Decoding.{Outcome, refused, got, ends, bytesAt}
+use Rattle.format.specs.Decoding.{Outcome, refused, got, bytesAt}
 use Rattle.format.specs.Order.{decodeTag}
 use Rattle.format.specs.Truth.{onString, onDword, prefix, stringTag, dwordTag}
 use Rattle.format.proofs.Differ.{differ}
@@ -18,10 +18,7 @@ use Rattle.format.proofs.There.{part-cons}
 use Rattle.format.proofs.PartTags.{same-lengths}
 use Rattle.tags.specs.Skips.{Lies}
 use Rattle.tags.proofs.WholeTags.{name-lies, on-tag}
-use Rattle.query.specs.Nodes.{Node, join, keyword, field, limit}
-use Rattle.truth.specs.TruthAnswers.{LooksFor, Passes, Seeks, isOf, isSought, onItem, tagMeets, tagsFrom}
-use Rattle.truth.specs.declared.Spot.{Spot}
-use Rattle.truth.proofs.Found.{rest-lies, some-step}
+use Rattle.truth.specs.TruthAnswers.{isOf, onItem}
 use Rattle.truth.proofs.Texts.{same-prefix}
 
 -- Two names of one byte.
@@ -59,54 +56,27 @@ module _ (s : List ℕ) (at n : ℕ) (word : n ≡ getD s (at + 1) 0 + 256 * get
   pub by-prefix : getD s at 0 ≡ code → n ≡ length name → prefix (bytesAt s (at + 3) n) name ≡ onItem (isOf code name) (decodeTag s at)
   by-prefix this is = same-prefix _ _ (part-length ∙ is) ∙ by-name this
 
--- The types that the leaves look for.
-looks-for-text : (name : List ℕ) (p : List ℕ → Bool) (t : Tag) → isOf 2 name t ≡ false → stringTag name p t ≡ false
+-- A tag of another type or name is not one that a leaf looks for.
+pub no-text : (name : List ℕ) (p : List ℕ → Bool) (o : Outcome Tag) → false ≡ onItem (isOf 2 name) o → false ≡ onItem (stringTag name p) o
 unfolding isOf stringTag
-looks-for-text name p t e = go (same (t .name) name) (t .value .0) (t .value .1) e
+no-text name p (refused f) e = refl
+no-text name p (got t next) e = go (same (t .name) name) (t .value .0) (t .value .1) e
   where
-    go : (b : Bool) (k : TagType) (v : TagValue k) → pick (eqb (typeCode k) 2) b false ≡ false → pick b (onString p k v) false ≡ false
+    go : (b : Bool) (k : TagType) (v : TagValue k) → false ≡ pick (eqb (typeCode k) 2) b false → false ≡ pick b (onString p k v) false
     go false k v e = refl
     go true hashType v e = refl
     go true stringType v e = differ cc
     go true dwordType v e = refl
     go true floatType v e = refl
 
-looks-for-number : (name : List ℕ) (p : ℕ → Bool) (t : Tag) → isOf 3 name t ≡ false → dwordTag name p t ≡ false
+pub no-number : (name : List ℕ) (p : ℕ → Bool) (o : Outcome Tag) → false ≡ onItem (isOf 3 name) o → false ≡ onItem (dwordTag name p) o
 unfolding isOf dwordTag
-looks-for-number name p t e = go (same (t .name) name) (t .value .0) (t .value .1) e
+no-number name p (refused f) e = refl
+no-number name p (got t next) e = go (same (t .name) name) (t .value .0) (t .value .1) e
   where
-    go : (b : Bool) (k : TagType) (v : TagValue k) → pick (eqb (typeCode k) 3) b false ≡ false → pick b (onDword p k v) false ≡ false
+    go : (b : Bool) (k : TagType) (v : TagValue k) → false ≡ pick (eqb (typeCode k) 3) b false → false ≡ pick b (onDword p k v) false
     go false k v e = refl
     go true hashType v e = refl
     go true stringType v e = refl
     go true dwordType v e = differ cc
     go true floatType v e = refl
-
--- A test of a leaf looks for tags of this type and name alone, if the leaf does.
-pub seeks-looks : (code : ℕ) (name : List ℕ) (n : Node) → Seeks code name n → LooksFor code name (tagMeets n)
-unfolding tagMeets
-seeks-looks code name (join o) seeks t e = refl
-seeks-looks code name (keyword text) seeks t e = looks-for-text _ _ t (sym (seeks t) ∙ e)
-seeks-looks code name (field text field-name) seeks t e = looks-for-text _ _ t (sym (seeks t) ∙ e)
-seeks-looks code name (limit number bound limit-name) seeks t e = looks-for-number _ _ t (sym (seeks t) ∙ e)
-
-pub seeks-item : (code : ℕ) (name : List ℕ) (n : Node) → Seeks code name n → (o : Outcome Tag) → true ≡ onItem (isOf code name) o → true ≡ onItem (isSought n) o
-seeks-item code name n seeks (refused f) e = e
-seeks-item code name n seeks (got t next) e = e ∙ seeks t
-
--- A tag of another type or name is passed.
-none-meets : (code : ℕ) (name : List ℕ) (p : Tag → Bool) → LooksFor code name p → (o : Outcome Tag) →
-    false ≡ onItem (isOf code name) o → false ≡ onItem p o
-none-meets code name p looks (refused f) e = refl
-none-meets code name p looks (got t next) e = sym (looks t (sym e))
-
-pub passes-none : (code : ℕ) (name s : List ℕ) (from : Spot) → Lies (tagsFrom s from) → Passes code name s from from
-passes-none code name s from lie = record { fewer = omega arith; lie = lie; same-truth = λ p looks. refl }
-
-pub passes-one : (code : ℕ) (name s : List ℕ) (from : Spot) (left at : ℕ) {next : ℕ} → 0 < left → Passes code name s from (record { left = left; at = at }) →
-    ends (decodeTag s at) ≡ got tt next → false ≡ onItem (isOf code name) (decodeTag s at) → Passes code name s from (record { left = left - 1; at = next })
-passes-one code name s from left at h so-far e other = record {
-  fewer = let f = so-far .fewer in omega arith;
-  lie = rest-lies decodeTag s left at h (so-far .lie) e;
-  same-truth = λ p looks. so-far .same-truth p looks ∙ some-step decodeTag s left at h (so-far .lie) e p (none-meets code name p looks (decodeTag s at) other);
-}

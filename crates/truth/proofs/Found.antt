@@ -53,13 +53,13 @@ module _ {A : Type 0} (d : Decoder A) (s : List ℕ) where
     first-lies = first-of (left - 1) at (rw whole at lie)
 
     module _ {next : ℕ} (e : ends (d s at) ≡ got tt next) where
-      pub rest-lies : Lies (decodeMany (left - 1) d s next)
+      rest-lies : Lies (decodeMany (left - 1) d s next)
       rest-lies = rest-of (left - 1) at e (rw whole at lie)
 
-      pub some-step : (p : A → Bool) → false ≡ onItem p (d s at) → some p (itemsOf (decodeMany left d s at)) ≡ some p (itemsOf (decodeMany (left - 1) d s next))
+      some-step : (p : A → Bool) → false ≡ onItem p (d s at) → some p (itemsOf (decodeMany left d s at)) ≡ some p (itemsOf (decodeMany (left - 1) d s next))
       some-step p f = ap (λ n. some p (itemsOf (decodeMany n d s at))) whole ∙ some-of (left - 1) at p e (rw whole at lie) ∙ rw (← f) refl
 
-    pub some-here : (p : A → Bool) → true ≡ onItem p (d s at) → some p (itemsOf (decodeMany left d s at)) ≡ true
+    some-here : (p : A → Bool) → true ≡ onItem p (d s at) → some p (itemsOf (decodeMany left d s at)) ≡ true
     unfolding ends
     some-here p t = go (d s at) refl
       where
@@ -68,8 +68,23 @@ module _ {A : Type 0} (d : Decoder A) (s : List ℕ) where
         go (got a next) r =
             ap (λ n. some p (itemsOf (decodeMany n d s at))) whole ∙ some-of (left - 1) at p {next = next} (rw (← r) refl) (rw whole at lie) ∙ rw (← t) refl
 
-pub some-none : {A : Type 0} (d : Decoder A) (s : List ℕ) (left at : ℕ) (p : A → Bool) → left ≡ 0 → some p (itemsOf (decodeMany left d s at)) ≡ false
+some-none : {A : Type 0} (d : Decoder A) (s : List ℕ) (left at : ℕ) (p : A → Bool) → left ≡ 0 → some p (itemsOf (decodeMany left d s at)) ≡ false
 some-none d s left at p e = rw e refl
+
+-- No item before the offset is such a one: from there on there is one if there was one from the start on.
+abbrev pub Looked : {A : Type 0} → Decoder A → (A → Bool) → List ℕ → (left₀ at₀ left at : ℕ) → Type 0
+Looked d p s left₀ at₀ left at =
+    Lies (decodeMany left d s at) × (some p (itemsOf (decodeMany left₀ d s at₀)) ≡ some p (itemsOf (decodeMany left d s at)))
+
+module _ {A : Type 0} (d : Decoder A) (p : A → Bool) (s : List ℕ) (left₀ at₀ left at : ℕ) (looked : Looked d p s left₀ at₀ left at) where
+  pub look-on : 0 < left → {next : ℕ} → ends (d s at) ≡ got tt next → false ≡ onItem p (d s at) → Looked d p s left₀ at₀ (left - 1) next
+  look-on h e f = (rest-lies d s left at h (looked .0) e, looked .1 ∙ some-step d s left at h (looked .0) e p f)
+
+  pub look-found : 0 < left → true ≡ onItem p (d s at) → true ≡ some p (itemsOf (decodeMany left₀ d s at₀))
+  look-found h t = sym (looked .1 ∙ some-here d s left at h (looked .0) p t)
+
+  pub look-ended : left ≡ 0 → false ≡ some p (itemsOf (decodeMany left₀ d s at₀))
+  look-ended h = sym (looked .1 ∙ some-none d s left at p h)
 
 pub some-never : {A : Type 0} (p : A → Bool) → ((a : A) → p a ≡ false) → (l : List A) → some p l ≡ false
 some-never p never [] = refl

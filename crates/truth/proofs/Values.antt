@@ -2,7 +2,7 @@
 use Prim.Native.Nat.{ℕ, _+_, _*_, _≤_}
 use mathlib.Core.Path.{_≡_, refl, sym, ap, _∙_}
 use mathlib.Core.Bool.{Bool, true, false}
-use mathlib.Core.List.{List, [], _∷_}
+use mathlib.Core.List.{List, []}
 use native.Mathlib.Omega.{arith}
 use lib.ListN.{length, getD}
 use lib.Dec.{eqb}
@@ -12,12 +12,11 @@ use Rattle.format.specs.Messages.{Tag, TagType, TagValue, hashType, stringType,
 use Rattle.format.specs.Layout.{typeCode}
 use Rattle.format.specs.Decoding.{Outcome, refused, got, pure, bytesAt}
 use Rattle.format.specs.Order.{decodeDword, decodeString, decodeTag, decodeValue, decodeValueOf}
-use Rattle.format.specs.Truth.{occurs, onString, onDword, stringTag, dwordTag, within}
+use Rattle.format.specs.Truth.{onString, onDword, stringTag, dwordTag}
 use Rattle.format.proofs.Differ.{differ}
 use Rattle.format.proofs.Codec.{same-value, Went, went}
 use Rattle.format.proofs.There.{run-there, value-is, word-there}
-use Rattle.query.specs.Nodes.{Node, join, keyword, field, limit}
-use Rattle.truth.specs.TruthAnswers.{isOf, isSought, numberIn, numberOf, onItem, tagMeets, textIn, textOf}
+use Rattle.truth.specs.TruthAnswers.{isOf, numberIn, numberOf, onItem, textIn, textOf}
 use Rattle.tags.specs.Skips.{Lies}
 use Rattle.tags.proofs.WholeTags.{on-tag, text-ends}
 
@@ -39,7 +38,7 @@ module _ (s : List ℕ) (at code : ℕ) (name : List ℕ) (is : true ≡ onItem 
       first false b e = differ cc
 
 -- What the tests of the leaves find of such a tag: they depend on its value alone.
-text-meets : (name : List ℕ) (p : List ℕ → Bool) (o : Outcome Tag) → true ≡ onItem (isOf 2 name) o → p (textOf o) ≡ onItem (stringTag name p) o
+pub text-meets : (name : List ℕ) (p : List ℕ → Bool) (o : Outcome Tag) → true ≡ onItem (isOf 2 name) o → p (textOf o) ≡ onItem (stringTag name p) o
 unfolding isOf stringTag
 text-meets name p (refused f) e = differ cc
 text-meets name p (got t next) e = go (same (t .name) name) (t .value .0) (t .value .1) e
@@ -51,7 +50,7 @@ text-meets name p (got t next) e = go (same (t .name) name) (t .value .0) (t .va
     go b dwordType v e = differ cc
     go b floatType v e = differ cc
 
-number-meets : (name : List ℕ) (p : ℕ → Bool) (o : Outcome Tag) → true ≡ onItem (isOf 3 name) o → p (numberOf o) ≡ onItem (dwordTag name p) o
+pub number-meets : (name : List ℕ) (p : ℕ → Bool) (o : Outcome Tag) → true ≡ onItem (isOf 3 name) o → p (numberOf o) ≡ onItem (dwordTag name p) o
 unfolding isOf dwordTag
 number-meets name p (refused f) e = differ cc
 number-meets name p (got t next) e = go (same (t .name) name) (t .value .0) (t .value .1) e
@@ -62,20 +61,6 @@ number-meets name p (got t next) e = go (same (t .name) name) (t .value .0) (t .
     go true dwordType v e = refl
     go false dwordType v e = differ cc
     go b floatType v e = differ cc
-
-abbrev finds : Node → Outcome Tag → Bool
-finds (join o) tag = false
-finds (keyword text) tag = occurs text (textOf tag)
-finds (field text name) tag = same (textOf tag) text
-finds (limit number bound name) tag = within bound number (numberOf tag)
-
-pub leaf-meets : (n : Node) (tag : Outcome Tag) → true ≡ onItem (isSought n) tag → finds n tag ≡ onItem (tagMeets n) tag
-unfolding tagMeets
-leaf-meets (join o) (refused f) is = refl
-leaf-meets (join o) (got t next) is = refl
-leaf-meets (keyword text) tag is = text-meets (0x01 ∷ []) (occurs text) tag is
-leaf-meets (field text name) tag is = text-meets name (λ v. same v text) tag is
-leaf-meets (limit number bound name) tag is = number-meets name (within bound number) tag is
 
 -- Where the value lies.
 string-there : (s : List ℕ) (at m : ℕ) → m ≡ getD s at 0 + 256 * getD s (at + 1) 0 → at + 2 + m ≤ length s → got (bytesAt s (at + 2) m) (at + 2 + m) ≡ decodeString s at

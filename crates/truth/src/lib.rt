@@ -8,7 +8,6 @@
 //
 // specs/TruthAnswers.antt says what each answer stands for.
 ghost use mathlib.Core.Path.{_≡_};
-ghost use mathlib.Core.Bool.{true};
 ghost use lib.ListN.{getD};
 ghost use Rattle.format.specs.Messages.{loneQuery};
 ghost use Rattle.format.specs.Decoding.{accepted};
@@ -19,8 +18,9 @@ ghost use Rattle.format.specs.Truth.{onQuery, some, prefix, within};
 ghost use Rattle.wire.specs.WireAnswers.{ItemsPlaced};
 ghost use Rattle.tags.specs.Skips.{Lies};
 ghost use Rattle.tags.specs.TagAnswers.{tagsIn};
+ghost use Rattle.query.specs.Nodes.{keyword, field, limit};
 ghost use Rattle.query.specs.QueryAnswers.{operatorOf, boundOf, nodeIn};
-ghost use Rattle.truth.specs.TruthAnswers.{Finds, Seeks, isOf, isSought, numberOf, onItem, settledBy, tagMeets, tagsFrom, textOf, valueOffset};
+ghost use Rattle.truth.specs.TruthAnswers.{isOf, numberOf, onItem, settledBy, tagMeets, textOf, valueOffset};
 ghost use Rattle.truth.specs.TruthAnswers.{truths, truthStepMeaning, truthMeaning, truthFault};
 use find::contains;
 use output::same;
@@ -118,29 +118,6 @@ fn is_candidate(tags: &[u8], at: usize, code: u8, name: &[u8]) -> bool
     starts_with(name, bytes_at(tags, at + 3, name_length))
 }
 
-// Where in a list: how many tags are left, and the offset of the first of them.
-struct Spot {
-    left: u32,
-    at: usize,
-}
-
-// The first tag that has the type and the name, or the end of the list.
-fn next_candidate(tags: &[u8], from: Spot, code: u8, name: &[u8]) -> Spot
-    requires { ⌜ Lies (tagsFrom (now tags) from) ⌝ }
-    ensures { λ r. ⌜ Finds code (now (name .entry)) (now (tags .entry)) from r ⌝ }
-{
-    let mut left = from.left;
-    let mut at = from.at;
-    while 0 < left {
-        if is_candidate(tags, at, code, name) {
-            return Spot { left, at };
-        }
-        at = whole_tag_end(tags, at);
-        left -= 1;
-    }
-    Spot { left, at }
-}
-
 // The value of a tag is read where it lies. That the whole tag is there is known.
 
 fn value_at(tags: &[u8], at: usize) -> usize
@@ -179,65 +156,108 @@ fn number_at(tags: &[u8], at: usize) -> u32
     number
 }
 
-// Whether a tag of the type and name that the leaf looks for has such a value. A join is no leaf: it looks for none.
-fn meets_at(query: &[u8], leaf: Node, tags: &[u8], at: usize) -> bool
-    requires { ⌜ true ≡ onItem (isSought (nodeIn (now query) leaf)) (decodeTag (now tags) at) ⌝ }
-    ensures { λ r. ⌜ r ≡ onItem (tagMeets (nodeIn (now (query .entry)) leaf)) (decodeTag (now (tags .entry)) at) ⌝ }
-{
-    match leaf {
-        Node::Join(_) => false,
-        Node::Keyword(text) => contains(text_at(tags, at), bytes_at(query, text.at, text.len)),
-        Node::Field(text, _) => same(text_at(tags, at), bytes_at(query, text.at, text.len)),
-        Node::Limit(limit, bound, _) => is_within(bound, limit, number_at(tags, at)),
-    }
-}
+// Whether the tag at an offset is one that a leaf looks for, and whether some tag of the list is: a keyword and a field look for a String
+// tag, a limit for a DWORD tag. Most tags are of another type or name: their values are not read. Each kind of leaf has a loop of its own, so that
+// what it looks for is known in the loop.
 
-// Whether some tag of the list is one that the leaf looks for. Most tags are of another type or name: their values are not read.
-fn some_tag(query: &[u8], leaf: Node, code: u8, name: &[u8], tags: &[u8], list: Items) -> bool
-    requires { ⌜ Seeks code (now name) (nodeIn (now query) leaf) × ItemsPlaced decodeTag (now tags) list ⌝ }
-    ensures { λ r. ⌜ r ≡ some (tagMeets (nodeIn (now (query .entry)) leaf)) (tagsIn (now (tags .entry)) list) ⌝ }
+fn keyword_at(tags: &[u8], at: usize, text: &[u8]) -> bool
+    requires { ⌜ Lies (decodeTag (now tags) at) ⌝ }
+    ensures { λ r. ⌜ r ≡ onItem (tagMeets (keyword (now (text .entry)))) (decodeTag (now (tags .entry)) at) ⌝ }
 {
-    let mut left = list.count;
-    let mut at = list.at;
-    while 0 < left {
-        let found = next_candidate(tags, Spot { left, at }, code, name);
-        let remaining = found.left;
-        let here = found.at;
-        if remaining == 0 {
-            return false;
-        }
-        if meets_at(query, leaf, tags, here) {
-            return true;
-        }
-        at = whole_tag_end(tags, here);
-        left = remaining - 1;
+    if is_candidate(tags, at, TEXT, b"\x01") {
+        return contains(text_at(tags, at), text);
     }
     false
 }
 
-// The truth of a leaf: a keyword and a field look for a String tag, a limit for a DWORD tag. A join is no leaf.
+fn keyword_holds(tags: &[u8], list: Items, text: &[u8]) -> bool
+    requires { ⌜ ItemsPlaced decodeTag (now tags) list ⌝ }
+    ensures { λ r. ⌜ r ≡ some (tagMeets (keyword (now (text .entry)))) (tagsIn (now (tags .entry)) list) ⌝ }
+{
+    let mut left = list.count;
+    let mut at = list.at;
+    while 0 < left {
+        if keyword_at(tags, at, text) {
+            return true;
+        }
+        at = whole_tag_end(tags, at);
+        left -= 1;
+    }
+    false
+}
+
+fn field_at(tags: &[u8], at: usize, text: &[u8], name: &[u8]) -> bool
+    requires { ⌜ Lies (decodeTag (now tags) at) ⌝ }
+    ensures { λ r. ⌜ r ≡ onItem (tagMeets (field (now (text .entry)) (now (name .entry)))) (decodeTag (now (tags .entry)) at) ⌝ }
+{
+    if is_candidate(tags, at, TEXT, name) {
+        return same(text_at(tags, at), text);
+    }
+    false
+}
+
+fn field_holds(tags: &[u8], list: Items, text: &[u8], name: &[u8]) -> bool
+    requires { ⌜ ItemsPlaced decodeTag (now tags) list ⌝ }
+    ensures { λ r. ⌜ r ≡ some (tagMeets (field (now (text .entry)) (now (name .entry)))) (tagsIn (now (tags .entry)) list) ⌝ }
+{
+    let mut left = list.count;
+    let mut at = list.at;
+    while 0 < left {
+        if field_at(tags, at, text, name) {
+            return true;
+        }
+        at = whole_tag_end(tags, at);
+        left -= 1;
+    }
+    false
+}
+
+fn limit_at(tags: &[u8], at: usize, threshold: u32, bound: Bound, name: &[u8]) -> bool
+    requires { ⌜ Lies (decodeTag (now tags) at) ⌝ }
+    ensures { λ r. ⌜ r ≡ onItem (tagMeets (limit threshold (boundOf bound) (now (name .entry)))) (decodeTag (now (tags .entry)) at) ⌝ }
+{
+    if is_candidate(tags, at, DWORD, name) {
+        return is_within(bound, threshold, number_at(tags, at));
+    }
+    false
+}
+
+fn limit_holds(tags: &[u8], list: Items, threshold: u32, bound: Bound, name: &[u8]) -> bool
+    requires { ⌜ ItemsPlaced decodeTag (now tags) list ⌝ }
+    ensures { λ r. ⌜ r ≡ some (tagMeets (limit threshold (boundOf bound) (now (name .entry)))) (tagsIn (now (tags .entry)) list) ⌝ }
+{
+    let mut left = list.count;
+    let mut at = list.at;
+    while 0 < left {
+        if limit_at(tags, at, threshold, bound, name) {
+            return true;
+        }
+        at = whole_tag_end(tags, at);
+        left -= 1;
+    }
+    false
+}
+
+// The truth of a leaf. A join is no leaf: it looks for no tag.
 fn leaf_holds(query: &[u8], leaf: Node, tags: &[u8], list: Items) -> bool
     requires { ⌜ ItemsPlaced decodeTag (now tags) list ⌝ }
     ensures { λ r. ⌜ r ≡ some (tagMeets (nodeIn (now (query .entry)) leaf)) (tagsIn (now (tags .entry)) list) ⌝ }
 {
     match leaf {
         Node::Join(_) => false,
-        Node::Keyword(_) => some_tag(query, leaf, TEXT, b"\x01", tags, list),
-        Node::Field(_, name) => some_tag(
-            query,
-            leaf,
-            TEXT,
-            bytes_at(query, name.at, name.len),
+        Node::Keyword(text) => keyword_holds(tags, list, bytes_at(query, text.at, text.len)),
+        Node::Field(text, name) => field_holds(
             tags,
             list,
+            bytes_at(query, text.at, text.len),
+            bytes_at(query, name.at, name.len),
         ),
-        Node::Limit(_, _, name) => some_tag(
-            query,
-            leaf,
-            DWORD,
-            bytes_at(query, name.at, name.len),
+        Node::Limit(threshold, bound, name) => limit_holds(
             tags,
             list,
+            threshold,
+            bound,
+            bytes_at(query, name.at, name.len),
         ),
     }
 }

@@ -1,3 +1,4 @@
+-- By the kind of the leaf.
 use mathlib.Core.Path.{refl, sym}
 use denote.Ref.{now}
 use Rattle.tags.specs.TagAnswers.{tagsIn}
@@ -10,27 +11,14 @@ use Rattle.truth.proofs.leaf_holds.Tie as tie
 enum-told : tie.Need-enum-told
 enum-told c = search needs
 
-enum-told-2 : tie.Need-enum-told-2
-enum-told-2 c = search needs
-
-slice-aggregate-some-tag : tie.Need-slice-aggregate-some-tag
-slice-aggregate-some-tag c = search needs
-
-some-tag-requires : tie.Need-some-tag-requires
-some-tag-requires c κs =
-    let a = c .before .before .before .before .before in
-    (rw (c .before .enum-told2 .given .1) (λ t. refl), a .pre)
-
 enum-known-leaf : tie.Need-enum-known-leaf
 enum-known-leaf c = search needs
 
 bytes-at-requires : tie.Need-bytes-at-requires
 bytes-at-requires c κs = search needs
 
-some-tag-requires-2 : tie.Need-some-tag-requires-2
-some-tag-requires-2 c κs =
-    let a = c .before .before .before .before .before .before in
-    (rw (c .bytes-at .ensures) (λ t. refl), a .pre)
+keyword-holds-requires : tie.Need-keyword-holds-requires
+keyword-holds-requires c κs = search needs
 
 enum-known-leaf-2 : tie.Need-enum-known-leaf-2
 enum-known-leaf-2 c = search needs
@@ -38,10 +26,20 @@ enum-known-leaf-2 c = search needs
 bytes-at-requires-2 : tie.Need-bytes-at-requires-2
 bytes-at-requires-2 c κs = search needs
 
-some-tag-requires-3 : tie.Need-some-tag-requires-3
-some-tag-requires-3 c κs =
-    let a = c .before .before .before .before .before .before in
-    (rw (c .bytes-at2 .ensures) (λ t. refl), a .pre)
+bytes-at-requires-3 : tie.Need-bytes-at-requires-3
+bytes-at-requires-3 c κs = search needs
+
+field-holds-requires : tie.Need-field-holds-requires
+field-holds-requires c κs = search needs
+
+enum-known-leaf-3 : tie.Need-enum-known-leaf-3
+enum-known-leaf-3 c = search needs
+
+bytes-at-requires-4 : tie.Need-bytes-at-requires-4
+bytes-at-requires-4 c κs = search needs
+
+limit-holds-requires : tie.Need-limit-holds-requires
+limit-holds-requires c κs = search needs
 
 returns : tie.Need-returns
 unfolding tagMeets
@@ -50,28 +48,29 @@ returns c =
     rw (c .enum-told .given .1) (sym (some-never _ (λ t. refl) (tagsIn (now (a .tags)) (a .list))))
 
 returns-2 : tie.Need-returns-2
-returns-2 c = search needs
+returns-2 c = rw (c .before .before .before .leaf .given .1) (rw (c .before .bytes-at .ensures) at (c .keyword-holds .ensures))
 
 returns-3 : tie.Need-returns-3
-returns-3 c = rw (c .before .before .before .leaf .given .1) (c .some-tag2 .ensures)
+returns-3 c = rw (c .before .before .before .before .leaf2 .given .1) (rw (c .before .bytes-at3 .ensures, c .before .before .bytes-at2 .ensures) at (c .field-holds .ensures))
 
 returns-4 : tie.Need-returns-4
-returns-4 c = rw (c .before .before .before .leaf2 .given .1) (c .some-tag3 .ensures)
+returns-4 c = rw (c .before .before .before .leaf3 .given .1) (rw (c .before .bytes-at4 .ensures) at (c .limit-holds .ensures))
 
 pub leaf-holds-spec : {M : Type 1} → statement M
 leaf-holds-spec =
     tie.close
     (tie.spec
     enum-told
-    enum-told-2
-    slice-aggregate-some-tag
-    some-tag-requires
     enum-known-leaf
     bytes-at-requires
-    some-tag-requires-2
+    keyword-holds-requires
     enum-known-leaf-2
     bytes-at-requires-2
-    some-tag-requires-3
+    bytes-at-requires-3
+    field-holds-requires
+    enum-known-leaf-3
+    bytes-at-requires-4
+    limit-holds-requires
     returns
     returns-2
     returns-3
