@@ -6,13 +6,16 @@ use mathlib.Core.List.{List}
 use lib.ListN.{length}
 use borrow.Author.Tests.{eq-eqb, le-leb, ne-eqb}
 use Rattle.format.specs.Messages.{Query, Tag, loneQuery, loneTags}
-use Rattle.format.specs.Decoding.{Fault, Outcome, refused, got, number}
+use Rattle.format.specs.Decoding.{Fault, Outcome, refused, got, number, decodeMany, ends, itemsOf}
 use Rattle.format.specs.Decoding.{Answer, refusal, accepted, finish, Reply, refusedWith, message, reply}
-use Rattle.format.specs.Order.{decodeQueryIn, decodeQuery}
+use Rattle.format.specs.Order.{decodeCounted, decodeDword, decodeQuery, decodeQueryIn, decodeTag, decodeTags}
 use Rattle.format.specs.MetOrder.{decode}
 use Rattle.format.specs.Truth.{onQuery, truth}
 use Rattle.format.proofs.Differ.{differ}
 use Rattle.format.proofs.Codec.{never, same-place, same-value}
+use Rattle.wire.proofs.Loops.{ended-got}
+use Rattle.tags.specs.Skips.{offsetAfter}
+use Rattle.query.proofs.Skips.{after-ends}
 use Rattle.truth.specs.TruthAnswers.{truths}
 
 -- A reply is not both a number and a message.
@@ -48,6 +51,18 @@ module _ (s t : List ℕ) where
   pub tags-accepted : {l : List Tag} → message l ≡ reply (decode loneTags t) → onQuery (decode loneQuery s) (accepted l) ≡ truth s t
   unfolding truth
   tags-accepted k = ap (onQuery (decode loneQuery s)) (reply-accepted (decode loneTags t) k)
+
+-- A list that ends with the bytes is a lone list.
+module _ (t : List ℕ) (some : length t ≡ 0 → ⊥) (few : length t ≤ 65536) (end : length t ≡ offsetAfter (decodeTags t 0)) {count first : ℕ} (counted : got count first ≡ decodeDword t 0) where
+  pub list-placed : ends (decodeMany count decodeTag t first) ≡ got tt (length t)
+  unfolding decodeTags decodeCounted
+  list-placed = after-ends (decodeMany count decodeTag t first) (rw (← counted) at end) some
+
+  pub list-accepted : message (itemsOf (decodeMany count decodeTag t first)) ≡ reply (decode loneTags t)
+  unfolding decode decodeTags decodeCounted
+  list-accepted =
+      let g = ended-got (decodeMany count decodeTag t first) (sym list-placed) in
+      rw (le-leb _ 65536 few, ← counted, ← g .1, eq-eqb (length t) (length t) refl) refl
 
 -- The truth by the evaluation of the query, which refuses what the reader of the query refuses.
 module _ (s : List ℕ) (l : List Tag) where

@@ -34,6 +34,7 @@ use query::read_lone_query;
 use query::read_node;
 use tags::TagListAnswer;
 use tags::read_tag_list;
+use tags::tag_list_end;
 use tags::whole_tag_end;
 use wire::Cursor;
 use wire::DwordStep;
@@ -358,9 +359,9 @@ fn truth_on(query: &[u8], tags: &[u8], list: Items) -> Truth
     }
 }
 
-// The truth of a lone query on a lone tag list: each is at most 65,536 bytes, and nothing else. The list is read first, since the
-// query's leaves look into it, but a refusal of the query comes before one of the list.
-pub fn truth_of(query: &[u8], tags: &[u8]) -> Truth
+// The truth of a lone query on a lone tag list, by the readers' answers. The list is read first, since the query's leaves look into it, but a
+// refusal of the query comes before one of the list.
+fn truth_by_readers(query: &[u8], tags: &[u8]) -> Truth
     ensures { λ r. ⌜ truthMeaning r ≡ format.truth (now (query .entry)) (now (tags .entry)) ⌝ }
 {
     let list_answer = read_tag_list(tags);
@@ -380,4 +381,29 @@ pub fn truth_of(query: &[u8], tags: &[u8]) -> Truth
             }
         }
     }
+}
+
+// The truth of a lone query on a lone tag list: each is at most 65,536 bytes, and nothing else. The list is skipped, and its reader is asked
+// where it does not end with the bytes.
+pub fn truth_of(query: &[u8], tags: &[u8]) -> Truth
+    ensures { λ r. ⌜ truthMeaning r ≡ format.truth (now (query .entry)) (now (tags .entry)) ⌝ }
+{
+    let size = tags.len();
+    if size == 0 || PACKET_CEILING < size {
+        return truth_by_readers(query, tags);
+    }
+    if tag_list_end(tags, 0) != size {
+        return truth_by_readers(query, tags);
+    }
+    let start = Cursor { at: 0 };
+    let count_step = start.dword(tags);
+    let DwordStep::Got(count, first) = count_step else {
+        return truth_by_readers(query, tags);
+    };
+    let list = Items {
+        at: first.at,
+        end: size,
+        count,
+    };
+    truth_on(query, tags, list)
 }
