@@ -205,6 +205,7 @@ fn move_up(numbers: &mut [u64], from: usize, to: usize, count: usize)
     }
 }
 
+// Moves `count` numbers to `to`: those that are overwritten are moved before.
 fn move_numbers(numbers: &mut [u64], from: usize, to: usize, count: usize)
     requires { ⌜ (from + count ≤ length (now numbers)) × (to + count ≤ length (now numbers)) ⌝ }
     ensures { λ _. ⌜ now (numbers .exit) ≡ moved (now (numbers .entry)) from to count ⌝ }
@@ -260,7 +261,9 @@ fn clear(numbers: &mut [u64], from: usize)
     }
 }
 
-// Puts what is left of the gaps in their place: the gaps after the range move, and the slots after the last gap hold 0.
+// Puts what is left of the gaps in their place: the gaps after the range move, and the slots after the last gap hold 0. A gap's two
+// numbers stand after the size, the count and the gaps before it: `behind` are the numbers of the gaps after the range, and all after
+// `last` are free.
 fn replace(numbers: &mut [u64], gaps: usize, touched: Touched, start: u64, end: u64, count: usize)
     requires { ⌜ Replaceable (now numbers) gaps start end touched count ⌝ }
     ensures { λ _. ⌜ now (numbers .exit) ≡ holding (subtract (gapsIn (now (numbers .entry))) start end) (now (numbers .entry)) ⌝ }

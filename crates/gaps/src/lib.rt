@@ -79,11 +79,11 @@ fn may_follow(x: Gap, low: u64, size: u64) -> bool
     x.end <= size
 }
 
-pub fn is_lawful(g: GapRecord) -> bool
-    ensures { λ r. ⌜ r ≡ lawfulRecord sizeLimit g ⌝ }
+pub fn is_lawful(given: GapRecord) -> bool
+    ensures { λ r. ⌜ r ≡ lawfulRecord sizeLimit given ⌝ }
 {
-    let count = g.count;
-    let size = g.size;
+    let count = given.count;
+    let size = given.size;
     if GAP_LIMIT < count {
         return false;
     }
@@ -93,7 +93,7 @@ pub fn is_lawful(g: GapRecord) -> bool
     let mut low = 0;
     let mut i = 0;
     while i < count {
-        let gap = g.gaps[i];
+        let gap = given.gaps[i];
         if !may_follow(gap, low, size) {
             return false;
         }
@@ -104,15 +104,15 @@ pub fn is_lawful(g: GapRecord) -> bool
 }
 
 // The sum of the lengths of the gaps.
-fn sum_lengths(g: GapRecord) -> u64
-    requires { ⌜ (g .count ≤ 64) × Ordered (g .size) 0 (gapsOf g) ⌝ }
-    ensures { λ r. ⌜ r ≡ total (gapsOf g) ⌝ }
+fn sum_lengths(given: GapRecord) -> u64
+    requires { ⌜ (given .count ≤ 64) × Ordered (given .size) 0 (gapsOf given) ⌝ }
+    ensures { λ r. ⌜ r ≡ total (gapsOf given) ⌝ }
 {
-    let count = g.count;
+    let count = given.count;
     let mut sum = 0;
     let mut i = 0;
     while i < count {
-        let gap = g.gaps[i];
+        let gap = given.gaps[i];
         sum += gap.end - gap.start;
         i += 1;
     }
@@ -120,34 +120,37 @@ fn sum_lengths(g: GapRecord) -> u64
 }
 
 // How many bytes are missing; 0 for a record that is not lawful.
-pub fn count_missing(g: GapRecord) -> u64
-    ensures { λ r. ⌜ r ≡ missingCount sizeLimit g ⌝ }
+pub fn count_missing(given: GapRecord) -> u64
+    ensures { λ r. ⌜ r ≡ missingCount sizeLimit given ⌝ }
 {
-    if !is_lawful(g) {
+    if !is_lawful(given) {
         return 0;
     }
-    sum_lengths(g)
+    sum_lengths(given)
 }
 
-// Adds the gap from a up to b, if that holds a byte.
-fn push(g: GapRecord, a: u64, b: u64) -> Pushed
-    ensures { λ r. ⌜ r ≡ pushed g a b ⌝ }
+// Adds the gap from `from` up to `to`, if that holds a byte.
+fn push(given: GapRecord, from: u64, to: u64) -> Pushed
+    ensures { λ r. ⌜ r ≡ pushed given from to ⌝ }
 {
-    let count = g.count;
-    if b <= a {
+    let count = given.count;
+    if to <= from {
         return Pushed {
             full: false,
-            after: g,
+            after: given,
         };
     }
     if GAP_LIMIT <= count {
         return Pushed {
             full: true,
-            after: g,
+            after: given,
         };
     }
-    let mut next = g;
-    next.gaps[count] = Gap { start: a, end: b };
+    let mut next = given;
+    next.gaps[count] = Gap {
+        start: from,
+        end: to,
+    };
     next.count = count + 1;
     Pushed {
         full: false,
@@ -155,23 +158,23 @@ fn push(g: GapRecord, a: u64, b: u64) -> Pushed
     }
 }
 
-fn smaller(a: u64, b: u64) -> u64
-    ensures { λ r. ⌜ r ≡ min a b ⌝ }
+fn smaller(one: u64, other: u64) -> u64
+    ensures { λ r. ⌜ r ≡ min one other ⌝ }
 {
-    if a < b { a } else { b }
+    if one < other { one } else { other }
 }
 
-fn larger(a: u64, b: u64) -> u64
-    ensures { λ r. ⌜ r ≡ max a b ⌝ }
+fn larger(one: u64, other: u64) -> u64
+    ensures { λ r. ⌜ r ≡ max one other ⌝ }
 {
-    if a < b { b } else { a }
+    if one < other { other } else { one }
 }
 
 // Adds what is left of the gap x on either side of the range.
-fn push_remaining(g: GapRecord, x: Gap, start: u64, end: u64) -> Pushed
-    ensures { λ r. ⌜ r ≡ pushedRemaining g (gapOf x) start end ⌝ }
+fn push_remaining(given: GapRecord, x: Gap, start: u64, end: u64) -> Pushed
+    ensures { λ r. ⌜ r ≡ pushedRemaining given (gapOf x) start end ⌝ }
 {
-    let pushed = push(g, x.start, smaller(x.end, start));
+    let pushed = push(given, x.start, smaller(x.end, start));
     if pushed.full {
         return pushed;
     }
@@ -180,20 +183,20 @@ fn push_remaining(g: GapRecord, x: Gap, start: u64, end: u64) -> Pushed
 }
 
 // The record with the range taken out of its gaps.
-fn subtract(g: GapRecord, start: u64, end: u64) -> Pushed
-    requires { ⌜ g .count ≤ 64 ⌝ }
-    ensures { λ r. ⌜ r ≡ subtracted g start end ⌝ }
+fn subtract(given: GapRecord, start: u64, end: u64) -> Pushed
+    requires { ⌜ given .count ≤ 64 ⌝ }
+    ensures { λ r. ⌜ r ≡ subtracted given start end ⌝ }
 {
-    let count = g.count;
-    let mut made = none_missing(g.size);
+    let count = given.count;
+    let mut made = none_missing(given.size);
     let mut i = 0;
     while i < count {
-        let gap = g.gaps[i];
+        let gap = given.gaps[i];
         let pushed = push_remaining(made, gap, start, end);
         if pushed.full {
             return Pushed {
                 full: true,
-                after: g,
+                after: given,
             };
         }
         let after = pushed.after;
@@ -207,11 +210,11 @@ fn subtract(g: GapRecord, start: u64, end: u64) -> Pushed
 }
 
 // Whether the range may be marked: the record is lawful, and start < end ≤ size.
-fn is_markable(g: GapRecord, start: u64, end: u64) -> bool
-    ensures { λ r. ⌜ r ≡ markable sizeLimit g start end ⌝ }
+fn is_markable(given: GapRecord, start: u64, end: u64) -> bool
+    ensures { λ r. ⌜ r ≡ markable sizeLimit given start end ⌝ }
 {
-    let size = g.size;
-    if !is_lawful(g) {
+    let size = given.size;
+    if !is_lawful(given) {
         return false;
     }
     if end <= start {
@@ -220,26 +223,26 @@ fn is_markable(g: GapRecord, start: u64, end: u64) -> bool
     end <= size
 }
 
-fn refused(number: u8, g: GapRecord) -> Marked
-    ensures { λ r. ⌜ r ≡ refusal number g ⌝ }
+fn refused(number: u8, given: GapRecord) -> Marked
+    ensures { λ r. ⌜ r ≡ refusal number given ⌝ }
 {
     Marked {
         number,
         missing: 0,
-        after: g,
+        after: given,
     }
 }
 
 // The bytes from `start` up to `end` have arrived.
-pub fn mark(g: GapRecord, start: u64, end: u64) -> Marked
-    ensures { λ r. ⌜ r ≡ marked sizeLimit g start end ⌝ }
+pub fn mark(given: GapRecord, start: u64, end: u64) -> Marked
+    ensures { λ r. ⌜ r ≡ marked sizeLimit given start end ⌝ }
 {
-    if !is_markable(g, start, end) {
-        return refused(RANGE, g);
+    if !is_markable(given, start, end) {
+        return refused(RANGE, given);
     }
-    let left = subtract(g, start, end);
+    let left = subtract(given, start, end);
     if left.full {
-        return refused(LIMIT, g);
+        return refused(LIMIT, given);
     }
     let after = left.after;
     let missing = sum_lengths(after);
@@ -251,12 +254,12 @@ pub fn mark(g: GapRecord, start: u64, end: u64) -> Marked
 }
 
 // The same over a record that is lent: it holds the new gaps afterwards, and a refusal leaves it equal.
-pub fn mark_in_place(g: &mut GapRecord, start: u64, end: u64) -> MarkAnswer
-    ensures { λ r. ⌜ (r ≡ answerOf (marked sizeLimit (now (g .entry)) start end))
-        × (now (g .exit) ≡ marked sizeLimit (now (g .entry)) start end .after) ⌝ }
+pub fn mark_in_place(given: &mut GapRecord, start: u64, end: u64) -> MarkAnswer
+    ensures { λ r. ⌜ (r ≡ answerOf (marked sizeLimit (now (given .entry)) start end))
+        × (now (given .exit) ≡ marked sizeLimit (now (given .entry)) start end .after) ⌝ }
 {
-    let m = mark(*g, start, end);
-    *g = m.after;
+    let m = mark(*given, start, end);
+    *given = m.after;
     MarkAnswer {
         number: m.number,
         missing: m.missing,

@@ -21,7 +21,7 @@ subtract-requires : tie.Need-subtract-requires
 subtract-requires c κs =
     let k = sym (c .before .is-markable .ensures) ∙ not-false _ (c .if1 .left) in
     let a = c .before .before .args in
-    markable-exactly sizeLimit (a .g) (a .start) (a .end) .0 k .counted
+    markable-exactly sizeLimit (a .given) (a .start) (a .end) .0 k .counted
 
 refused-requires-2 : tie.Need-refused-requires-2
 refused-requires-2 c κs = search needs
@@ -32,21 +32,21 @@ returns-2 c =
     let k = sym (p .before .before .is-markable .ensures) ∙ not-false _ (p .before .if1 .left) in
     let a = p .before .before .before .args in
     c .refused2 .ensures
-    ∙ sym (marked-full sizeLimit (a .g) (a .start) (a .end) k (p .subtract .result) (p .subtract .ensures) (c .before .if2 .taken))
+    ∙ sym (marked-full sizeLimit (a .given) (a .start) (a .end) k (p .subtract .result) (p .subtract .ensures) (c .before .if2 .taken))
 
 sum-lengths-requires : tie.Need-sum-lengths-requires
 sum-lengths-requires c κs =
     let p = c .before .before in
     let k = sym (p .before .before .is-markable .ensures) ∙ not-false _ (p .before .if1 .left) in
     let a = p .before .before .before .args in
-    after-ordered sizeLimit (a .g) (a .start) (a .end) k (p .subtract .result) (p .subtract .ensures) (c .before .if2 .left)
+    after-ordered sizeLimit (a .given) (a .start) (a .end) k (p .subtract .result) (p .subtract .ensures) (c .before .if2 .left)
 
 returns-3 : tie.Need-returns-3
 returns-3 c =
     let p = c .before .before .before in
     let k = sym (p .before .before .is-markable .ensures) ∙ not-false _ (p .before .if1 .left) in
     let a = p .before .before .before .args in
-    sym (marked-room sizeLimit (a .g) (a .start) (a .end) k (p .subtract .result) (p .subtract .ensures) (c .before .before .if2 .left)
+    sym (marked-room sizeLimit (a .given) (a .start) (a .end) k (p .subtract .result) (p .subtract .ensures) (c .before .before .if2 .left)
     (c .sum-lengths .result) (c .sum-lengths .ensures))
 
 pub mark-spec : {M : Type 1} → statement M
