@@ -16,16 +16,16 @@ pub file-entry-ends : (s : List ℕ) (at n : ℕ) → n ≡ getD s (at + 20) 0 +
     {r : ℕ} → EndsThere (ends (decodeTags s (at + 22 + 16 * n))) r → EndsThere (ends (decodeFileEntry s at)) r
 unfolding decodeFileEntry decodeCounted
 file-entry-ends s at n e h v =
-    let a : at + 4 + 16 ≡ at + 20 = omega arith in
-    let b : at + 20 + 1 ≡ at + 21 = omega arith in
-    let c : at + 20 + 2 ≡ at + 22 = omega arith in
+    let count-at : at + 4 + 16 ≡ at + 20 = omega arith in
+    let high : at + 20 + 1 ≡ at + 21 = omega arith in
+    let parts-at : at + 20 + 2 ≡ at + 22 = omega arith in
     rw (
       ← dword-there s at (omega arith),
       ← hash-item s (at + 4) (omega arith) .1,
-      a,
+      count-at,
       ← word-there s (at + 20) (omega arith),
-      b,
-      c,
+      high,
+      parts-at,
       ← e,
       ← even-list decodeHash 16 hash-item s n (at + 22) h .0,
     )
@@ -34,5 +34,5 @@ file-entry-ends s at n e h v =
 pub server-entry-ends : (s : List ℕ) (at : ℕ) → at + 6 ≤ length s → {r : ℕ} → EndsThere (ends (decodeTags s (at + 6))) r → EndsThere (ends (decodeServerEntry s at)) r
 unfolding decodeServerEntry
 server-entry-ends s at h v =
-    let a : at + 4 + 2 ≡ at + 6 = omega arith in
-    rw (← dword-there s at (omega arith), ← word-there s (at + 4) (omega arith), a) (ends-after s (decodeTags s (at + 6)) _ v)
+    let tags-at : at + 4 + 2 ≡ at + 6 = omega arith in
+    rw (← dword-there s at (omega arith), ← word-there s (at + 4) (omega arith), tags-at) (ends-after s (decodeTags s (at + 6)) _ v)

@@ -14,7 +14,7 @@ use Rattle.tags.proofs.Skips.{ends-after}
 pub record-ends : (s : List ℕ) (at : ℕ) → at + 22 ≤ length s → {r : ℕ} → EndsThere (ends (decodeTags s (at + 22))) r → EndsThere (ends (decodeRecord s at)) r
 unfolding decodeRecord
 record-ends s at h v =
-    let a : at + 16 + 4 ≡ at + 20 = omega arith in
-    let b : at + 20 + 2 ≡ at + 22 = omega arith in
-    rw (← hash-item s at (omega arith) .1, ← dword-there s (at + 16) (omega arith), a, ← word-there s (at + 20) (omega arith), b)
+    let port-at : at + 16 + 4 ≡ at + 20 = omega arith in
+    let tags-at : at + 20 + 2 ≡ at + 22 = omega arith in
+    rw (← hash-item s at (omega arith) .1, ← dword-there s (at + 16) (omega arith), port-at, ← word-there s (at + 20) (omega arith), tags-at)
     (ends-after s (decodeTags s (at + 22)) _ v)

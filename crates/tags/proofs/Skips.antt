@@ -88,22 +88,22 @@ module _ (s : List ℕ) (at n : ℕ) (t : TagType) (is : typeCode t ≡ getD s a
   ends-with : {r : ℕ} → ends (decodeValueOf t s (at + 3 + n)) ≡ got tt r → ends (decodeTag s at) ≡ got tt r
   unfolding ends decodeTag decodeType decodeCode decodeName
   ends-with v =
-      let a : at + 1 + 2 ≡ at + 3 = omega arith in
-      let b : at + 1 + 1 ≡ at + 2 = omega arith in
-      let w = ended-got (decodeValueOf t s (at + 3 + n)) (sym v) in
+      let name-at : at + 1 + 2 ≡ at + 3 = omega arith in
+      let high : at + 1 + 1 ≡ at + 2 = omega arith in
+      let value = ended-got (decodeValueOf t s (at + 3 + n)) (sym v) in
       rw (
         ← byte-there s at (omega arith),
         ← is,
         listed t,
         ← word-there s (at + 1) (omega arith),
-        b,
+        high,
         ← e,
         ne-eqb n 0 some-bytes,
         le-leb n 255 few,
-        a,
+        name-at,
         ← run-there s (at + 3) n h,
         value-is t s (at + 3 + n),
-        ← w .1,
+        ← value .1,
       )
       refl
 

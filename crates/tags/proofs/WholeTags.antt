@@ -26,10 +26,10 @@ word-was s at e = let r = word-ends s at e in (r .1, sym (same-value (word-there
 type-was : (s : List ℕ) (at : ℕ) {k : TagType} {next : ℕ} → decodeType s at ≡ got k next → (next ≡ at + 1) × (typeCode k ≡ getD s at 0)
 unfolding decodeType decodeCode
 type-was s at {k} {next} e =
-    let w : Went s (decodeByte s at) (λ b s next. settled at 1 (found choice (lookup tagTypes b)) next) k next = went s (decodeByte s at) e in
-    let b = byte-was s at (w .was) in
-    let t = go (w .first) (w .mid) (lookup tagTypes (w .first)) refl (w .then) in
-    (t .0 ∙ b .0, t .1 ∙ b .1)
+    let code : Went s (decodeByte s at) (λ b s next. settled at 1 (found choice (lookup tagTypes b)) next) k next = went s (decodeByte s at) e in
+    let byte = byte-was s at (code .was) in
+    let row = go (code .first) (code .mid) (lookup tagTypes (code .first)) refl (code .then) in
+    (row .0 ∙ byte .0, row .1 ∙ byte .1)
   where
     go : (b mid : ℕ) (o : Option TagType) → lookup tagTypes b ≡ o → settled at 1 (found choice o) mid ≡ got k next → (next ≡ mid) × (typeCode k ≡ b)
     go b mid none l e = absurd (never e)
@@ -48,13 +48,11 @@ name-was : (s : List ℕ) (at n : ℕ) {name : List ℕ} {next : ℕ} → n ≡ 
     (at + 2 + n ≤ length s) × ((next ≡ at + 2 + n) × (name ≡ bytesAt s (at + 2) n))
 unfolding decodeName
 name-was s at n {name} {next} is e =
-    let w : Went s (checked 2 checkNameLength decodeWord s at) (λ n. decodeRun n) name next = went s (checked 2 checkNameLength decodeWord s at) e in
-    let x : Went s (decodeWord s at) (λ n s next. settled at 2 (checkNameLength n) next) (w .first) (w .mid) = went s (decodeWord s at) (w .was) in
-    let m = word-was s at (x .was) in
-    let l = length-was at (x .first) (x .mid) (x .then) in
-    let p : w .mid ≡ at + 2 = l .0 ∙ m .0 in
-    let q : w .first ≡ n = l .1 ∙ m .1 ∙ sym is in
-    moved-run p q (w .then)
+    let len : Went s (checked 2 checkNameLength decodeWord s at) (λ n. decodeRun n) name next = went s (checked 2 checkNameLength decodeWord s at) e in
+    let read : Went s (decodeWord s at) (λ n s next. settled at 2 (checkNameLength n) next) (len .first) (len .mid) = went s (decodeWord s at) (len .was) in
+    let word = word-was s at (read .was) in
+    let lawful = length-was at (read .first) (read .mid) (read .then) in
+    moved-run (lawful .0 ∙ word .0) (lawful .1 ∙ word .1 ∙ sym is) (len .then)
   where
     moved-run : {mid k : ℕ} → mid ≡ at + 2 → k ≡ n → decodeRun k s mid ≡ got name next →
         (at + 2 + n ≤ length s) × ((next ≡ at + 2 + n) × (name ≡ bytesAt s (at + 2) n))
@@ -68,19 +66,19 @@ value-spans : (k : TagType) (s : List ℕ) (at : ℕ) {v : TagValue k} {next : �
 unfolding decodeHash decodeString
 value-spans hashType s at e = let r = run-was s at 16 e in (omega (arith, r .0), omega (arith, r .1 .0))
 value-spans stringType s at {v} {next} e =
-    let w : Went s (decodeWord s at) (λ n. decodeRun n) v next = went s (decodeWord s at) e in
-    let m = word-was s at (w .was) in
-    let r = run-was s (w .mid) (w .first) (w .then) in
-    (omega (arith, r .0, m .0, m .1), omega (arith, r .1 .0, m .0, m .1))
+    let len : Went s (decodeWord s at) (λ n. decodeRun n) v next = went s (decodeWord s at) e in
+    let word = word-was s at (len .was) in
+    let run = run-was s (len .mid) (len .first) (len .then) in
+    (omega (arith, run .0, word .0, word .1), omega (arith, run .1 .0, word .0, word .1))
 value-spans dwordType s at e = let r = dword-ends s at e in (omega (arith, r .0), omega (arith, r .1))
 value-spans floatType s at e = let r = dword-ends s at e in (omega (arith, r .0), omega (arith, r .1))
 
 value-was : (k : TagType) (s : List ℕ) (at : ℕ) {v : (t : TagType) × TagValue t} {next : ℕ} → decodeValue k s at ≡ got v next →
     (v .0 ≡ k) × ((at + width k s at ≤ length s) × (next ≡ at + width k s at))
 value-was k s at {v} {next} e =
-    let w : Went s (decodeValueOf k s at) (λ v. pure (k, v)) v next = went s (decodeValueOf k s at) (sym (value-is k s at) ∙ e) in
-    let r = value-spans k s at (w .was) in
-    (ap (λ v. v .0) (sym (same-value (w .then))), (r .0, sym (same-place (w .then)) ∙ r .1))
+    let value : Went s (decodeValueOf k s at) (λ v. pure (k, v)) v next = went s (decodeValueOf k s at) (sym (value-is k s at) ∙ e) in
+    let span = value-spans k s at (value .was) in
+    (ap (λ v. v .0) (sym (same-value (value .then))), (span .0, sym (same-place (value .then)) ∙ span .1))
 
 -- The type, the name and the value of a tag, and where it ends.
 pub record TagWas (s : List ℕ) (at n : ℕ) (t : Tag) (next : ℕ) : Type 0 where
@@ -101,25 +99,26 @@ module _ (s : List ℕ) (at n : ℕ) (word : n ≡ getD s (at + 1) 0 + 256 * get
   tag-was : {t : Tag} {next : ℕ} → decodeTag s at ≡ got t next → TagWas s at n t next
   unfolding decodeTag
   tag-was {t} {next} d =
-      let w = went s (decodeType s at) d in
-      let k = type-was s at (w .was) in
-      let x = went s (decodeName s (w .mid)) (w .then) in
-      let y = went s (decodeValue (w .first) s (x .mid)) (x .then) in
-      let b : at + 1 + 1 ≡ at + 2 = omega arith in
-      let m = name-was s (at + 1) n (rw b word) (sym (ap (decodeName s) (k .0)) ∙ x .was) in
-      let is : record { name = x .first; value = y .first } ≡ t = same-value (y .then) in
-      let p : x .mid ≡ at + 3 + n = omega (arith, m .1 .0) in
-      let v = value-was (w .first) s (at + 3 + n) (sym (ap (decodeValue (w .first) s) p) ∙ y .was) in
-      let a : at + 1 + 2 ≡ at + 3 = omega arith in
+      let type = went s (decodeType s at) d in
+      let name = went s (decodeName s (type .mid)) (type .then) in
+      let value = went s (decodeValue (type .first) s (name .mid)) (name .then) in
+      let high : at + 1 + 1 ≡ at + 2 = omega arith in
+      let text : at + 1 + 2 ≡ at + 3 = omega arith in
+      let listed = type-was s at (type .was) in
+      let named = name-was s (at + 1) n (rw high word) (sym (ap (decodeName s) (listed .0)) ∙ name .was) in
+      let whole : record { name = name .first; value = value .first } ≡ t = same-value (value .then) in
+      let after-name : name .mid ≡ at + 3 + n = omega (arith, named .1 .0) in
+      let read = sym (ap (decodeValue (type .first) s) after-name) ∙ value .was in
+      let valued = value-was (type .first) s (at + 3 + n) read in
       record {
-        type = w .first;
-        is = ap (λ t. t .value .0) (sym is) ∙ v .0;
-        code = k .1;
-        name-there = omega (arith, m .0);
-        name-is = ap (λ t. t .name) (sym is) ∙ m .1 .1 ∙ ap (λ a. bytesAt s a n) a;
-        value-there = v .1 .0;
-        end = sym (same-place (y .then)) ∙ v .1 .1;
-        value-is = sym (ap (decodeValue (w .first) s) p) ∙ y .was ∙ rw (same-place (y .then)) (ap (λ t. got (t .value) next) is);
+        type = type .first;
+        is = ap (λ t. t .value .0) (sym whole) ∙ valued .0;
+        code = listed .1;
+        name-there = omega (arith, named .0);
+        name-is = ap (λ t. t .name) (sym whole) ∙ named .1 .1 ∙ ap (λ from. bytesAt s from n) text;
+        value-there = valued .1 .0;
+        end = sym (same-place (value .then)) ∙ valued .1 .1;
+        value-is = read ∙ rw (same-place (value .then)) (ap (λ t. got (t .value) next) whole);
       }
 
   module _ (lies : Lies (decodeTag s at)) where

@@ -9,18 +9,17 @@ use Rattle.format.specs.Decoding.{bytesAt, got}
 use Rattle.format.specs.Order.{decodeDword}
 use Rattle.format.proofs.There.{dword-there}
 
+pub to-the-end : (s : List ℕ) (at : ℕ) → bytesAt s at (length s - at) ≡ drop at s
+to-the-end s at = take-all (length s - at) (drop at s) (simp length-drop (omega arith))
+
 module _ (s : List ℕ) (at n : ℕ) where
   pub part-past : length s ≤ at → [] ≡ bytesAt s at n
   part-past h = rw (drop-of-length-le s h, take-nil n) refl
 
   pub part-clipped : length s - at < n → bytesAt s at (length s - at) ≡ bytesAt s at n
   part-clipped h =
-      let k : length (drop at s) ≤ length s - at = simp length-drop (omega arith) in
-      let m : length (drop at s) ≤ n = omega arith in
-      take-all (length s - at) (drop at s) k ∙ sym (take-all n (drop at s) m)
-
-pub to-the-end : (s : List ℕ) (at : ℕ) → bytesAt s at (length s - at) ≡ drop at s
-to-the-end s at = take-all (length s - at) (drop at s) (simp length-drop (omega arith))
+      let all : length (drop at s) ≤ length s - at = simp length-drop (omega arith) in
+      to-the-end s at ∙ sym (take-all n (drop at s) (omega (arith, all)))
 
 -- the four bytes of a DWORD, each at its place
 pub dword-here : (s : List ℕ) (at : ℕ) → at + 4 ≤ length s →

@@ -31,8 +31,8 @@ add-end c = search needs
 
 returns-3 : tie.Need-returns-3
 returns-3 c =
-    let a = c .before .before .before .args in
-    even-list decodeAddress 6 address-item (now (a .s)) (a .count) (a .first .at) (omega (arith, c .before .if1 .left, c .if2 .left))
+    let start = c .before .before .before .args in
+    even-list decodeAddress 6 address-item (now (start .s)) (start .count) (start .first .at) (omega (arith, c .before .if1 .left, c .if2 .left))
 
 pub addresses-from-spec : {M : Type 1} → statement M
 addresses-from-spec =

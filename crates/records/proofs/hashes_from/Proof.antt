@@ -30,8 +30,8 @@ add-end c = search needs
 
 returns-3 : tie.Need-returns-3
 returns-3 c =
-    let a = c .before .before .before .args in
-    even-list decodeHash 16 hash-item (now (a .s)) (a .count) (a .first .at) (omega (arith, c .before .if1 .left, c .if2 .left))
+    let start = c .before .before .before .args in
+    even-list decodeHash 16 hash-item (now (start .s)) (start .count) (start .first .at) (omega (arith, c .before .if1 .left, c .if2 .left))
 
 pub hashes-from-spec : {M : Type 1} → statement M
 hashes-from-spec =

@@ -11,8 +11,8 @@ tag-end-requires c κs = search needs
 
 returns : tie.Need-returns
 returns c =
-    let a = c .before .before .before .args in
-    end-is-after (decodeTag (now (a .s)) (a .at)) (c .before .tag-end .ensures) (c .if1 .taken)
+    let start = c .before .before .before .args in
+    end-is-after (decodeTag (now (start .s)) (start .at)) (c .before .tag-end .ensures) (c .if1 .taken)
 
 read-tag-after-requires : tie.Need-read-tag-after-requires
 read-tag-after-requires c κs = search needs

@@ -20,9 +20,9 @@ returns c = search needs
 
 returns-2 : tie.Need-returns-2
 returns-2 c =
-    let a = c .before .before .before .args in
+    let start = c .before .before .before .args in
     let end = sym (told (c .before .tags-end .ensures) (c .if1 .left)) in
-    (ends-items (decodeMany (a .count) decodeTag (now (a .s)) (a .first .at)) _ end, (end, refl))
+    (ends-items (decodeMany (start .count) decodeTag (now (start .s)) (start .first .at)) _ end, (end, refl))
 
 pub tags-from-spec : {M : Type 1} → statement M
 tags-from-spec = tie.close (tie.spec tags-end-requires tag-by-tag-requires returns returns-2)

@@ -35,13 +35,13 @@ part-result-end-2 : tie.Need-part-result-end-2
 part-result-end-2 c = search needs
 
 returns : tie.Need-returns
-returns c = let a = c .before .before .args in part-past (now (a .s)) (a .at) (a .len) (c .before .if1 .taken)
+returns c = let start = c .before .before .args in part-past (now (start .s)) (start .at) (start .len) (c .before .if1 .taken)
 
 returns-2 : tie.Need-returns-2
 returns-2 c = rw add-sub-cancel-left refl
 
 returns-3 : tie.Need-returns-3
-returns-3 c = let a = c .before .before .before .args in part-clipped (now (a .s)) (a .at) (a .len) (c .before .if2 .left)
+returns-3 c = let start = c .before .before .before .args in part-clipped (now (start .s)) (start .at) (start .len) (c .before .if2 .left)
 
 pub bytes-at-spec : {M : Type 1} → statement M
 bytes-at-spec =

@@ -51,8 +51,8 @@ shared-slice-read-byte c = omega (arith, bytes-there _ _ _ (run-read (c .before 
 
 cast-if2 : tie.Need-cast-if2
 cast-if2 c =
-    let a = c .before .before .before .before .before .before .before .before .before .args in
-    omega (arith, c .shared-slice-known2 .given (a .c .at + a .parts / 8))
+    let start = c .before .before .before .before .before .before .before .before .before .args in
+    omega (arith, c .shared-slice-known2 .given (start .c .at + start .parts / 8))
 
 power-requires : tie.Need-power-requires
 power-requires c κs = search needs

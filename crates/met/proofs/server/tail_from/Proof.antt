@@ -17,7 +17,7 @@ length-between-requires : tie.Need-length-between-requires
 length-between-requires c κs = search needs
 
 returns : tie.Need-returns
-returns c = let a = c .before .before in rw (c .length-between .ensures) (to-the-end (now (a .args .s)) (a .args .c .at), inside (now (a .args .s)) (a .args .c .at) (a .pre))
+returns c = let start = c .before .before in rw (c .length-between .ensures) (to-the-end (now (start .args .s)) (start .args .c .at), inside (now (start .args .s)) (start .args .c .at) (start .pre))
 
 pub tail-from-spec : {M : Type 1} → statement M
 tail-from-spec = tie.close (tie.spec length-between-requires returns)

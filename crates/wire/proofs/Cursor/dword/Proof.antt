@@ -8,13 +8,13 @@ use Rattle.wire.proofs.Cursor.dword.Statement.{statement}
 use Rattle.wire.proofs.Cursor.dword.Tie as tie
 
 returns : tie.Need-returns
-returns c = let a = c .before .before .args in dword-short (now (a .s)) (a .self .at) (omega arith)
+returns c = let start = c .before .before .args in dword-short (now (start .s)) (start .self .at) (omega arith)
 
 sub-if2 : tie.Need-sub-if2
 sub-if2 c = search needs
 
 returns-2 : tie.Need-returns-2
-returns-2 c = let a = c .before .before .before .args in dword-short (now (a .s)) (a .self .at) (omega arith)
+returns-2 c = let start = c .before .before .before .args in dword-short (now (start .s)) (start .self .at) (omega arith)
 
 shared-slice-read-quad : tie.Need-shared-slice-read-quad
 shared-slice-read-quad c = search needs
@@ -45,8 +45,8 @@ add-next c = search needs
 
 returns-3 : tie.Need-returns-3
 returns-3 c =
-    let a = c .before .before .before .before .before .before .before .before .args in
-    rw (c .quad .ensures) (dword-here (now (a .s)) (a .self .at) (omega arith))
+    let start = c .before .before .before .before .before .before .before .before .args in
+    rw (c .quad .ensures) (dword-here (now (start .s)) (start .self .at) (omega arith))
 
 pub dword-spec : {M : Type 1} → statement M
 dword-spec =

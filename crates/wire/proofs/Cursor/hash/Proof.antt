@@ -9,21 +9,21 @@ use Rattle.wire.proofs.Cursor.hash.Tie as tie
 
 returns : tie.Need-returns
 unfolding decodeHash
-returns c = let a = c .before .args in run-short (now (a .s)) (a .self .at) 16 (omega arith)
+returns c = let start = c .before .args in run-short (now (start .s)) (start .self .at) 16 (omega arith)
 
 sub-if2 : tie.Need-sub-if2
 sub-if2 c = search needs
 
 returns-2 : tie.Need-returns-2
 unfolding decodeHash
-returns-2 c = let a = c .before .before .args in run-short (now (a .s)) (a .self .at) 16 (omega arith)
+returns-2 c = let start = c .before .before .args in run-short (now (start .s)) (start .self .at) 16 (omega arith)
 
 add-next : tie.Need-add-next
 add-next c = search needs
 
 returns-3 : tie.Need-returns-3
 unfolding decodeHash
-returns-3 c = let a = c .before .before .args in run-there (now (a .s)) (a .self .at) 16 (omega arith)
+returns-3 c = let start = c .before .before .args in run-there (now (start .s)) (start .self .at) 16 (omega arith)
 
 pub hash-spec : {M : Type 1} → statement M
 hash-spec = tie.close (tie.spec returns sub-if2 returns-2 add-next returns-3)

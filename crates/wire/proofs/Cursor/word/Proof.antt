@@ -7,13 +7,13 @@ use Rattle.wire.proofs.Cursor.word.Statement.{statement}
 use Rattle.wire.proofs.Cursor.word.Tie as tie
 
 returns : tie.Need-returns
-returns c = let a = c .before .before .args in word-short (now (a .s)) (a .self .at) (omega arith)
+returns c = let start = c .before .before .args in word-short (now (start .s)) (start .self .at) (omega arith)
 
 sub-if2 : tie.Need-sub-if2
 sub-if2 c = search needs
 
 returns-2 : tie.Need-returns-2
-returns-2 c = let a = c .before .before .before .args in word-short (now (a .s)) (a .self .at) (omega arith)
+returns-2 c = let start = c .before .before .before .args in word-short (now (start .s)) (start .self .at) (omega arith)
 
 shared-slice-read-pair : tie.Need-shared-slice-read-pair
 shared-slice-read-pair c = search needs
@@ -32,8 +32,8 @@ add-next c = search needs
 
 returns-3 : tie.Need-returns-3
 returns-3 c =
-    let a = c .before .before .before .before .before .before .args in
-    rw (c .pair .ensures) (word-there (now (a .s)) (a .self .at) (omega arith))
+    let start = c .before .before .before .before .before .before .args in
+    rw (c .pair .ensures) (word-there (now (start .s)) (start .self .at) (omega arith))
 
 pub word-spec : {M : Type 1} → statement M
 word-spec =
