@@ -5,6 +5,7 @@
 ghost use mathlib.Core.Path.{_≡_};
 ghost use mathlib.Core.Logic.{_↔_};
 ghost use mathlib.Core.List.{[], _∷_};
+ghost use Prim.Native.Nat.{_≤_, _<_};
 ghost use Rattle.format.specs.Tables.{lookup};
 ghost use Rattle.format.specs.Messages.{serverOpcodes, clientOpcodes, udpOpcodes};
 ghost use Rattle.format.specs.Messages as messages;
@@ -70,34 +71,69 @@ impl HeadStep {
     }
 }
 
-fn server_shape(code: u8) -> Listed
+// The opcodes of a link stand in runs: the compiler takes a short run into its callers, and there the code of an opcode goes straight on
+// to that of its body.
+
+fn server_session_shape(code: u8) -> Listed
+    requires { ⌜ code < 0x14 ⌝ }
     ensures { λ r. ⌜ shapeMeaning r ≡ lookup serverOpcodes code ⌝ }
 {
     match code {
-        opcode::BAD_PROTOCOL
-        | opcode::GET_SERVER_LIST
-        | opcode::DISCONNECT
-        | opcode::MORE_RESULTS => Listed::As(Shape::Nothing),
+        opcode::HELLO_SERVER => Listed::As(Shape::Record),
+        opcode::BAD_PROTOCOL => Listed::As(Shape::Nothing),
+        _ => Listed::Nowhere,
+    }
+}
+
+fn server_request_shape(code: u8) -> Listed
+    requires { ⌜ (0x14 ≤ code) × (code < 0x32) ⌝ }
+    ensures { λ r. ⌜ shapeMeaning r ≡ lookup serverOpcodes code ⌝ }
+{
+    match code {
+        opcode::GET_SERVER_LIST | opcode::DISCONNECT | opcode::MORE_RESULTS => Listed::As(
+            Shape::Nothing,
+        ),
         opcode::SEARCH_FILE | opcode::SEARCH_USER => Listed::As(Shape::Query),
         opcode::GET_SOURCES => Listed::As(Shape::Hash),
-        opcode::CLIENT_CB_REQUEST | opcode::CALLBACK_FAIL | opcode::ID_CHANGE => Listed::As(
-            Shape::Dword,
-        ),
+        opcode::CLIENT_CB_REQUEST => Listed::As(Shape::Dword),
+        opcode::OFFER_FILES => Listed::As(Shape::Records),
+        _ => Listed::Nowhere,
+    }
+}
+
+fn server_answer_shape(code: u8) -> Listed
+    requires { ⌜ 0x32 ≤ code ⌝ }
+    ensures { λ r. ⌜ shapeMeaning r ≡ lookup serverOpcodes code ⌝ }
+{
+    match code {
+        opcode::CALLBACK_FAIL | opcode::ID_CHANGE => Listed::As(Shape::Dword),
         opcode::SERVER_STATUS => Listed::As(Shape::TwoDwords),
         opcode::SERVER_MESSAGE => Listed::As(Shape::Text),
         opcode::SERVER_CB_REQUEST => Listed::As(Shape::Address),
         opcode::SERVER_LIST => Listed::As(Shape::Addresses),
         opcode::FOUND_SOURCES => Listed::As(Shape::HashAddresses),
-        opcode::HELLO_SERVER => Listed::As(Shape::Record),
-        opcode::OFFER_FILES | opcode::SEARCH_USER_RESULTS => Listed::As(Shape::Records),
+        opcode::SEARCH_USER_RESULTS => Listed::As(Shape::Records),
         opcode::SEARCH_FILE_RESULTS => Listed::As(Shape::RecordsFlag),
         opcode::SERVER_INFO_DATA => Listed::As(Shape::HashAddressTags),
         _ => Listed::Nowhere,
     }
 }
 
+fn server_shape(code: u8) -> Listed
+    ensures { λ r. ⌜ shapeMeaning r ≡ lookup serverOpcodes code ⌝ }
+{
+    if code < opcode::GET_SERVER_LIST {
+        return server_session_shape(code);
+    }
+    if code < opcode::SERVER_LIST {
+        return server_request_shape(code);
+    }
+    server_answer_shape(code)
+}
+
 // Opcodes that follow each other stand in different arms: in one arm they would be a range, and tested by its ends.
-fn client_shape(code: u8) -> Listed
+fn client_transfer_shape(code: u8) -> Listed
+    requires { ⌜ 0x46 ≤ code ⌝ }
     ensures { λ r. ⌜ shapeMeaning r ≡ lookup clientOpcodes code ⌝ }
 {
     match code {
@@ -109,7 +145,6 @@ fn client_shape(code: u8) -> Listed
         opcode::END_OF_DOWNLOAD | opcode::SLOT_REQUEST | opcode::FILE_REQUEST => Listed::As(
             Shape::Hash,
         ),
-        opcode::HELLO_CLIENT => Listed::As(Shape::Hello),
         opcode::HELLO_ANSWER => Listed::As(Shape::RecordAddress),
         opcode::QUEUE_RANK => Listed::As(Shape::Dword),
         opcode::NEW_CLIENT_ID => Listed::As(Shape::TwoDwords),
@@ -120,6 +155,18 @@ fn client_shape(code: u8) -> Listed
         opcode::SENDING_PART => Listed::As(Shape::SendingPart),
         opcode::REQUEST_PARTS => Listed::As(Shape::RequestParts),
         opcode::FILE_STATUS => Listed::As(Shape::FileStatus),
+        _ => Listed::Nowhere,
+    }
+}
+
+fn client_shape(code: u8) -> Listed
+    ensures { λ r. ⌜ shapeMeaning r ≡ lookup clientOpcodes code ⌝ }
+{
+    if opcode::SENDING_PART <= code {
+        return client_transfer_shape(code);
+    }
+    match code {
+        opcode::HELLO_CLIENT => Listed::As(Shape::Hello),
         _ => Listed::Nowhere,
     }
 }
@@ -145,6 +192,17 @@ fn udp_shape(code: u8) -> Listed
 
 // The shape of the body after an opcode of a link.
 pub fn shape_of(link: Link, code: u8) -> Listed
+    ensures { λ r. ⌜ shapeMeaning r ≡ lookup (opcodesOf link) code ⌝ }
+{
+    match link {
+        Link::Server => server_shape(code),
+        Link::Client => client_shape(code),
+        Link::Udp => udp_shape(code),
+    }
+}
+
+// The same for the reader of the opcode alone: a function with one caller is compiled into it.
+fn shape_to_read(link: Link, code: u8) -> Listed
     ensures { λ r. ⌜ shapeMeaning r ≡ lookup (opcodesOf link) code ⌝ }
 {
     match link {
@@ -217,7 +275,7 @@ fn read_opcode(s: &[u8], c: Cursor, link: Link) -> HeadStep
     let ByteStep::Got(code, next) = code_step else {
         return HeadStep::Refused(code_step.fault());
     };
-    let listed = shape_of(link, code);
+    let listed = shape_to_read(link, code);
     let Listed::As(shape) = listed else {
         return HeadStep::Refused(Fault {
             rule: Rule::Kind,

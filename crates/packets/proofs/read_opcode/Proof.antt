@@ -20,8 +20,8 @@ returns : tie.Need-returns
 unfolding decodeOpcode
 returns c = rw (c .fault .ensures, ← c .before .before .before .byte .ensures, c .before .enum-told .given .1) refl
 
-shape-of-requires : tie.Need-shape-of-requires
-shape-of-requires c κs = search needs
+shape-to-read-requires : tie.Need-shape-to-read-requires
+shape-to-read-requires c κs = search needs
 
 enum-known-listed : tie.Need-enum-known-listed
 enum-known-listed c = search needs
@@ -33,13 +33,13 @@ returns-2 : tie.Need-returns-2
 unfolding decodeOpcode
 returns-2 c =
     let b = c .before .before .before .before in
-    rw (← b .before .before .byte .ensures, b .code-step .given .1, ← c .before .before .shape-of .ensures, c .enum-told2 .given .1) refl
+    rw (← b .before .before .byte .ensures, b .code-step .given .1, ← c .before .before .shape-to-read .ensures, c .enum-told2 .given .1) refl
 
 returns-3 : tie.Need-returns-3
 unfolding decodeOpcode
 returns-3 c =
     let b = c .before .before .before .before .before in
-    rw (← b .before .before .byte .ensures, b .code-step .given .1, ← c .before .before .before .shape-of .ensures, c .before .listed .given .1) refl
+    rw (← b .before .before .byte .ensures, b .code-step .given .1, ← c .before .before .before .shape-to-read .ensures, c .before .listed .given .1) refl
 
 pub read-opcode-spec : {M : Type 1} → statement M
 read-opcode-spec =
@@ -50,7 +50,7 @@ read-opcode-spec =
     enum-told
     fault-requires
     returns
-    shape-of-requires
+    shape-to-read-requires
     enum-known-listed
     enum-told-2
     returns-2

@@ -1,73 +1,32 @@
-use mathlib.Core.Path.{refl}
-use mathlib.Core.Logic.{⊎-elim}
-use mathlib.Core.List.{[], _∷_}
-use Rattle.format.specs.Messages.{serverOpcodes}
-use Rattle.packets.proofs.Arms.{unlisted}
+use borrow.Author.Needs.{needs}
 use Rattle.packets.proofs.server_shape.Statement.{statement}
 use Rattle.packets.proofs.server_shape.Tie as tie
 
+server-session-shape-requires : tie.Need-server-session-shape-requires
+server-session-shape-requires c κs = search needs
+
 returns : tie.Need-returns
-returns c = ⊎-elim (λ e. rw e refl) (⊎-elim (λ e. rw e refl) (⊎-elim (λ e. rw e refl) (λ e. rw e refl))) (c .match .keys1)
+returns c = search needs
+
+server-request-shape-requires : tie.Need-server-request-shape-requires
+server-request-shape-requires c κs = search needs
 
 returns-2 : tie.Need-returns-2
-returns-2 c = ⊎-elim (λ e. rw e refl) (λ e. rw e refl) (c .match .keys2)
+returns-2 c = search needs
+
+server-answer-shape-requires : tie.Need-server-answer-shape-requires
+server-answer-shape-requires c κs = search needs
 
 returns-3 : tie.Need-returns-3
-returns-3 c = rw (c .match .keys3) refl
-
-returns-4 : tie.Need-returns-4
-returns-4 c = ⊎-elim (λ e. rw e refl) (⊎-elim (λ e. rw e refl) (λ e. rw e refl)) (c .match .keys4)
-
-returns-5 : tie.Need-returns-5
-returns-5 c = rw (c .match .keys5) refl
-
-returns-6 : tie.Need-returns-6
-returns-6 c = rw (c .match .keys6) refl
-
-returns-7 : tie.Need-returns-7
-returns-7 c = rw (c .match .keys7) refl
-
-returns-8 : tie.Need-returns-8
-returns-8 c = rw (c .match .keys8) refl
-
-returns-9 : tie.Need-returns-9
-returns-9 c = rw (c .match .keys9) refl
-
-returns-10 : tie.Need-returns-10
-returns-10 c = rw (c .match .keys10) refl
-
-returns-11 : tie.Need-returns-11
-returns-11 c = ⊎-elim (λ e. rw e refl) (λ e. rw e refl) (c .match .keys11)
-
-returns-12 : tie.Need-returns-12
-returns-12 c = rw (c .match .keys12) refl
-
-returns-13 : tie.Need-returns-13
-returns-13 c = rw (c .match .keys13) refl
-
-returns-14 : tie.Need-returns-14
-returns-14 c =
-    unlisted serverOpcodes
-    ((0x41 ∷ []) ∷ (0x33 ∷ []) ∷ (0x15 ∷ 0x43 ∷ []) ∷ (0x01 ∷ []) ∷ (0x42 ∷ []) ∷ (0x32 ∷ []) ∷ (0x35 ∷ []) ∷
-    (0x38 ∷ []) ∷ (0x34 ∷ []) ∷ (0x1C ∷ 0x36 ∷ 0x40 ∷ []) ∷ (0x19 ∷ []) ∷ (0x16 ∷ 0x1A ∷ []) ∷
-    (0x05 ∷ 0x14 ∷ 0x18 ∷ 0x21 ∷ []) ∷ [])
-    _ tt (c .match .rest)
+returns-3 c = search needs
 
 pub server-shape-spec : {M : Type 1} → statement M
 server-shape-spec =
     tie.close
     (tie.spec
+    server-session-shape-requires
     returns
+    server-request-shape-requires
     returns-2
-    returns-3
-    returns-4
-    returns-5
-    returns-6
-    returns-7
-    returns-8
-    returns-9
-    returns-10
-    returns-11
-    returns-12
-    returns-13
-    returns-14)
+    server-answer-shape-requires
+    returns-3)
