@@ -1,3 +1,4 @@
 mod Writes
+mod Numbers
 pub mod Links
 pub mod CallReadBack

@@ -14,7 +14,8 @@ use Rattle.met.specs.declared.ServerAnswer.{ServerAnswer}
 use Rattle.met.specs.declared.PartAnswer.{PartAnswer}
 use Rattle.met.specs.MetAnswers.{KnownAnswerPlaced, ServerAnswerPlaced, PartAnswerPlaced, PartAnswerSized, knownReply, serverReply, partReply}
 use Rattle.read_any.specs.AnyAnswers.{fromKnown, fromPacket, fromPart, fromServer}
-use Rattle.ed2k.specs.Calls.{MessageRead, Numbered, handedOut, linkKind, messageRead}
+use Rattle.ed2k.specs.declared.PacketSource.{PacketSource}
+use Rattle.ed2k.specs.Calls.{KindRead, MessageRead, Numbered, PacketOut, handedOut, linkKind, messageRead}
 
 -- The numbers l are handed out, and are those of what was read.
 pub handed : (old : List ℕ) {l numbers : List ℕ} {r : Numbered} → r ≡ handedOut l old → l ≡ numbers → r ≡ handedOut numbers old
@@ -28,6 +29,14 @@ link-read Link.Client s old (PacketAnswer.Accepted p) r e h q = (fromPacket (Pac
 link-read Link.Client s old (PacketAnswer.Refused n) r e h q = (fromPacket (PacketAnswer.Refused n), ap some e, h, q)
 link-read Link.Udp s old (PacketAnswer.Accepted p) r e h q = (fromPacket (PacketAnswer.Accepted p), ap some e, h, q)
 link-read Link.Udp s old (PacketAnswer.Refused n) r e h q = (fromPacket (PacketAnswer.Refused n), ap some e, h, q)
+
+pub link-out : (link : Link) (s old : List ℕ) (r : Numbered) → PacketOut (PacketSource.Read link) s old r → MessageRead (linkKind link) s old r
+link-out link s old r (a, (e, h), q) = link-read link s old a r e h q
+
+pub kind-read : (link : Link) {s old : List ℕ} {r : Numbered} → MessageRead (linkKind link) s old r → KindRead (linkKind link) s old r
+kind-read Link.Server h = h
+kind-read Link.Client h = h
+kind-read Link.Udp h = h
 
 pub known-read : (s old : List ℕ) (a : KnownAnswer) (r : Numbered) → knownReply s a ≡ reply (decode knownMet s) → KnownAnswerPlaced s a →
     r ≡ messageRead (fromKnown a) old → MessageRead knownMet s old r

@@ -32,9 +32,11 @@ use Rattle.met.specs.declared.FileEntryStep.{FileEntryStep}
 use Rattle.met.specs.declared.ServerEntryStep.{ServerEntryStep}
 use Rattle.met.specs.MetAnswers.{fileEntryMeaning, FileEntryStepPlaced, serverEntryMeaning, ServerEntryStepPlaced, knownMetIn, serverMetIn, partMetIn}
 use Rattle.packets.specs.declared.Link.{Link}
+use Rattle.packets.specs.declared.PacketAnswer.{PacketAnswer}
+use Rattle.packets.specs.PacketAnswers.{PacketPlaced, linkReply, packetReply}
 use Rattle.read_any.specs.declared.Answer.{Answer}
 use Rattle.read_any.specs.declared.Message.{Message}
-use Rattle.read_any.specs.AnyAnswers.{answerIn, AnswerPlaced}
+use Rattle.read_any.specs.AnyAnswers.{answerIn, AnswerPlaced, fromPacket}
 use Rattle.write_items.specs.There.{itemsThere, noPlaces}
 use Rattle.format.specs.RoundTrip.{RoundTrip, WritesAt}
 use Rattle.write_packets.specs.Packets as packetWrites
@@ -45,6 +47,7 @@ use Rattle.write_items.specs.Writers.{joinOf, sidesThere}
 use Rattle.fields.specs.Fields.{filled, itemsNumbers, queryNumbers, recordNumbers, packetNumbers, knownNumbers, serverNumbers, partNumbers}
 use Rattle.fields.specs.Fields.{tagNumbers, fileEntryNumbers, serverEntryNumbers, nodeNumbers}
 use Rattle.fields.specs.Given.{itemsAt, queryAt, packetGiven, knownGiven, serverGiven, partGiven, sizeGiven}
+use Rattle.ed2k.specs.declared.PacketSource.{PacketSource}
 
 -- The answer of a call that returns numbers: its own number, and the array afterwards.
 pub record Numbered : Type 0 where
@@ -88,6 +91,14 @@ tagListRead (TagListAnswer.Refused n) old = numbered n old
 abbrev pub MessageRead : messages.Kind → List ℕ → List ℕ → Numbered → Type 0
 MessageRead k s old r =
     (a : Answer) × (answerIn k s a ≡ some (reply (decode k s))) × AnswerPlaced s a × (r ≡ messageRead a old)
+
+-- A packet that bytes are on a link, as its reader ensures it, or one that was given.
+abbrev pub PacketFrom : PacketSource → List ℕ → PacketAnswer → Type 0
+PacketFrom (PacketSource.Read link) s a = (packetReply s a ≡ linkReply link s) × PacketPlaced s a
+PacketFrom (PacketSource.Given p) s a = a ≡ PacketAnswer.Accepted p
+
+abbrev pub PacketOut : PacketSource → List ℕ → List ℕ → Numbered → Type 0
+PacketOut source s old r = (a : PacketAnswer) × PacketFrom source s a × (r ≡ messageRead (fromPacket a) old)
 
 abbrev pub linkKind : Link → messages.Kind
 linkKind Link.Server = serverLink

@@ -8,6 +8,8 @@ ghost use lib.ListN.{length};
 ghost use Rattle.format.specs.Writing.{overwritten};
 ghost use Rattle.ed2k.specs.Calls.{numbered, handedOut};
 use output::ROOM;
+use packets::Link;
+use packets::Packet;
 
 mod compose;
 mod gap_records;
@@ -45,6 +47,12 @@ pub use read::ed2k_read_record;
 pub use read::ed2k_read_server_entry;
 pub use read::ed2k_read_tag;
 pub use write::ed2k_write;
+
+// A packet whose numbers are handed out: the one that bytes are on a link, or one that numbers were given for.
+enum PacketSource {
+    Read(Link),
+    Given(Packet),
+}
 
 // Numbers that a call returns.
 

@@ -1,11 +1,14 @@
 // The calls that read: a whole message, and one item of a list or a query.
+ghost use Prim.Native.Nat.{_≤_};
 ghost use mathlib.Core.Path.{_≡_};
+ghost use mathlib.Core.Option.{some};
 ghost use Rattle.format.specs.Tables.{lookup};
 ghost use Rattle.format.specs.Messages.{knownMet, serverMet, partMet};
 ghost use Rattle.format.specs.Rules.{partCount, blockCount};
 ghost use Rattle.format.specs.Order.{decodeAddress};
-ghost use Rattle.ed2k.specs.Calls.{numbered, kinds, ReadOf, MessageRead, linkKind, QueryRead, TagListRead};
+ghost use Rattle.ed2k.specs.Calls.{numbered, kinds, ReadOf, PacketFrom, PacketOut, MessageRead, linkKind, QueryRead, TagListRead};
 ghost use Rattle.ed2k.specs.Calls.{TagRead, addressRead, RecordRead, FileEntryRead, ServerEntryRead, NodeRead};
+use crate::PacketSource;
 use crate::hand_out;
 use met::FileEntryStep;
 use met::KnownAnswer;
@@ -28,16 +31,47 @@ use wire::Cursor;
 // A message goes from its own reader straight to its fields, and not by way of the one call over the six kinds: each copy of an answer
 // is felt in short messages.
 
-fn read_link(link: Link, bytes: &[u8], fields: &mut [u64]) -> u8
-    ensures { λ r. ⌜ MessageRead (linkKind link) (now (bytes .entry)) (now (fields .entry)) (numbered r (now (fields .exit))) ⌝ }
+fn packet_from(source: PacketSource, bytes: &[u8]) -> PacketAnswer
+    ensures { λ r. ⌜ PacketFrom source (now (bytes .entry)) r ⌝ }
 {
-    let answer = packets::read_packet(bytes, link);
+    match source {
+        PacketSource::Read(link) => packets::read_packet(bytes, link),
+        PacketSource::Given(packet) => PacketAnswer::Accepted(packet),
+    }
+}
+
+// The numbers of a packet that is read, and of one that is to be written: a function with one caller is compiled into it, and here
+// the code of each shape goes straight on to its numbers, with no copy of the body in between.
+pub fn hand_out_packet(source: PacketSource, bytes: &[u8], fields: &mut [u64]) -> u8
+    ensures { λ r. ⌜ PacketOut source (now (bytes .entry)) (now (fields .entry)) (numbered r (now (fields .exit))) ⌝ }
+{
+    let answer = packet_from(source, bytes);
     match answer {
         PacketAnswer::Refused(number) => number,
         PacketAnswer::Accepted(packet) => {
             let numbers = fields::packet_fields(packet);
             hand_out(&numbers, fields)
         }
+    }
+}
+
+fn read_link(link: Link, bytes: &[u8], fields: &mut [u64]) -> u8
+    ensures { λ r. ⌜ MessageRead (linkKind link) (now (bytes .entry)) (now (fields .entry)) (numbered r (now (fields .exit))) ⌝ }
+{
+    hand_out_packet(PacketSource::Read(link), bytes, fields)
+}
+
+// The kinds up to this are packets of a link.
+const LAST_LINK: u8 = 2;
+
+fn link_of(kind: u8) -> Link
+    requires { ⌜ kind ≤ 2 ⌝ }
+    ensures { λ r. ⌜ lookup kinds kind ≡ some (linkKind r) ⌝ }
+{
+    match kind {
+        0 => Link::Server,
+        1 => Link::Client,
+        _ => Link::Udp,
     }
 }
 
@@ -110,10 +144,10 @@ fn read_lone_tags(bytes: &[u8], fields: &mut [u64]) -> u8
 pub extern "C" fn ed2k_read(kind: u8, bytes: &[u8], fields: &mut [u64]) -> u8
     ensures { λ r. ⌜ ReadOf (lookup kinds kind) (now (bytes .entry)) (now (fields .entry)) (numbered r (now (fields .exit))) ⌝ }
 {
+    if kind <= LAST_LINK {
+        return read_link(link_of(kind), bytes, fields);
+    }
     match kind {
-        0 => read_link(Link::Server, bytes, fields),
-        1 => read_link(Link::Client, bytes, fields),
-        2 => read_link(Link::Udp, bytes, fields),
         3 => read_known(bytes, fields),
         4 => read_server(bytes, fields),
         5 => read_part(bytes, fields),

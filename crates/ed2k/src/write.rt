@@ -1,21 +1,34 @@
 // The call that writes a message from the numbers that the reading calls hand out.
+ghost use mathlib.Core.Path.{_≡_};
 ghost use Rattle.format.specs.Tables.{lookup};
+ghost use Rattle.fields.specs.Fields.{filled, packetNumbers};
 ghost use Rattle.ed2k.specs.Calls.{kinds};
 ghost use Rattle.ed2k.specs.Calls.{leaves};
 ghost use Rattle.ed2k.specs.Calls.{WriteOf, PacketWrites, KnownWrites, ServerWrites, PartWrites, QueryWrites, TagListWrites};
+use crate::PacketSource;
+use crate::read::hand_out_packet;
 use output::CHOICE;
 use output::KIND;
 use packets::Link;
+use packets::Packet;
 
 // Writing.
 
 // What is reported by 16 numbers, as ed2k_read hands them out.
 
+fn packet_numbers(packet: Packet) -> [u64; 16]
+    ensures { λ r. ⌜ r ≡ filled 16 (packetNumbers packet) ⌝ }
+{
+    let mut numbers: [u64; 16] = [0; 16];
+    hand_out_packet(PacketSource::Given(packet), b"", &mut numbers);
+    numbers
+}
+
 fn write_link(link: Link, bytes: &[u8], given: &[u64], output: &mut [u8], written: &mut usize) -> u8
     ensures { λ r. ⌜ PacketWrites link (now (bytes .entry)) (now (given .entry)) (now (output .entry)) (leaves r (now (written .exit)) (now (output .exit))) ⌝ }
 {
     let packet = fields::packet_given(given);
-    let numbers = fields::packet_fields(packet);
+    let numbers = packet_numbers(packet);
     if !fields::same_fields(&numbers, given) {
         *written = 0;
         return CHOICE;

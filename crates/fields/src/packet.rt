@@ -345,8 +345,7 @@ fn extended_status_row(opening: u8, opcode: u8, status: ExtendedStatus) -> [u64;
     ]
 }
 
-// The numbers of first_byte packet that was read. Its only caller reads: first_byte function with one caller is compiled into it, and there the code of each
-// shape goes straight on to its numbers, with no copy of the body in between.
+// A function with one caller is compiled into it: the caller that reads and the one that writes share one (hand_out_packet in crates/ed2k).
 pub fn packet_fields(p: Packet) -> [u64; 16]
     ensures { λ r. ⌜ r ≡ filled 16 (packetNumbers p) ⌝ }
 {

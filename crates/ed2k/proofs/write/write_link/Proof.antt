@@ -11,8 +11,8 @@ use Rattle.ed2k.proofs.write.write_link.Tie as tie
 packet-given-requires : tie.Need-packet-given-requires
 packet-given-requires c κs = search needs
 
-packet-fields-requires : tie.Need-packet-fields-requires
-packet-fields-requires c κs = search needs
+packet-numbers-requires : tie.Need-packet-numbers-requires
+packet-numbers-requires c κs = search needs
 
 slice-aggregate-same-fields : tie.Need-slice-aggregate-same-fields
 slice-aggregate-same-fields c = search needs
@@ -27,7 +27,7 @@ returns c =
     let s = now (a .bytes) in
     let given = now (a .given) in
     let out = now (a .output) in
-    none-given packetNumbers (λ p. WritesBack (kindOf (a .link)) (packetThere (a .link) s p) (packetOf (a .link) s p) out) (packetGiven given) _ (look .before .packet-given .ensures) given out _ (look .packet-fields .ensures) _ (c .before .same-fields .ensures) (c .if1 .taken)
+    none-given packetNumbers (λ p. WritesBack (kindOf (a .link)) (packetThere (a .link) s p) (packetOf (a .link) s p) out) (packetGiven given) _ (look .before .packet-given .ensures) given out _ (look .packet-numbers .ensures) _ (c .before .same-fields .ensures) (c .if1 .taken)
 
 write-packet-requires : tie.Need-write-packet-requires
 write-packet-requires c κs = search needs
@@ -44,7 +44,7 @@ returns-2 c =
     let s = now (a .bytes) in
     let given = now (a .given) in
     let out = now (a .output) in
-    writes-given packetNumbers (λ p. WritesBack (kindOf (a .link)) (packetThere (a .link) s p) (packetOf (a .link) s p) out) (packetGiven given) _ (look .before .packet-given .ensures) given out _ (look .packet-fields .ensures) _ (test .before .same-fields .ensures) (test .if1 .left)
+    writes-given packetNumbers (λ p. WritesBack (kindOf (a .link)) (packetThere (a .link) s p) (packetOf (a .link) s p) out) (packetGiven given) _ (look .before .packet-given .ensures) given out _ (look .packet-numbers .ensures) _ (test .before .same-fields .ensures) (test .if1 .left)
     (wrote .write-packet .ensures)
 
 pub write-link-spec : {M : Type 1} → statement M
@@ -52,7 +52,7 @@ write-link-spec =
     tie.close
     (tie.spec
     packet-given-requires
-    packet-fields-requires
+    packet-numbers-requires
     slice-aggregate-same-fields
     same-fields-requires
     returns
