@@ -120,7 +120,7 @@ module _ (s : List ℕ) where
       go true e later = subst (λ j. PairInside s (getD l j 0)) (sym (eqb-true i n e)) (p .0)
       go false e later = later (omega (arith, eqb-false i n e))
 
-  gaps-length : (n : ℕ) (l : List ℕ) → length (firstGaps s n l) ≡ n
+  pub gaps-length : (n : ℕ) (l : List ℕ) → length (firstGaps s n l) ≡ n
   unfolding firstGaps
   gaps-length zero l = refl
   gaps-length (suc n) l = rw (length-append, gaps-length n l) (add-one n)

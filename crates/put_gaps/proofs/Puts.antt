@@ -1,10 +1,11 @@
 -- What a put comes to, by what the reader says of the file and by the tests on the record.
 use Prim.Native.Nat.{ℕ}
-use mathlib.Core.Path.{_≡_, refl}
+use mathlib.Core.Path.{_≡_, refl, sym, ap, _∙_}
 use mathlib.Core.Bool.{true, false}
 use mathlib.Core.Logic.{_↔_}
 use mathlib.Core.List.{List}
 use lib.Dec.{leb}
+use lib.ListN.{length}
 use borrow.Author.Tests.{eq-eqb, ne-eqb}
 use Rattle.format.specs.Gaps.{lawful, sizeLimit}
 use Rattle.format.specs.Messages.{PartMet, partMet}
@@ -23,9 +24,13 @@ use Rattle.met.specs.declared.PartGaps.{PartGaps}
 use Rattle.met.specs.declared.PartMet as code
 use Rattle.met.specs.declared.PartRead.{PartRead}
 use Rattle.met.specs.MetAnswers.{partIn, partMetIn, partReply, PartAnswerPlaced, PartReadSized, PartMetSized, tagsPlace}
+use Rattle.part_tags.specs.PartTagAnswers.{GapsHeld}
 use Rattle.part_tags.specs.Survey.{GapTagsIn}
+use Rattle.part_tags.proofs.GapTags.{gaps-length}
+use Rattle.tags.specs.TagAnswers.{tagsIn}
+use Rattle.wire.specs.declared.Items.{Items}
 use Rattle.put_gaps.specs.PutAnswers.{putRecord}
-use Rattle.put_gaps.specs.Pieces.{WasRead}
+use Rattle.put_gaps.specs.Pieces.{HasGaps, WasRead}
 
 accepted-as : (a : Answer PartMet) (m : PartMet) → message m ≡ reply a → a ≡ accepted m
 accepted-as (refusal f) m e = cc
@@ -64,12 +69,17 @@ pub record Accepts (s : List ℕ) (part : code.PartMet) (found : PartGaps) : Typ
   pub told : message (partMetIn s part) ≡ reply (decode partMet s)
   pub sized : checkPartTags (tagsOf (partMetIn s part)) ≡ passes (found .size, tagsOf (partMetIn s part))
   pub ranged : GapTagsIn s (tagsPlace part) (found .range)
+  pub counted : HasGaps s (tagsPlace part) (found .count)
 
 sized-same : (s : List ℕ) (part : code.PartMet) (size : ℕ) → PartMetSized s part size →
     checkPartTags (tagsOf (partMetIn s part)) ≡ passes (size, tagsOf (partMetIn s part))
 unfolding tagsOf
 sized-same s (code.PartMet.E0 e) size h = h
 sized-same s (code.PartMet.E1 m) size h = h
+
+-- as many gaps as offsets
+gaps-held : (s starts : List ℕ) (tags : Items) (n : ℕ) → GapsHeld s starts n (tagsIn s tags) → HasGaps s tags n
+gaps-held s starts tags n h = record { few = h .few; counted = sym (gaps-length s n starts) ∙ ap length (h .gaps) }
 
 pub reads : (s starts : List ℕ) (r : PartRead) (part : code.PartMet) (found : PartGaps) → r ≡ PartRead.Accepted part found →
     (partReply s (partIn r) ≡ reply (decode partMet s)) × (PartAnswerPlaced s (partIn r) × (PartReadSized s starts r ×
@@ -82,4 +92,5 @@ reads s starts r part found e h =
       told = k .0;
       sized = sized-same s part (found .size) (k .1 .1 .0 .0);
       ranged = k .1 .1 .0 .1 .0;
+      counted = gaps-held s starts (tagsPlace part) (found .count) (k .1 .1 .0 .1 .1);
     }

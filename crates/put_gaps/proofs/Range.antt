@@ -1,5 +1,5 @@
 -- The tags that stay of a list whose gap tags lie in a range: all before it, those in it that are no gap tags, and all after it.
-use Prim.Native.Nat.{ℕ, _+_, _-_, _≤_}
+use Prim.Native.Nat.{ℕ, _+_, _-_, _*_, _≤_}
 use mathlib.Core.Path.{_≡_, refl, sym, ap, _∙_}
 use mathlib.Core.List.{List, [], _∷_, _++_, append-assoc}
 use native.Mathlib.Omega.{arith}
@@ -10,7 +10,10 @@ use Rattle.format.specs.Layout.{encodeAll, encodeTag}
 use Rattle.format.specs.Rules.{All, Bytes}
 use Rattle.format.specs.Decoding.{bytesAt, decodeMany, ends, got, itemsOf}
 use Rattle.format.specs.Order.{decodeTag}
-use Rattle.format.specs.PutGaps.{plainTags}
+use Rattle.format.specs.Tables.{pick}
+use Rattle.format.specs.GapTags as tagged
+use Rattle.format.specs.GapTags.{Role, role, startIn, endIn, gapStarts, gapEnds, zipGaps, gapsOf}
+use Rattle.format.specs.PutGaps.{isPlain, plainTags}
 use Rattle.format.specs.Writing.{overwritten}
 use Rattle.format.proofs.Codec.{anywhere, codec-many}
 use Rattle.format.proofs.Items.{codec-tag}
@@ -18,7 +21,7 @@ use Rattle.wire.specs.declared.Items.{Items}
 use Rattle.wire.specs.WireAnswers.{ItemsPlaced, ItemsInside}
 use Rattle.tags.specs.TagAnswers.{tagsIn}
 use Rattle.part_tags.specs.Survey.{GapTagsIn, Plain}
-use Rattle.put_gaps.specs.Pieces.{plainBytes}
+use Rattle.put_gaps.specs.Pieces.{HasGaps, plainBytes}
 use Rattle.put_gaps.proofs.Regapped.{plain-append}
 use Rattle.put_gaps.proofs.Pieces.{encode-append}
 use Rattle.put_gaps.proofs.Kept.{plain-short}
@@ -30,6 +33,10 @@ run-bytes s bytes n at end l e h =
     let found = codec-many {p = anywhere} n (codec-tag {p = anywhere}) .sound s bytes at h l end e tt in
     rw (found .bytes) (take-at (encodeAll encodeTag l) (drop end s) (end - at) (omega (arith, tags-end s bytes n at end l e)))
 
+no-items : {A : Type 0} (l : List A) → length l ≡ 0 → l ≡ []
+no-items [] h = refl
+no-items (x ∷ l) h = absurd (omega arith)
+
 pub none-kept : (p old : List ℕ) → length p ≡ 0 → old ≡ overwritten p old
 none-kept [] old h = refl
 none-kept (x ∷ p) old h = absurd (omega arith)
@@ -39,6 +46,34 @@ all-plain : (l : List Tag) → All Plain l → plainTags l ≡ l
 unfolding plainTags
 all-plain [] h = refl
 all-plain (t ∷ l) h = rw (h .0) (ap (λ k. t ∷ k) (all-plain l (h .1)))
+
+-- A tag that stays is no start tag and no end tag, and no tag is both.
+share : (r : Role) (t : Tag) (starts ends : List ℕ) (kept l : List Tag) → length starts + length ends + length kept ≤ length l →
+    length (startIn r ++ starts) + length (endIn r ++ ends) + length (pick (isPlain r) (t ∷ kept) kept) ≤ length (t ∷ l)
+share tagged.plain t starts ends kept l h = omega arith
+share tagged.odd t starts ends kept l h = omega arith
+share (tagged.start d n) t starts ends kept l h = omega arith
+share (tagged.end d n) t starts ends kept l h = omega arith
+
+shares : (l : List Tag) → length (gapStarts l) + length (gapEnds l) + length (plainTags l) ≤ length l
+unfolding gapStarts gapEnds plainTags
+shares [] = omega arith
+shares (t ∷ l) = share (role t) t (gapStarts l) (gapEnds l) (plainTags l) l (shares l)
+
+zip-short : (starts ends : List ℕ) → (length (zipGaps starts ends) ≤ length starts) × (length (zipGaps starts ends) ≤ length ends)
+unfolding zipGaps
+zip-short [] ends = (omega arith, omega arith)
+zip-short (x ∷ starts) [] = (omega arith, omega arith)
+zip-short (x ∷ starts) (y ∷ ends) = let later = zip-short starts ends in (omega (arith, later .0), omega (arith, later .1))
+
+two-each : (l : List Tag) → 2 * length (gapsOf l) + length (plainTags l) ≤ length l
+unfolding gapsOf
+two-each l = let short = zip-short (gapStarts l) (gapEnds l) in omega (arith, shares l, short .0, short .1)
+
+-- Where no tag stays, there are no bytes of tags that stay.
+pub none-stay : (l : List Tag) → length (plainTags l) ≡ 0 → length (plainBytes l) ≡ 0
+unfolding plainBytes
+none-stay l h = rw (no-items (plainTags l) h) refl
 
 module _ (s : List ℕ) (bytes : Bytes s) (tags range : Items) (inside : ItemsInside decodeTag s tags) (r : GapTagsIn s tags range) where
   pub placed-range : ItemsPlaced decodeTag s range
@@ -125,3 +160,10 @@ module _ (s : List ℕ) (bytes : Bytes s) (tags range : Items) (inside : ItemsIn
               at-last,
             );
       }
+
+  -- two tags of the range for each gap do not stay
+  pub pairs-out : (n : ℕ) → HasGaps s tags n → 2 * n + length (plainTags (tagsIn s range)) ≤ range .count
+  pairs-out n h =
+      let all = two-each (tagsIn s tags) in
+      let length-all = items-length decodeTag s tags (inside .0) in
+      omega (arith, all, length-all, h .counted, spans .counted, spans .few, spans .short)

@@ -9,6 +9,7 @@ use Rattle.format.specs.Messages.{Tag, PartMet, e0, e1, partMet}
 use Rattle.format.specs.Layout.{byte, word, dword, counted, encodeAll, encodeHash, encodeHashBlocks, encodePartMet, encodeTag, encodeTags}
 use Rattle.format.specs.Rules.{GapPair, startTag, endTag, Valid}
 use Rattle.format.specs.Decoding.{bytesAt}
+use Rattle.format.specs.GapTags as tagged
 use Rattle.format.specs.GapTags.{role}
 use Rattle.format.specs.PutGaps.{isPlain, plainTags, decimalOf, gapTags, regapped, withGaps}
 use Rattle.wire.specs.declared.Items.{Items}
@@ -47,6 +48,11 @@ pub record WasRead (s : List ℕ) (part : code.PartMet) : Type 0 where
   pub bytes : s ≡ encodePartMet (partMetIn s part)
   pub valid : Valid partMet (partMetIn s part)
   pub placed : PartMetPlaced s part
+
+-- Some tags have n gaps, no more than a record has places.
+pub record HasGaps (s : List ℕ) (tags : Items) (n : ℕ) : Type 0 where
+  pub few : n ≤ 64
+  pub counted : n ≡ length (tagged.gapsOf (tagsIn s tags))
 
 -- A tag that stays, and its bytes, which lie from one offset up to another; nothing of a gap tag.
 abbrev pub keptTags : Tag → List Tag

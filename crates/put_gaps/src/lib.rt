@@ -25,7 +25,7 @@ ghost use Rattle.met.specs.MetAnswers.{partMetIn, tagsPlace};
 ghost use Rattle.output.specs.WriteAnswers.{answered};
 ghost use Rattle.part_tags.specs.Survey.{GapTagsIn};
 ghost use Rattle.put_gaps.specs.PutAnswers.{putRecord};
-ghost use Rattle.put_gaps.specs.Pieces.{WasRead, LawfulNumbers, SizesOf};
+ghost use Rattle.put_gaps.specs.Pieces.{WasRead, LawfulNumbers, HasGaps, SizesOf};
 ghost use Rattle.put_gaps.specs.Pieces.{tagsAt, keptTags, keptBytes, plainBytes, pairBytes, pairsBytes, pairsLength};
 use gap_numbers::GAP_NUMBERS;
 use gap_numbers::judge_numbers;
@@ -133,6 +133,18 @@ fn measure_plain(s: &[u8], tags: Items) -> Plain
     Plain { count, bytes }
 }
 
+// The same of the byte range of the gap tags: most often it has the two tags of each gap and no other, and then none is read.
+fn measure_within(s: &[u8], range: Items, gaps: usize) -> Plain
+    requires { ⌜ ItemsPlaced decodeTag (now s) range × (gaps ≤ 64) × (2 * gaps + length (plainTags (tagsIn (now s) range)) ≤ range .count) ⌝ }
+    ensures count { λ r. ⌜ r .count ≡ length (plainTags (tagsIn (now (s .entry)) range)) ⌝ }
+    ensures bytes { λ r. ⌜ r .bytes ≡ length (plainBytes (tagsIn (now (s .entry)) range)) ⌝ }
+{
+    if range.count as usize == 2 * gaps {
+        return Plain { count: 0, bytes: 0 };
+    }
+    measure_plain(s, range)
+}
+
 // The same of a list whose gap tags lie in the range, and the bytes of the tags in the range that stay.
 struct Measured {
     count: u32,
@@ -140,13 +152,13 @@ struct Measured {
     within: usize,
 }
 
-fn measure_kept(s: &[u8], tags: Items, range: Items) -> Measured
-    requires { ⌜ ItemsInside decodeTag (now s) tags × GapTagsIn (now s) tags range ⌝ }
+fn measure_kept(s: &[u8], tags: Items, range: Items, gaps: usize) -> Measured
+    requires { ⌜ ItemsInside decodeTag (now s) tags × GapTagsIn (now s) tags range × HasGaps (now s) tags gaps ⌝ }
     ensures count { λ r. ⌜ r .count ≡ length (plainTags (tagsIn (now (s .entry)) tags)) ⌝ }
     ensures bytes { λ r. ⌜ r .bytes ≡ length (plainBytes (tagsIn (now (s .entry)) tags)) ⌝ }
     ensures within { λ r. ⌜ r .within ≡ length (plainBytes (tagsIn (now (s .entry)) range)) ⌝ }
 {
-    let plain = measure_plain(s, range);
+    let plain = measure_within(s, range, gaps);
     let within = plain.bytes;
     let count = tags.count - range.count + plain.count;
     let bytes = range.at - tags.at + within + (tags.end - range.end);
@@ -346,24 +358,33 @@ fn sizes_of(file: usize, at: usize, old: usize, kept: Measured, pairs: usize) ->
 }
 
 // The numbers of the file with the gaps of the record; the part.met was read from it.
-fn measure_file(file: &[u8], part: PartMet, range: Items, gaps: &[u64]) -> Sizes
-    requires { ⌜ WasRead (now file) part × GapTagsIn (now file) (tagsPlace part) range × LawfulNumbers (now gaps) ⌝ }
+fn measure_file(file: &[u8], part: PartMet, range: Items, old: usize, gaps: &[u64]) -> Sizes
+    requires { ⌜ WasRead (now file) part × GapTagsIn (now file) (tagsPlace part) range × LawfulNumbers (now gaps)
+        × HasGaps (now file) (tagsPlace part) old ⌝ }
     ensures { λ r. ⌜ SizesOf (now (file .entry)) part range (held (now (gaps .entry))) r ⌝ }
 {
     let tags = part.tags();
-    let kept = measure_kept(file, tags, range);
+    let kept = measure_kept(file, tags, range, old);
     let at = tags_at(part);
     sizes_of(file.len(), at, tags.end - tags.at, kept, gaps[1] as usize)
 }
 
 // The new file, if it is not too long for a part.met (6) and for the output (10). The part.met was read from the old one, and its gap tags
 // lie in the range.
-fn put_file(out: &mut [u8], file: &[u8], part: PartMet, range: Items, gaps: &[u64]) -> WriteAnswer
-    requires { ⌜ WasRead (now file) part × GapTagsIn (now file) (tagsPlace part) range × LawfulNumbers (now gaps) ⌝ }
+fn put_file(
+    out: &mut [u8],
+    file: &[u8],
+    part: PartMet,
+    range: Items,
+    old: usize,
+    gaps: &[u64],
+) -> WriteAnswer
+    requires { ⌜ WasRead (now file) part × GapTagsIn (now file) (tagsPlace part) range × LawfulNumbers (now gaps)
+        × HasGaps (now file) (tagsPlace part) old ⌝ }
     ensures { λ r. ⌜ answered r (now (out .exit))
         ≡ withinCeiling (encodePartMet (withGaps (gapsOf (held (now (gaps .entry)))) (partMetIn (now (file .entry)) part))) (now (out .entry)) ⌝ }
 {
-    let sizes = measure_file(file, part, range, gaps);
+    let sizes = measure_file(file, part, range, old, gaps);
     let length = sizes.length;
     if MET_CEILING < length {
         return refused(LIMIT);
@@ -404,7 +425,7 @@ pub fn put_gap_numbers(file: &[u8], gaps: &[u64], out: &mut [u8]) -> WriteAnswer
             if gaps[0] != found.size as u64 {
                 return refused(RANGE);
             }
-            put_file(out, file, part, found.range, gaps)
+            put_file(out, file, part, found.range, found.count, gaps)
         }
     }
 }

@@ -13,7 +13,7 @@ tags-requires : tie.Need-tags-requires
 tags-requires c κs = search needs
 
 measure-kept-requires : tie.Need-measure-kept-requires
-measure-kept-requires c κs = let e = c .before .before .before in rw (c .tags .ensures) (tags-inside _ _ (e .pre .0), e .pre .1)
+measure-kept-requires c κs = let e = c .before .before .before in rw (c .tags .ensures) (tags-inside _ _ (e .pre .0), e .pre .1, e .pre .3)
 
 tags-at-requires : tie.Need-tags-at-requires
 tags-at-requires c κs = search needs

@@ -95,7 +95,7 @@ put-file-requires : tie.Need-put-file-requires
 put-file-requires c κs =
     let e = c .before .before .before .before in
     let a = accepted (e .before .before) in
-    (a .read, a .ranged, (there e .0, lawful-record-exactly sizeLimit (held (tried e)) .0 (lawful e)))
+    (a .read, a .ranged, (there e .0, lawful-record-exactly sizeLimit (held (tried e)) .0 (lawful e)), a .counted)
 
 returns-3 : tie.Need-returns-3
 returns-3 c =
