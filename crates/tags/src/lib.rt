@@ -290,17 +290,14 @@ fn named_tag_end(s: &[u8], at: usize, name_len: usize) -> usize
     value + 4
 }
 
-// The offset after the tag at `at`, which was read before. Unlike tag_end it jumps by the type and by a name of one byte: a list that was
-// read before may be scanned many times, once for each leaf of a query, so that these jumps are guessed right, and the next tag is begun
-// before this one's lengths are read.
+// The offset after the tag at `at`, which was read before. Unlike tag_end it jumps by the type: a list that was read before may be scanned
+// many times, once for each leaf of a query, so that these jumps are guessed right, and the next tag is begun before the length of this
+// one's text is read.
 pub fn whole_tag_end(s: &[u8], at: usize) -> usize
     requires { ⌜ Lies (decodeTag (now s) at) ⌝ }
     ensures { λ r. ⌜ ends (decodeTag (now (s .entry)) at) ≡ got tt r ⌝ }
 {
     let name_len = pair(s[at + 1], s[at + 2]) as usize;
-    if name_len == 1 {
-        return named_tag_end(s, at, 1);
-    }
     named_tag_end(s, at, name_len)
 }
 

@@ -1,4 +1,4 @@
--- A tag that lies there has a name of one byte or a longer one; its head lies there.
+-- The head of a tag that lies there does too.
 use native.Mathlib.Omega.{arith}
 use Rattle.tags.proofs.WholeTags.{head-lies}
 use borrow.Author.Needs.{needs}
@@ -29,12 +29,6 @@ named-tag-end-requires c κs = search needs
 returns : tie.Need-returns
 returns c = search needs
 
-named-tag-end-requires-2 : tie.Need-named-tag-end-requires-2
-named-tag-end-requires-2 c κs = search needs
-
-returns-2 : tie.Need-returns-2
-returns-2 c = search needs
-
 pub whole-tag-end-spec : {M : Type 1} → statement M
 whole-tag-end-spec =
     tie.close
@@ -46,6 +40,4 @@ whole-tag-end-spec =
     pair-requires
     cast-name-len
     named-tag-end-requires
-    returns
-    named-tag-end-requires-2
-    returns-2)
+    returns)
