@@ -1,3 +1,4 @@
+mod Measures
 pub mod Nodes
 pub mod Depths
 pub mod Skips

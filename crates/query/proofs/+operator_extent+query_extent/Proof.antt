@@ -1,19 +1,19 @@
--- The two functions that go past a query call each other as its readers do, with the same measures.
-use Prim.Native.Nat.{ℕ, _<_, _+_, _*_}
+-- The two functions that go past a query call each other as its readers do, by the same measures: what each says is a law of Skips.
+use Prim.Native.Nat.{ℕ}
 use mathlib.Core.Path.{refl}
 use mathlib.Core.Logic.{inl}
 use native.Mathlib.Omega.{arith}
 use denote.Ref.{now}
 use borrow.Author.Needs.{needs}
 use borrow.Fn.Kinds.{In}
-use borrow.Fn.PlainCycle.{Measures, is, falls, and}
+use borrow.Fn.PlainCycle.{Measures}
+use Rattle.query.proofs.Measures.{at-measure, below-measure, of-operator, of-query}
 use Rattle.query.proofs.Depths.{within-depths}
 use Rattle.query.proofs.Skips.{told, leaf-spans, join-spans, sides-span}
 use Rattle.query.proofs.operator_extent.Reads as operator
-use Rattle.query.proofs.operator_extent.Kinds as operator-kinds
+use Rattle.query.proofs.operator_extent.Kinds as kinds
 use Rattle.query.proofs.+operator_extent+query_extent.Lts-operator_extent as operator-lts
 use Rattle.query.proofs.query_extent.Reads as query
-use Rattle.query.proofs.query_extent.Kinds as query-kinds
 use Rattle.query.proofs.+operator_extent+query_extent.Lts-query_extent as query-lts
 use Rattle.query.proofs.end_of.Reads as end-of
 use Rattle.query.proofs.extent.Reads as extent
@@ -22,31 +22,21 @@ use Rattle.query.proofs.leaf_end.Reads as leaf
 use Rattle.query.proofs.+operator_extent+query_extent.{statement}
 use Rattle.query.proofs.+operator_extent+query_extent.Tie.{close}
 
-abbrev μ-operator : Measures 1 operator-kinds.ps ℕ
-μ-operator κs a = 2 * a .1 .1 .0
-
-abbrev μ-query : Measures 1 query-kinds.ps ℕ
-μ-query κs a = 2 * a .1 .1 .0 + 1
+abbrev left : Measures 1 kinds.ps ℕ
+left κs a = a .1 .1 .0
 
 module _ (t : ℕ) where
-  -- what each is given at the measure t, and what a call of it asks below t
-  abbrev operator-at : In 1 operator-kinds.ps
-  operator-at = and 1 operator-kinds.ps (is 1 operator-kinds.ps μ-operator t) operator.Pre
-
-  abbrev operator-below : In 1 operator-kinds.ps
-  operator-below = and 1 operator-kinds.ps (falls 1 operator-kinds.ps _<_ μ-operator t) operator.Pre
-
-  abbrev query-at : In 1 query-kinds.ps
-  query-at = and 1 query-kinds.ps (is 1 query-kinds.ps μ-query t) query.Pre
-
-  abbrev query-below : In 1 query-kinds.ps
-  query-below = and 1 query-kinds.ps (falls 1 query-kinds.ps _<_ μ-query t) query.Pre
+  abbrev operator-at : In 1 kinds.ps
+  operator-at = at-measure kinds.ps (of-operator kinds.ps left) operator.Pre t
 
   abbrev operator-calls : operator-lts.Claims
-  operator-calls = (query-below, query.Post, end-of.Asked, end-of.Learnt, join.Asked, join.Learnt)
+  operator-calls = (below-measure kinds.ps (of-query kinds.ps left) query.Pre t, query.Post, end-of.Asked, end-of.Learnt, join.Asked, join.Learnt)
+
+  abbrev query-at : In 1 kinds.ps
+  query-at = at-measure kinds.ps (of-query kinds.ps left) query.Pre t
 
   abbrev query-calls : query-lts.Claims
-  query-calls = (operator-below, operator.Post, leaf.Asked, leaf.Learnt, extent.Asked, extent.Learnt)
+  query-calls = (below-measure kinds.ps (of-operator kinds.ps left) operator.Pre t, operator.Post, leaf.Asked, leaf.Learnt, extent.Asked, extent.Learnt)
 
   operator-returns : operator-lts.Need-returns operator-calls operator-at operator.Post
   operator-returns c = inl refl
@@ -80,22 +70,22 @@ module _ (t : ℕ) where
 
   operator-join-extent-requires : operator-lts.Need-join-extent-requires operator-calls operator-at operator.Post
   operator-join-extent-requires c κs =
-      let b = c .before in
-      let a = b .before .before in
-      let start = a .before .before .before .before .before .before .pre .1 in
-      let m = within-depths _ _ _ (told (a .before .query-extent .ensures) (a .if3 .left)) in
-      let n = within-depths _ _ _ (told (b .query-extent2 .ensures) (c .if4 .left)) in
-      (omega (arith, start, m), omega (arith, start, n))
+      let second = c .before in
+      let first = second .before .before in
+      let deep = first .before .before .before .before .before .before .pre .1 in
+      let first-depth = within-depths _ _ _ (told (first .before .query-extent .ensures) (first .if3 .left)) in
+      let second-depth = within-depths _ _ _ (told (second .query-extent2 .ensures) (c .if4 .left)) in
+      (omega (arith, deep, first-depth), omega (arith, deep, second-depth))
 
   operator-returns-5 : operator-lts.Need-returns-5 operator-calls operator-at operator.Post
   operator-returns-5 c =
-      let b = c .before .before in
-      let a = b .before .before in
-      let o = a .before .before in
-      let start = o .before .before .before .before .args in
-      sides-span _ (now (start .s)) (start .at) _ _ (omega (arith, o .before .before .if1 .left)) (omega (arith, o .if2 .left))
-      (told (a .before .query-extent .ensures) (a .if3 .left))
-      (rw (b .before .end-of .ensures) at (told (b .query-extent2 .ensures) (c .before .if4 .left)))
+      let second = c .before .before in
+      let first = second .before .before in
+      let operator = first .before .before in
+      let start = operator .before .before .before .before .args in
+      sides-span _ (now (start .s)) (start .at) _ _ (omega (arith, operator .before .before .if1 .left)) (omega (arith, operator .if2 .left))
+      (told (first .before .query-extent .ensures) (first .if3 .left))
+      (rw (second .before .end-of .ensures) at (told (second .query-extent2 .ensures) (c .before .if4 .left)))
       (c .join-extent .ensures)
 
   query-returns : query-lts.Need-returns query-calls query-at query.Post
@@ -115,9 +105,9 @@ module _ (t : ℕ) where
 
   query-returns-3 : query-lts.Need-returns-3 query-calls query-at query.Post
   query-returns-3 c =
-      let b = c .before .before .before in
-      let a = b .before .before .before .args in
-      join-spans _ (b .before .if1 .left) (now (a .s)) (a .at) (omega (arith, b .if2 .left)) (c .before .if3 .taken) (c .operator-extent .ensures)
+      let code = c .before .before .before in
+      let start = code .before .before .before .args in
+      join-spans _ (code .before .if1 .left) (now (start .s)) (start .at) (omega (arith, code .if2 .left)) (c .before .if3 .taken) (c .operator-extent .ensures)
 
   query-leaf-end-requires : query-lts.Need-leaf-end-requires query-calls query-at query.Post
   query-leaf-end-requires c κs = search needs
@@ -127,18 +117,18 @@ module _ (t : ℕ) where
 
   query-extent-requires : query-lts.Need-extent-requires query-calls query-at query.Post
   query-extent-requires c κs =
-      let e = told (c .before .leaf-end .ensures) (c .if4 .left) in
-      (omega (arith, e .1, c .before .before .before .before .before .before .before .pre .1), omega arith)
+      let ended = told (c .before .leaf-end .ensures) (c .if4 .left) in
+      (omega (arith, ended .1, c .before .before .before .before .before .before .before .pre .1), omega arith)
 
   query-returns-5 : query-lts.Need-returns-5 query-calls query-at query.Post
   query-returns-5 c =
-      let b = c .before .before .before .before .before in
-      let a = b .before .before .before .args in
-      leaf-spans _ (b .before .if1 .left) (now (a .s)) (a .at) (omega (arith, b .if2 .left)) (c .before .before .before .if3 .left)
+      let code = c .before .before .before .before .before in
+      let start = code .before .before .before .args in
+      leaf-spans _ (code .before .if1 .left) (now (start .s)) (start .at) (omega (arith, code .if2 .left)) (c .before .before .before .if3 .left)
       (told (c .before .before .leaf-end .ensures) (c .before .if4 .left)) (c .extent .ensures)
 
 pub +operator-extent+query-extent-spec : {M : Type 1} → statement M
-+operator-extent+query-extent-spec = close μ-operator μ-query
++operator-extent+query-extent-spec = close (of-operator kinds.ps left) (of-query kinds.ps left)
     (λ t. operator-lts.spec (operator-calls t) (operator-at t) operator.Post
     (operator-returns t)
     (operator-shared-slice-read-operator t)

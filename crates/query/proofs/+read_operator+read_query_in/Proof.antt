@@ -1,20 +1,23 @@
--- The two readers that call each other. A query calls for its operator with the same depth, an operator for its two sides with one depth
--- less: the measures are twice the depth, and one more for the query.
-use Prim.Native.Nat.{ℕ, _<_, _+_, _*_}
-use mathlib.Core.Path.{refl, sym}
+-- The two readers that call each other, by the measures of Measures: each part is named once it is read, and the returns after it rewrite
+-- by that.
+use Prim.Native.Nat.{ℕ, _-_}
+use mathlib.Core.Path.{_≡_, refl}
 use native.Mathlib.Omega.{arith}
+use denote.Ref.{now}
 use borrow.Author.Needs.{needs}
 use borrow.Fn.Kinds.{In}
-use borrow.Fn.PlainCycle.{Measures, is, falls, and}
-use Rattle.format.specs.Order.{decodeCode, decodeQueryIn}
+use borrow.Fn.PlainCycle.{Measures}
+use Rattle.query.proofs.Measures.{at-measure, below-measure, of-operator, of-query}
+use Rattle.format.specs.Decoding.{got}
+use Rattle.format.specs.Order.{decodeCode, decodeQueryIn, operators}
 use Rattle.query.specs.Nodes.{depths}
+use Rattle.query.specs.QueryAnswers.{operatorOf}
 use Rattle.query.proofs.Nodes.{query-case}
 use Rattle.query.proofs.Depths.{depth-leaf, depth-join, within-depths}
 use Rattle.query.proofs.read_operator.Reads as operator
-use Rattle.query.proofs.read_operator.Kinds as operator-kinds
+use Rattle.query.proofs.read_operator.Kinds as kinds
 use Rattle.query.proofs.+read_operator+read_query_in.Lts-read_operator as operator-lts
 use Rattle.query.proofs.read_query_in.Reads as query
-use Rattle.query.proofs.read_query_in.Kinds as query-kinds
 use Rattle.query.proofs.+read_operator+read_query_in.Lts-read_query_in as query-lts
 use Rattle.query.proofs.DepthStep.fault.Reads as depth-fault
 use Rattle.query.proofs.OperatorStep.fault.Reads as operator-fault
@@ -26,25 +29,12 @@ use Rattle.wire.proofs.Cursor.byte.Reads as byte
 use Rattle.query.proofs.+read_operator+read_query_in.{statement}
 use Rattle.query.proofs.+read_operator+read_query_in.Tie.{close}
 
-abbrev μ-operator : Measures 1 operator-kinds.ps ℕ
-μ-operator κs a = 2 * a .1 .1 .0
-
-abbrev μ-query : Measures 1 query-kinds.ps ℕ
-μ-query κs a = 2 * a .1 .1 .0 + 1
+abbrev left : Measures 1 kinds.ps ℕ
+left κs a = a .1 .1 .0
 
 module _ (t : ℕ) where
-  -- what each is given at the measure t, and what a call of it asks below t
-  abbrev operator-at : In 1 operator-kinds.ps
-  operator-at = and 1 operator-kinds.ps (is 1 operator-kinds.ps μ-operator t) operator.Pre
-
-  abbrev operator-below : In 1 operator-kinds.ps
-  operator-below = and 1 operator-kinds.ps (falls 1 operator-kinds.ps _<_ μ-operator t) operator.Pre
-
-  abbrev query-at : In 1 query-kinds.ps
-  query-at = and 1 query-kinds.ps (is 1 query-kinds.ps μ-query t) query.Pre
-
-  abbrev query-below : In 1 query-kinds.ps
-  query-below = and 1 query-kinds.ps (falls 1 query-kinds.ps _<_ μ-query t) query.Pre
+  abbrev operator-at : In 1 kinds.ps
+  operator-at = at-measure kinds.ps (of-operator kinds.ps left) operator.Pre t
 
   abbrev operator-calls : operator-lts.Claims
   operator-calls = (
@@ -52,7 +42,7 @@ module _ (t : ℕ) where
     operator-code.Learnt,
     operator-fault.Asked,
     operator-fault.Learnt,
-    query-below,
+    below-measure kinds.ps (of-query kinds.ps left) query.Pre t,
     query.Post,
     depth-fault.Asked,
     depth-fault.Learnt,
@@ -60,8 +50,25 @@ module _ (t : ℕ) where
     larger.Learnt,
   )
 
+  abbrev query-at : In 1 kinds.ps
+  query-at = at-measure kinds.ps (of-query kinds.ps left) query.Pre t
+
   abbrev query-calls : query-lts.Claims
-  query-calls = (byte.Asked, byte.Learnt, byte-fault.Asked, byte-fault.Learnt, operator-below, operator.Post, leaf.Asked, leaf.Learnt)
+  query-calls = (byte.Asked, byte.Learnt, byte-fault.Asked, byte-fault.Learnt, below-measure kinds.ps (of-operator kinds.ps left) operator.Pre t, operator.Post, leaf.Asked, leaf.Learnt)
+
+  operator-read : (c : operator-lts.After-operator-step operator-calls operator-at operator.Post) → let start = c .before .before .before .before .args in
+      decodeCode operators (now (start .s)) (start .c .at) ≡ got (operatorOf (c .operator-step .given .0 .0)) (c .operator-step .given .0 .1 .0 .at)
+  operator-read c = rw (← c .before .before .read-operator-code .ensures, c .operator-step .given .1) refl
+
+  first-read : (c : operator-lts.After-first-step operator-calls operator-at operator.Post) → let operator = c .before .before .before .before in
+      let start = operator .before .before .before .before .args in
+      depths (decodeQueryIn (start .left - 1) (now (start .s)) (operator .operator-step .given .0 .1 .0 .at)) ≡ got (c .first-step .given .0 .0) (c .first-step .given .0 .1 .0 .at)
+  first-read c = rw (← c .before .before .read-query-in .ensures, c .first-step .given .1) refl
+
+  second-read : (c : operator-lts.After-second-step operator-calls operator-at operator.Post) → let first = c .before .before .before .before in
+      let start = first .before .before .before .before .before .before .before .before .args in
+      depths (decodeQueryIn (start .left - 1) (now (start .s)) (first .first-step .given .0 .1 .0 .at)) ≡ got (c .second-step .given .0 .0) (c .second-step .given .0 .1 .0 .at)
+  second-read c = rw (← c .before .before .read-query-in2 .ensures, c .second-step .given .1) refl
 
   operator-read-operator-code-requires : operator-lts.Need-read-operator-code-requires operator-calls operator-at operator.Post
   operator-read-operator-code-requires c κs = search needs
@@ -94,11 +101,7 @@ module _ (t : ℕ) where
   operator-fault-requires-2 c κs = search needs
 
   operator-returns-2 : operator-lts.Need-returns-2 operator-calls operator-at operator.Post
-  operator-returns-2 c =
-      let b = c .before in
-      let a = b .before .before .before .before in
-      rw (c .fault2 .ensures, depth-join, ← a .before .before .read-operator-code .ensures, a .operator-step .given .1)
-      (rw (← b .before .before .read-query-in .ensures, b .enum-told2 .given .1) refl)
+  operator-returns-2 c = rw (c .fault2 .ensures, depth-join, operator-read, ← c .before .before .before .read-query-in .ensures, c .before .enum-told2 .given .1) refl
 
   operator-read-query-in-requires-2 : operator-lts.Need-read-query-in-requires-2 operator-calls operator-at operator.Post
   operator-read-query-in-requires-2 c κs = (omega arith, tt)
@@ -113,32 +116,20 @@ module _ (t : ℕ) where
   operator-fault-requires-3 c κs = search needs
 
   operator-returns-3 : operator-lts.Need-returns-3 operator-calls operator-at operator.Post
-  operator-returns-3 c =
-      let d = c .before in
-      let b = d .before .before .before .before in
-      let a = b .before .before .before .before in
-      rw (c .fault3 .ensures, depth-join, ← a .before .before .read-operator-code .ensures, a .operator-step .given .1)
-      (rw (← b .before .before .read-query-in .ensures, b .first-step .given .1, ← d .before .before .read-query-in2 .ensures, d .enum-told3 .given .1) refl)
+  operator-returns-3 c = rw (c .fault3 .ensures, depth-join, operator-read, first-read, ← c .before .before .before .read-query-in2 .ensures, c .before .enum-told3 .given .1) refl
 
   operator-larger-requires : operator-lts.Need-larger-requires operator-calls operator-at operator.Post
   operator-larger-requires c κs = search needs
 
   operator-add-depth : operator-lts.Need-add-depth operator-calls operator-at operator.Post
   operator-add-depth c =
-      let d = c .before .before in
-      let b = d .before .before .before .before in
-      let m = within-depths _ _ _ (sym (rw (b .first-step .given .1) at (b .before .before .read-query-in .ensures))) in
-      let n = within-depths _ _ _ (sym (rw (d .second-step .given .1) at (d .before .before .read-query-in2 .ensures))) in
-      let start = b .before .before .before .before .before .before .before .before in
-      omega (arith, c .larger .ensures, m, n, start .pre .1, start .fits)
+      let second = c .before .before in
+      let first = second .before .before .before .before in
+      let start = first .before .before .before .before .before .before .before .before in
+      omega (arith, c .larger .ensures, within-depths _ _ _ (first-read first), within-depths _ _ _ (second-read second), start .pre .1, start .fits)
 
   operator-returns-4 : operator-lts.Need-returns-4 operator-calls operator-at operator.Post
-  operator-returns-4 c =
-      let d = c .before .before in
-      let b = d .before .before .before .before in
-      let a = b .before .before .before .before in
-      rw (depth-join, ← a .before .before .read-operator-code .ensures, a .operator-step .given .1, ← b .before .before .read-query-in .ensures)
-      (rw (b .first-step .given .1, ← d .before .before .read-query-in2 .ensures, d .second-step .given .1, c .larger .ensures) refl)
+  operator-returns-4 c = rw (depth-join, operator-read, first-read, second-read, c .larger .ensures) refl
 
   query-returns : query-lts.Need-returns query-calls query-at query.Post
   unfolding depths decodeQueryIn
@@ -159,8 +150,8 @@ module _ (t : ℕ) where
   query-returns-2 : query-lts.Need-returns-2 query-calls query-at query.Post
   unfolding depths decodeCode
   query-returns-2 c =
-      let b = c .before in
-      rw (c .fault .ensures, query-case _ (b .before .before .before .if1 .left), ← b .before .before .byte .ensures, b .enum-told .given .1) refl
+      let read = c .before .before .before in
+      rw (c .fault .ensures, query-case _ (read .before .if1 .left), ← read .byte .ensures, c .before .enum-told .given .1) refl
 
   query-read-operator-requires : query-lts.Need-read-operator-requires query-calls query-at query.Post
   query-read-operator-requires c κs = (omega arith, omega arith)
@@ -168,8 +159,8 @@ module _ (t : ℕ) where
   query-returns-3 : query-lts.Need-returns-3 query-calls query-at query.Post
   unfolding decodeCode
   query-returns-3 c =
-      let b = c .before .before .before in
-      rw (query-case _ (b .before .before .before .if1 .left), ← b .before .before .byte .ensures, b .code-step .given .1, c .before .if2 .taken)
+      let code = c .before .before .before in
+      rw (query-case _ (code .before .before .before .if1 .left), ← code .before .before .byte .ensures, code .code-step .given .1, c .before .if2 .taken)
       (c .read-operator .ensures)
 
   query-read-leaf-requires : query-lts.Need-read-leaf-requires query-calls query-at query.Post
@@ -177,12 +168,12 @@ module _ (t : ℕ) where
 
   query-returns-4 : query-lts.Need-returns-4 query-calls query-at query.Post
   query-returns-4 c =
-      let b = c .before .before .before in
-      let e = rw (b .code-step .given .1) at (b .before .before .byte .ensures) in
-      rw (depth-leaf _ (b .before .before .before .if1 .left) _ _ e (c .before .if2 .left)) (c .read-leaf .ensures)
+      let code = c .before .before .before in
+      let read = rw (code .code-step .given .1) at (code .before .before .byte .ensures) in
+      rw (depth-leaf _ (code .before .before .before .if1 .left) _ _ read (c .before .if2 .left)) (c .read-leaf .ensures)
 
 pub +read-operator+read-query-in-spec : {M : Type 1} → statement M
-+read-operator+read-query-in-spec = close μ-operator μ-query
++read-operator+read-query-in-spec = close (of-operator kinds.ps left) (of-query kinds.ps left)
     (λ t. operator-lts.spec (operator-calls t) (operator-at t) operator.Post
     (operator-read-operator-code-requires t)
     (operator-enum-known-operator-step t)

@@ -1,3 +1,4 @@
+-- Nothing is reported above the two ceilings, and below them by the extent.
 use mathlib.Core.Path.{refl}
 use mathlib.Core.Logic.{inl}
 use borrow.Author.Needs.{needs}

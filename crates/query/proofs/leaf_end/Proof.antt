@@ -1,3 +1,4 @@
+-- Each case of a leaf passes by its law of Skips, with the text that the tests found.
 use mathlib.Core.Path.{refl}
 use mathlib.Core.Logic.{inl}
 use native.Mathlib.Omega.{arith}
@@ -28,9 +29,9 @@ limit-end-requires c κs = search needs
 
 returns-3 : tie.Need-returns-3
 returns-3 c =
-    let b = c .before .before .before in
-    let a = b .before .before .before .args in
-    node-passes isLimit (now (a .s)) (a .at) (omega (arith, b .if2 .left, b .before .if1 .left)) (rw (c .before .if3 .taken) refl) (c .limit-end .ensures)
+    let room = c .before .before .before in
+    let start = room .before .before .before .args in
+    node-passes isLimit (now (start .s)) (start .at) (omega (arith, room .if2 .left, room .before .if1 .left)) (rw (c .before .if3 .taken) refl) (c .limit-end .ensures)
 
 add-pair : tie.Need-add-pair
 add-pair c = search needs
@@ -64,10 +65,10 @@ add-end c = search needs
 
 returns-5 : tie.Need-returns-5
 returns-5 c =
-    let p = c .before .before in
-    let b = p .before .before .before .before .before in
-    let a = b .before .before .before .args in
-    keyword-passes (now (a .s)) (a .at) _ (p .pair .ensures) (omega (arith, b .if2 .left, b .before .if1 .left, c .before .if4 .left)) (c .if5 .taken)
+    let text = c .before .before in
+    let room = text .before .before .before .before .before in
+    let start = room .before .before .before .args in
+    keyword-passes (now (start .s)) (start .at) _ (text .pair .ensures) (omega (arith, room .if2 .left, room .before .if1 .left, c .before .if4 .left)) (c .if5 .taken)
 
 returns-6 : tie.Need-returns-6
 returns-6 c = inl refl
@@ -77,10 +78,10 @@ name-end-requires c κs = search needs
 
 returns-7 : tie.Need-returns-7
 returns-7 c =
-    let p = c .before .before .before .before in
-    let b = p .before .before .before .before .before in
-    let a = b .before .before .before .args in
-    field-passes (now (a .s)) (a .at) _ (p .pair .ensures) (omega (arith, b .if2 .left, b .before .if1 .left, c .before .before .before .if4 .left))
+    let text = c .before .before .before .before in
+    let room = text .before .before .before .before .before in
+    let start = room .before .before .before .args in
+    field-passes (now (start .s)) (start .at) _ (text .pair .ensures) (omega (arith, room .if2 .left, room .before .if1 .left, c .before .before .before .if4 .left))
     (omega (arith, c .before .if6 .left)) (c .name-end .ensures)
 
 pub leaf-end-spec : {M : Type 1} → statement M

@@ -1,3 +1,4 @@
+-- A number and a bound lie there, and the limit passes as its name does.
 use mathlib.Core.Path.{refl}
 use mathlib.Core.Logic.{inl}
 use native.Mathlib.Omega.{arith}
@@ -33,9 +34,9 @@ name-end-requires c κs = search needs
 
 returns-4 : tie.Need-returns-4
 returns-4 c =
-    let b = c .before .before .before .before in
-    let start = b .before .before in
-    limit-passes (now (start .args .s)) (start .args .at) (omega (arith, start .pre, b .if1 .left)) (c .before .before .if2 .left)
+    let room = c .before .before .before .before in
+    let start = room .before .before in
+    limit-passes (now (start .args .s)) (start .args .at) (omega (arith, start .pre, room .if1 .left)) (c .before .before .if2 .left)
     (omega (arith, c .before .if3 .left)) (c .name-end .ensures)
 
 pub limit-end-spec : {M : Type 1} → statement M

@@ -1,3 +1,4 @@
+-- A length from 1 to 255 and as many bytes lie there, or nothing is told.
 use mathlib.Core.Path.{refl}
 use mathlib.Core.Logic.{inl, inr}
 use native.Mathlib.Omega.{arith}
@@ -42,10 +43,10 @@ add-result-2 c = search needs
 
 returns-5 : tie.Need-returns-5
 returns-5 c =
-    let b = c .before .before in
-    let start = b .before .before .before .before in
-    inr (name-ends (now (start .args .s)) (start .args .at) _ refl (omega (arith, b .before .if2 .left)) (c .before .if3 .left)
-    (omega (arith, b .shared-slice-known2 .given (start .args .at))) (omega (arith, start .pre, b .before .before .before .if1 .left, c .if4 .left)))
+    let low = c .before .before in
+    let start = low .before .before .before .before in
+    inr (name-ends (now (start .args .s)) (start .args .at) _ refl (omega (arith, low .before .if2 .left)) (c .before .if3 .left)
+    (omega (arith, low .shared-slice-known2 .given (start .args .at))) (omega (arith, start .pre, low .before .before .before .if1 .left, c .if4 .left)))
 
 pub name-end-spec : {M : Type 1} → statement M
 name-end-spec =

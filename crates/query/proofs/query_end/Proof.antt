@@ -15,9 +15,9 @@ end-of-requires c κs = search needs
 
 returns : tie.Need-returns
 returns c =
-    let b = c .before in
-    let a = b .before .before .before .args in
-    c .end-of .ensures ∙ span-after (decodeQueryIn (a .left) (now (a .s)) (a .at)) (told (b .before .extent-in .ensures) (b .if1 .taken))
+    let found = c .before in
+    let start = found .before .before .before .args in
+    c .end-of .ensures ∙ span-after (decodeQueryIn (start .left) (now (start .s)) (start .at)) (told (found .before .extent-in .ensures) (found .if1 .taken))
 
 read-query-in-requires : tie.Need-read-query-in-requires
 read-query-in-requires c κs = search needs

@@ -1,3 +1,4 @@
+-- A node, as a leaf: by the equation of its reader.
 use mathlib.Core.Path.{refl}
 use Rattle.query.specs.Nodes.{decodeLeaf}
 use borrow.Author.Needs.{needs}

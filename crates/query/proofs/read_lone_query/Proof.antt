@@ -1,9 +1,6 @@
-use mathlib.Core.Path.{refl}
-use borrow.Author.Tests.{lt-leb, le-leb, eq-eqb, ne-eqb}
+-- Each answer is a law of Replies, by what the reader of the query found.
 use Rattle.format.specs.Messages.{loneQuery}
-use Rattle.format.specs.Rules.{packetCeiling}
-use Rattle.format.specs.MetOrder.{decode}
-use Rattle.wire.proofs.Replies.{exact-placed}
+use Rattle.wire.proofs.Replies.{over-ceiling, faulty, whole, bytes-left}
 use borrow.Author.Needs.{needs}
 use Rattle.query.proofs.read_lone_query.Statement.{statement}
 use Rattle.query.proofs.read_lone_query.Tie as tie
@@ -12,8 +9,7 @@ number-requires : tie.Need-number-requires
 number-requires c κs = search needs
 
 returns : tie.Need-returns
-unfolding decode
-returns c = exact-placed loneQuery _ (c .before .before .shared-slice-known .given) (rw (c .number .ensures, lt-leb _ packetCeiling (c .before .if1 .taken)) refl) tt
+returns c = rw (c .number .ensures) (over-ceiling loneQuery _ (c .before .before .shared-slice-known .given) (c .before .if1 .taken))
 
 read-query-requires : tie.Need-read-query-requires
 read-query-requires c κs = search needs
@@ -31,33 +27,28 @@ number-requires-2 : tie.Need-number-requires-2
 number-requires-2 c κs = search needs
 
 returns-2 : tie.Need-returns-2
-unfolding decode
 returns-2 c =
-    let b = c .before .before .before .before in
-    exact-placed loneQuery _ (b .before .before .shared-slice-known .given)
-    (rw (c .number2 .ensures, c .before .fault .ensures, le-leb _ packetCeiling (b .before .if1 .left))
-    (rw (← b .read-query .ensures .0, c .before .before .enum-told .given .1) refl))
-    tt
+    let read = c .before .before .before .before in
+    let told = c .before .before .enum-told .given .1 in
+    rw (c .number2 .ensures, c .before .fault .ensures, told)
+    (faulty loneQuery _ (read .before .before .shared-slice-known .given) (read .before .if1 .left) (rw told at (read .read-query .ensures .0)))
 
 returns-3 : tie.Need-returns-3
-unfolding decode
 returns-3 c =
-    let b = c .before .before .before in
-    exact-placed loneQuery _ (b .before .before .before .before .shared-slice-known .given)
-    (rw (le-leb _ packetCeiling (b .before .before .before .if1 .left), ← b .before .before .read-query .ensures .0, b .query-step .given .1, eq-eqb _ _ (c .if2 .taken)) refl)
-    (rw (b .query-step .given .1) at (b .before .before .read-query .ensures .1))
+    let read = c .before .before .before .before .before in
+    let told = c .before .before .before .query-step .given .1 in
+    whole loneQuery _ (read .before .before .shared-slice-known .given) (read .before .if1 .left) (rw told at (read .read-query .ensures .0)) (c .if2 .taken)
+    (rw told at (read .read-query .ensures .1))
 
 number-requires-3 : tie.Need-number-requires-3
 number-requires-3 c κs = search needs
 
 returns-4 : tie.Need-returns-4
-unfolding decode
 returns-4 c =
-    let b = c .before .before .before .before in
-    exact-placed loneQuery _ (b .before .before .before .before .shared-slice-known .given)
-    (rw (c .number3 .ensures, le-leb _ packetCeiling (b .before .before .before .if1 .left))
-    (rw (← b .before .before .read-query .ensures .0, b .query-step .given .1, ne-eqb _ _ (c .before .if2 .left)) refl))
-    tt
+    let read = c .before .before .before .before .before .before in
+    let told = c .before .before .before .before .query-step .given .1 in
+    rw (c .number3 .ensures)
+    (bytes-left loneQuery _ (read .before .before .shared-slice-known .given) (read .before .if1 .left) (rw told at (read .read-query .ensures .0)) (c .before .if2 .left))
 
 pub read-lone-query-spec : {M : Type 1} → statement M
 read-lone-query-spec =

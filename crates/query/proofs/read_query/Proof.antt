@@ -1,3 +1,4 @@
+-- By the extent where the tests decide, and else by the reader: a depth that was decoded is that of the query.
 use mathlib.Core.Path.{sym}
 use Rattle.format.specs.Order.{decodeQuery}
 use Rattle.query.proofs.Depths.{depths-query, depths-refused}
@@ -18,9 +19,9 @@ depth-of-requires c κs = search needs
 returns : tie.Need-returns
 unfolding decodeQuery
 returns c =
-    let b = c .before .before in
-    let e = rw (← c .before .end-of .ensures, ← c .depth-of .ensures) at (told (b .before .extent-in .ensures) (b .if1 .taken)) in
-    (depths-query _ e, e)
+    let found = c .before .before in
+    let placed = rw (← c .before .end-of .ensures, ← c .depth-of .ensures) at (told (found .before .extent-in .ensures) (found .if1 .taken)) in
+    (depths-query _ placed, placed)
 
 read-query-in-requires : tie.Need-read-query-in-requires
 read-query-in-requires c κs = search needs
@@ -43,7 +44,7 @@ returns-2 c =
 returns-3 : tie.Need-returns-3
 unfolding decodeQuery
 returns-3 c =
-    let e = sym (rw (c .before .depth-step .given .1) at (c .before .before .before .read-query-in .ensures)) in (depths-query _ e, e)
+    let placed = sym (rw (c .before .depth-step .given .1) at (c .before .before .before .read-query-in .ensures)) in (depths-query _ placed, placed)
 
 pub read-query-spec : {M : Type 1} → statement M
 read-query-spec =

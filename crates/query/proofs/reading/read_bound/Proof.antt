@@ -1,9 +1,18 @@
-use mathlib.Core.Path.{refl}
+-- A byte that is one of two codes: it is named once it is read, and the returns after it rewrite by that.
+use mathlib.Core.Path.{_≡_, refl}
+use denote.Ref.{now}
 use borrow.Author.Tests.{ne-eqb}
-use Rattle.format.specs.Order.{decodeCode}
+use Rattle.format.specs.Tables.{lookup}
+use Rattle.format.specs.Decoding.{choice, found, settled}
+use Rattle.format.specs.Order.{bounds, decodeCode}
 use borrow.Author.Needs.{needs}
 use Rattle.query.proofs.reading.read_bound.Statement.{statement}
 use Rattle.query.proofs.reading.read_bound.Tie as tie
+
+code-read : (c : tie.After-code-step) → let start = c .before .before .before .before .args in
+    decodeCode bounds (now (start .s)) (start .c .at) ≡ settled (start .c .at) 1 (found choice (lookup bounds (c .code-step .given .0 .0))) (c .code-step .given .0 .1 .0 .at)
+unfolding decodeCode
+code-read c = rw (← c .before .before .byte .ensures, c .code-step .given .1) refl
 
 byte-requires : tie.Need-byte-requires
 byte-requires c κs = search needs
@@ -22,19 +31,15 @@ unfolding decodeCode
 returns c = rw (c .fault .ensures, ← c .before .before .before .byte .ensures, c .before .enum-told .given .1) refl
 
 returns-2 : tie.Need-returns-2
-unfolding decodeCode
-returns-2 c = rw (← c .before .before .before .before .byte .ensures, c .before .before .code-step .given .1, c .match2 .keys1) refl
+returns-2 c = rw (code-read, c .match2 .keys1) refl
 
 returns-3 : tie.Need-returns-3
-unfolding decodeCode
-returns-3 c = rw (← c .before .before .before .before .byte .ensures, c .before .before .code-step .given .1, c .match2 .keys2) refl
+returns-3 c = rw (code-read, c .match2 .keys2) refl
 
 returns-4 : tie.Need-returns-4
-unfolding decodeCode
 returns-4 c =
-    let b = c .before .before in
-    rw (← b .before .before .byte .ensures, b .code-step .given .1)
-    (rw (ne-eqb _ _ (c .match2 .rest .0 .1), ne-eqb _ _ (c .match2 .rest .1)) refl)
+    let others = c .match2 .rest in
+    rw (code-read, ne-eqb _ _ (others .0 .1), ne-eqb _ _ (others .1)) refl
 
 pub read-bound-spec : {M : Type 1} → statement M
 read-bound-spec =

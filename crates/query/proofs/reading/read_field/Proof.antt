@@ -1,7 +1,16 @@
-use mathlib.Core.Path.{refl}
+-- A text and a name: each is named once it is read, and the returns after it rewrite by that.
+use mathlib.Core.Path.{_≡_, refl}
+use denote.Ref.{now}
+use Rattle.format.specs.Decoding.{got}
+use Rattle.format.specs.Order.{decodeString}
+use Rattle.wire.specs.WireAnswers.{placeBytes}
 use borrow.Author.Needs.{needs}
 use Rattle.query.proofs.reading.read_field.Statement.{statement}
 use Rattle.query.proofs.reading.read_field.Tie as tie
+
+text-read : (c : tie.After-text-step) → let start = c .before .before .before .before .args in
+    decodeString (now (start .s)) (start .c .at) ≡ got (placeBytes (now (start .s)) (c .text-step .given .0 .0)) (c .text-step .given .0 .1 .0 .at)
+text-read c = rw (← c .before .before .string .ensures .0, c .text-step .given .1) refl
 
 string-requires : tie.Need-string-requires
 string-requires c κs = search needs
@@ -31,16 +40,14 @@ fault-requires-2 : tie.Need-fault-requires-2
 fault-requires-2 c κs = search needs
 
 returns-2 : tie.Need-returns-2
-returns-2 c =
-    let b = c .before .before .before .before .before in
-    rw (c .fault2 .ensures, ← b .before .before .string .ensures .0, b .text-step .given .1)
-    (rw (← c .before .before .before .name .ensures .0, c .before .enum-told2 .given .1) (refl, tt))
+returns-2 c = rw (c .fault2 .ensures, text-read, ← c .before .before .before .name .ensures .0, c .before .enum-told2 .given .1) (refl, tt)
 
 returns-3 : tie.Need-returns-3
 returns-3 c =
-    let b = c .before .before .before .before .before in
-    rw (← b .before .before .string .ensures .0, b .text-step .given .1, ← c .before .before .before .name .ensures .0, c .before .name-step .given .1)
-    (refl, (rw (b .text-step .given .1) at (b .before .before .string .ensures .1), rw (c .before .name-step .given .1) at (c .before .before .before .name .ensures .1)))
+    let text = c .before .before .before .before .before in
+    let told = c .before .name-step .given .1 in
+    let read = c .before .before .before .name .ensures in
+    rw (text-read, ← read .0, told) (refl, (rw (text .text-step .given .1) at (text .before .before .string .ensures .1), rw told at (read .1)))
 
 pub read-field-spec : {M : Type 1} → statement M
 read-field-spec =

@@ -1,3 +1,4 @@
+-- An operator: by the equation of its reader.
 use mathlib.Core.Path.{refl}
 use borrow.Author.Needs.{needs}
 use Rattle.query.proofs.reading.read_join.Statement.{statement}

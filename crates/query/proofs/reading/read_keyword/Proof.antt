@@ -1,3 +1,4 @@
+-- A text: by the equation of its reader.
 use mathlib.Core.Path.{refl}
 use borrow.Author.Needs.{needs}
 use Rattle.query.proofs.reading.read_keyword.Statement.{statement}

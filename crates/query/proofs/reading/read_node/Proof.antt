@@ -1,10 +1,19 @@
-use mathlib.Core.Path.{refl}
+-- The code of a case and what stands after it: the code is named once it is read, and the returns after it rewrite by that.
+use mathlib.Core.Path.{_≡_, refl}
+use denote.Ref.{now}
 use borrow.Author.Tests.{ne-eqb}
-use Rattle.format.specs.Order.{decodeCode}
+use Rattle.format.specs.Tables.{lookup}
+use Rattle.format.specs.Decoding.{choice, found, settled}
+use Rattle.format.specs.Order.{decodeCode, queryCases}
 use Rattle.query.specs.Nodes.{decodeNode}
 use borrow.Author.Needs.{needs}
 use Rattle.query.proofs.reading.read_node.Statement.{statement}
 use Rattle.query.proofs.reading.read_node.Tie as tie
+
+code-read : (c : tie.After-code-step) → let start = c .before .before .before .before .args in
+    decodeCode queryCases (now (start .s)) (start .c .at) ≡ settled (start .c .at) 1 (found choice (lookup queryCases (c .code-step .given .0 .0))) (c .code-step .given .0 .1 .0 .at)
+unfolding decodeCode
+code-read c = rw (← c .before .before .byte .ensures, c .code-step .given .1) refl
 
 byte-requires : tie.Need-byte-requires
 byte-requires c κs = search needs
@@ -35,36 +44,26 @@ read-limit-requires : tie.Need-read-limit-requires
 read-limit-requires c κs = search needs
 
 returns-2 : tie.Need-returns-2
-unfolding decodeNode decodeCode
-returns-2 c =
-    let b = c .before .before .before in
-    rw (← b .before .before .byte .ensures, b .code-step .given .1, c .before .match2 .keys1) (c .read-join .ensures)
+unfolding decodeNode
+returns-2 c = rw (code-read, c .before .match2 .keys1) (c .read-join .ensures)
 
 returns-3 : tie.Need-returns-3
-unfolding decodeNode decodeCode
-returns-3 c =
-    let b = c .before .before .before in
-    rw (← b .before .before .byte .ensures, b .code-step .given .1, c .before .match2 .keys2) (c .read-keyword .ensures)
+unfolding decodeNode
+returns-3 c = rw (code-read, c .before .match2 .keys2) (c .read-keyword .ensures)
 
 returns-4 : tie.Need-returns-4
-unfolding decodeNode decodeCode
-returns-4 c =
-    let b = c .before .before .before in
-    rw (← b .before .before .byte .ensures, b .code-step .given .1, c .before .match2 .keys3) (c .read-field .ensures)
+unfolding decodeNode
+returns-4 c = rw (code-read, c .before .match2 .keys3) (c .read-field .ensures)
 
 returns-5 : tie.Need-returns-5
-unfolding decodeNode decodeCode
-returns-5 c =
-    let b = c .before .before .before in
-    rw (← b .before .before .byte .ensures, b .code-step .given .1, c .before .match2 .keys4) (c .read-limit .ensures)
+unfolding decodeNode
+returns-5 c = rw (code-read, c .before .match2 .keys4) (c .read-limit .ensures)
 
 returns-6 : tie.Need-returns-6
-unfolding decodeNode decodeCode
+unfolding decodeNode
 returns-6 c =
-    let b = c .before .before in
-    let r = c .match2 .rest in
-    rw (← b .before .before .byte .ensures, b .code-step .given .1)
-    (rw (ne-eqb _ _ (r .0 .0 .0 .1), ne-eqb _ _ (r .0 .0 .1), ne-eqb _ _ (r .0 .1), ne-eqb _ _ (r .1)) (refl, tt))
+    let others = c .match2 .rest in
+    rw (code-read, ne-eqb _ _ (others .0 .0 .0 .1), ne-eqb _ _ (others .0 .0 .1), ne-eqb _ _ (others .0 .1), ne-eqb _ _ (others .1)) (refl, tt)
 
 pub read-node-spec : {M : Type 1} → statement M
 read-node-spec =
