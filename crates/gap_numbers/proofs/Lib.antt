@@ -4,4 +4,5 @@ pub mod Moves
 pub mod Records
 pub mod Loops
 pub mod Replaced
+pub mod Found
 pub mod Marks

@@ -66,6 +66,16 @@ take-replicate zero n h = refl
 take-replicate (suc m) zero h = absurd (omega arith)
 take-replicate (suc m) (suc n) h = ap (λ l. 0 ∷ l) (take-replicate m n (omega arith))
 
+-- Numbers that end at `last`, and 0 after them up to the end of the record
+pub cleared-after : (kept l : List ℕ) (last : ℕ) → length kept ≡ last → last ≤ 130 → cleared (kept ++ drop last l) last ≡ (kept ++ replicate (130 - last) 0) ++ drop 130 l
+cleared-after kept l last length-kept few =
+    let e : last + (130 - last) ≡ 130 = omega arith in
+    let n : 130 ≡ length kept + (130 - last) = omega arith in
+    let rest : drop 130 (kept ++ drop last l) ≡ drop 130 l =
+    ap (λ k. drop k (kept ++ drop last l)) n ∙ drop-append-add kept (drop last l) (130 - last) ∙ drop-drop (130 - last) last l
+    ∙ ap (λ k. drop k l) e in
+    rw (e, take-at kept (drop last l) last length-kept, rest, take-replicate (130 - last) 130 (omega arith)) refl
+
 -- The numbers from `from` are moved to stand behind the pieces at `at`, and those after them are cleared.
 module _ (l pieces : List ℕ) (at from to count last : ℕ) (fits : at + length pieces ≡ to) (ends : to + count ≡ last) (few : last ≤ 130) (long : 130 ≤ length l)
     (inside : from + count ≤ length l) (first : List ℕ) (w : first ≡ moved l from to count) where
@@ -99,10 +109,4 @@ module _ (l pieces : List ℕ) (at from to count last : ℕ) (fits : at + length
         ∙ rw (before, behind, ends) (sym (append-assoc (take at l ++ pieces) (take count (drop from l)) (drop last l)))
 
     pub all-put : cleared (putMid at (length first - at) first new) last ≡ (kept ++ replicate (130 - last) 0) ++ drop 130 l
-    all-put =
-        let e : last + (130 - last) ≡ 130 = omega arith in
-        let n : 130 ≡ length kept + (130 - last) = omega (arith, length-kept) in
-        let rest : drop 130 (kept ++ drop last l) ≡ drop 130 l =
-        ap (λ k. drop k (kept ++ drop last l)) n ∙ drop-append-add kept (drop last l) (130 - last) ∙ drop-drop (130 - last) last l
-        ∙ ap (λ k. drop k l) e in
-        rw (pieces-put, e, take-at kept (drop last l) last length-kept, rest, take-replicate (130 - last) 130 (omega arith)) refl
+    all-put = ap (λ r. cleared r last) pieces-put ∙ cleared-after kept l last length-kept few

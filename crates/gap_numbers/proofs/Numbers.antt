@@ -13,7 +13,7 @@ use Rattle.gaps.specs.declared.Gap.{Gap as Place}
 use Rattle.gaps.specs.GapRecords.{place, placeOf, gapOf, recordOf}
 use Rattle.gaps.proofs.GapRecords.{At, placeAt, gaps-length, gap-at, next-gap}
 use Rattle.gap_numbers.specs.Numbers.{pairNumbers, numbersOf, pairsIn, held}
-use Rattle.gap_numbers.specs.NumberSteps.{gapsIn, gapNumbers, pieces, holding}
+use Rattle.gap_numbers.specs.NumberSteps.{gapsIn, gapNumbers, pieces}
 
 -- The gaps of the numbers
 
@@ -135,12 +135,12 @@ module _ (l : List ℕ) (long : 130 ≤ length l) (few : getD l 1 0 ≤ 64) wher
         ∙ drop-at (take (2 * i) (drop 2 l)) (take (2 * (count - i)) (drop (2 * i) (drop 2 l))) (2 * i) short
         ∙ rw (drop-drop (2 * i) 2 l, m) refl
 
--- A record that holds these gaps: 0 after the last of them
-pub holding-numbers : (gaps : List Gap) (l : List ℕ) → length gaps ≤ 64
-    → holding gaps l ≡ (getD l 0 0 ∷ length gaps ∷ (gapNumbers gaps ++ replicate (2 * (64 - length gaps)) 0)) ++ drop 130 l
-holding-numbers gaps l few =
+-- The record of these gaps at the front: 0 after the last of them
+pub record-numbers : (size : ℕ) (gaps : List Gap) (l : List ℕ) → length gaps ≤ 64
+    → overwritten (numbersOf (recordOf size gaps)) l ≡ (size ∷ length gaps ∷ (gapNumbers gaps ++ replicate (2 * (64 - length gaps)) 0)) ++ drop 130 l
+record-numbers size gaps l few =
     let numbers = gapNumbers gaps ++ replicate (2 * (64 - length gaps)) 0 in
     let long : suc (suc (length numbers)) ≡ 130 = simp (length-append, length-replicate, length-gap-numbers) (omega arith) in
-    let all : numbersOf (recordOf (getD l 0 0) gaps) ≡ getD l 0 0 ∷ length gaps ∷ numbers =
+    let all : numbersOf (recordOf size gaps) ≡ size ∷ length gaps ∷ numbers =
     rw (numbers-append (map placeOf gaps) (replicate (64 - length gaps) (place 0 0)), no-numbers (64 - length gaps)) refl in
-    ap (λ r. overwritten r l) all ∙ ap (λ k. (getD l 0 0 ∷ length gaps ∷ numbers) ++ drop k l) long
+    ap (λ r. overwritten r l) all ∙ ap (λ k. (size ∷ length gaps ∷ numbers) ++ drop k l) long

@@ -10,7 +10,7 @@ use Rattle.format.specs.Gaps.{Gap, between, subtract}
 use Rattle.format.specs.Writing.{overwritten}
 use Rattle.gap_numbers.specs.declared.Touched.{Touched}
 use Rattle.gap_numbers.specs.NumberSteps.{gapsIn, gapNumbers, Holds, pieces, Touches, Replaceable, moved, cleared, holding}
-use Rattle.gap_numbers.proofs.Numbers.{length-gap-numbers, gap-numbers-append, first-numbers, last-numbers, holding-numbers}
+use Rattle.gap_numbers.proofs.Numbers.{length-gap-numbers, gap-numbers-append, first-numbers, last-numbers, record-numbers}
 use Rattle.gap_numbers.proofs.Moves.{all-put}
 use Rattle.gap_numbers.proofs.Loops.{length-gaps}
 
@@ -86,4 +86,4 @@ module _ {l : List ℕ} {n s e count : ℕ} {t : Touched} (c : Replaceable l n s
   replaced moved-numbers new cleared-numbers moving putting clearing =
       let k : 130 - last ≡ 2 * (64 - length left) = omega arith in
       let all = all-put l (gapNumbers piece) (2 * first + 2) (2 * next + 2) (last - behind) behind last fits ends (omega arith) (c .holds .long) (omega (arith, inside, c .holds .long)) moved-numbers moving new putting in
-      ap (λ r. set r 1 count) (clearing ∙ all) ∙ rw (kept-numbers, k, c .counted, holding-numbers left l few) refl
+      ap (λ r. set r 1 count) (clearing ∙ all) ∙ rw (kept-numbers, k, c .counted, record-numbers (getD l 0 0) left l few) refl

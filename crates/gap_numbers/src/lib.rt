@@ -1,12 +1,15 @@
 // A gap record that is lent as numbers: the size, how many gaps, 64 pairs of start and end. It is judged and marked without making the
-// record: the answers are those of the crate gaps for it. A record made there is put into numbers.
+// record: the answers are those of the crate gaps for it. A record made there is put into numbers, and so are the gaps that part_tags
+// finds in a part.met.
 ghost use mathlib.Core.Path.{_≡_};
 ghost use mathlib.Core.List.{[], _∷_};
 ghost use Prim.Native.Nat.{_+_, _-_, _*_, _≤_, _<_, min, max};
 ghost use lib.ListN.{length, getD};
-ghost use Rattle.format.specs.Gaps.{gap, follows, between, total, subtract, sizeLimit};
+ghost use Rattle.format.specs.Gaps.{gap, follows, between, total, subtract, sizeLimit, gapLimit};
 ghost use Rattle.format.specs.Writing.{overwritten};
+ghost use Rattle.gaps.specs.GapRecords.{recordOf};
 ghost use Rattle.gaps.specs.Marking.{Markable, marked};
+ghost use Rattle.part_tags.specs.Pairs.{firstGaps, PairsInside};
 ghost use Rattle.gap_numbers.specs.Numbers.{pairNumbers, numbersOf, held, recordIn, Judges, MarksNumbers};
 ghost use Rattle.gap_numbers.specs.NumberSteps.{gapsIn, gapNumbers, Holds, EndBy, pieces, Touches, Replaceable, moved, cleared, holding, refusedWith};
 use gaps::GAP_LIMIT;
@@ -15,6 +18,7 @@ use gaps::MarkAnswer;
 use gaps::SIZE_LIMIT;
 use output::LIMIT;
 use output::RANGE;
+use part_tags::gap_at;
 
 // The length of a gap record as numbers.
 pub const GAP_NUMBERS: usize = 130;
@@ -348,4 +352,31 @@ pub fn put_record(out: &mut [u64], given: GapRecord)
 {
     put_pair(out, given.size, given.count as u64);
     put_pairs(&mut out[2..], given);
+}
+
+// The gaps that part_tags finds in a part.met, into numbers.
+
+// The numbers of the gaps whose start tags lie at the first `count` offsets.
+fn put_found_pairs(out: &mut [u64], s: &[u8], starts: &[usize; 64], count: usize)
+    requires { ⌜ (count ≤ gapLimit) × PairsInside (now s) count (now starts) × (2 * count ≤ length (now out)) ⌝ }
+    ensures { λ _. ⌜ now (out .exit) ≡ overwritten (gapNumbers (firstGaps (now (s .entry)) count (now (starts .entry)))) (now (out .entry)) ⌝ }
+{
+    let mut filled = 0;
+    while filled < count {
+        let at = starts[filled];
+        let gap = gap_at(s, at);
+        let wrote = 2 * filled;
+        put_pair(&mut out[wrote..], gap.start, gap.end);
+        filled += 1;
+    }
+}
+
+// The numbers of the record of these gaps, at the front of `out`. It is not made.
+pub fn put_found(out: &mut [u64], s: &[u8], starts: &[usize; 64], count: usize, size: u32)
+    requires { ⌜ (130 ≤ length (now out)) × (count ≤ gapLimit) × PairsInside (now s) count (now starts) ⌝ }
+    ensures { λ _. ⌜ now (out .exit) ≡ overwritten (numbersOf (recordOf size (firstGaps (now (s .entry)) count (now (starts .entry))))) (now (out .entry)) ⌝ }
+{
+    put_pair(out, size as u64, count as u64);
+    put_found_pairs(&mut out[2..], s, starts, count);
+    clear(out, 2 * count + 2);
 }
