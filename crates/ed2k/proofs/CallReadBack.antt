@@ -69,7 +69,7 @@ heard e (noMessage f) = absurd (f e)
 heard e (meant _ h) = h
 
 -- No refusal has the number 0.
-refused-some : {A : Type 0} (a : decoding.Answer A) {n : ℕ} → refusedWith n ≡ reply a → n ≡ 0 → ⊥
+pub refused-some : {A : Type 0} (a : decoding.Answer A) {n : ℕ} → refusedWith n ≡ reply a → n ≡ 0 → ⊥
 refused-some (decoding.refusal f) e z = number-some (f .rule) cc
 refused-some (decoding.accepted m) e z = differ cc
 

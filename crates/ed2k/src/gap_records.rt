@@ -15,8 +15,10 @@ ghost use Rattle.ed2k.specs.GapCalls.{gapsRead, allMissingOut, Counts, c
 use gap_numbers::GAP_NUMBERS;
 use gap_numbers::judge_numbers;
 use gap_numbers::mark_numbers;
+use gap_numbers::put_found;
 use gap_numbers::put_record;
 use gaps::SIZE_LIMIT;
+use met::PartRead;
 use output::RANGE;
 use output::ROOM;
 use put_gaps::put_gap_numbers;
@@ -25,16 +27,18 @@ use put_gaps::put_gap_numbers;
 pub extern "C" fn ed2k_read_gaps(file: &[u8], gaps: &mut [u64]) -> u8
     ensures { λ r. ⌜ numbered r (now (gaps .exit)) ≡ gapsRead (gapsAnswer (reply (decode partMet (now (file .entry))))) (now (gaps .entry)) ⌝ }
 {
-    let answer = met::read_gaps(file);
-    if answer.number != 0 {
-        return answer.number;
+    let mut starts: [usize; 64] = [0; 64];
+    let read = met::read_part(file, &mut starts);
+    match read {
+        PartRead::Refused(number) => number,
+        PartRead::Accepted(_, found) => {
+            if gaps.len() < GAP_NUMBERS {
+                return ROOM;
+            }
+            put_found(gaps, file, &starts, found.count, found.size);
+            0
+        }
     }
-    if gaps.len() < GAP_NUMBERS {
-        return ROOM;
-    }
-    let found = answer.gaps;
-    put_record(gaps, found);
-    0
 }
 
 #[no_mangle]
