@@ -108,6 +108,17 @@ same-block a b i (suc n) h k so-far f =
     let z : i + suc n ≡ i + n + 1 = omega arith in
     rw z (same-next a b (i + n) before (omega arith) (omega arith) (f n (omega arith)))
 
+-- The last block agrees: from a place in it on the runs are equal.
+agree-within : (a b : List ℕ) (at n i k : ℕ) → at ≤ i → i + k ≤ at + n → Agree a b at n → Agree a b i k
+agree-within a b at n i k h l f j m = let z : i + j ≡ at + (i - at + j) = omega arith in rw z (f (i - at + j) (omega arith))
+
+pub same-last : (a b : List ℕ) (at n i : ℕ) {t : Bool} → length a ≡ at + n → length b ≡ at + n → at ≤ i → i ≤ at + n →
+    t ≡ same (drop i a) (drop i b) → Agree a b at n → t ≡ true
+same-last a b at n i p q h k so-far f =
+    let rest = at + n - i in
+    let there = agree-within a b at n i rest h (omega arith) f in
+    same-done a b (i + rest) (same-block a b i rest (omega arith) (omega arith) so-far there) (omega arith) (omega arith)
+
 -- Runs of bytes that are equal agree everywhere.
 pub same-agree : (a b : List ℕ) (at n : ℕ) → (Agree a b at n → ⊥) → same a b ≡ false
 same-agree a b at n h = same-not a b (λ e. h (λ j k. ap (λ l. getD l (at + j) 0) e))

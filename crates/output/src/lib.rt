@@ -137,7 +137,8 @@ fn same_from(a: &[u8], b: &[u8], at: usize) -> bool
     true
 }
 
-// Whether two runs of bytes are equal, length included.
+// Whether two runs of bytes are equal, length included. The last block may begin within the one before it: so no byte of a run of a block or
+// more is compared alone.
 pub fn same(a: &[u8], b: &[u8]) -> bool
     ensures { λ r. ⌜ r ≡ same (now (a .entry)) (now (b .entry)) ⌝ }
 {
@@ -145,13 +146,21 @@ pub fn same(a: &[u8], b: &[u8]) -> bool
     if n != b.len() {
         return false;
     }
+    if n < BLOCK {
+        return same_from(a, b, 0);
+    }
+    let last = n - BLOCK;
     let mut i = 0;
-    while BLOCK <= n - i {
+    while i < last {
         let differ = differing(a, b, i);
         if differ != 0 {
             return false;
         }
         i += BLOCK;
     }
-    same_from(a, b, i)
+    let differ_last = differing(a, b, last);
+    if differ_last != 0 {
+        return false;
+    }
+    true
 }
