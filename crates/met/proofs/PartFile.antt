@@ -7,7 +7,7 @@ use lib.ListN.{getD}
 use native.Mathlib.Omega.{arith}
 use mir.Syntax.{w8}
 use mir.Val.{Fits}
-use Rattle.format.specs.Messages.{Kind, Message}
+use Rattle.format.specs.Messages.{Message, partMet}
 use Rattle.format.specs.Layout.{encode}
 use Rattle.format.specs.Rules.{Valid}
 use Rattle.format.specs.Decoding.{Fault, Reply, decodeMany, fault, got, message, refused, reply}
@@ -23,7 +23,7 @@ use Rattle.format.proofs.Items.{codec-tag}
 use Rattle.format.proofs.Many.{ends-items}
 use Rattle.format.proofs.There.{dword-ends}
 use Rattle.wire.proofs.Inside.{items-inside}
-use Rattle.wire.proofs.Replies.{exact}
+use Rattle.wire.proofs.Replies.{Exact}
 use Rattle.gaps.specs.declared.GapRecord.{GapRecord}
 use Rattle.gaps.specs.GapRecords.{recordOf}
 use Rattle.part_tags.specs.declared.CheckedTags.{CheckedTags}
@@ -36,11 +36,10 @@ use Rattle.met.specs.declared.PartRead.{PartRead}
 use Rattle.met.specs.MetAnswers.{GapsThere, TagsSized, partMetIn, PartMetSized, tagsOf, tagsPlace}
 use Rattle.met.specs.MetAnswers.{PartAnswerSized, sizeFound, gapsAnswer, partIn, PartReadSized}
 
--- the four clauses of a reader of whole inputs that also answers a size
-module _ (k : Kind) (s : List ℕ) (known : (i : ℕ) → Fits w8 (getD s i 0)) {r : Reply (Message k)} where
-  pub exact-sized : {Placed Sized : Type 0} → r ≡ reply (decode k s) → Placed → Sized →
-      (r ≡ reply (decode k s)) × (Placed × (Sized × ((m : Message k) → (r ≡ message m) ↔ ((s ≡ encode k m) × Valid k m))))
-  exact-sized e p z = (e, (p, (z, exact k s known e)))
+-- the four clauses of the reader, by the three of a reader that answers no size
+pub sized : {s : List ℕ} {r : Reply (Message partMet)} {Placed Sized : Type 0} → Exact partMet s r Placed → Sized →
+    (r ≡ reply (decode partMet s)) × (Placed × (Sized × ((m : Message partMet) → (r ≡ message m) ↔ ((s ≡ encode partMet m) × Valid partMet m))))
+sized clauses found = (clauses .0, (clauses .1 .0, (found, clauses .1 .1)))
 
 -- the answer without the gaps
 pub part-sized : (s starts : List ℕ) (r : PartRead) → PartReadSized s starts r → PartAnswerSized s (partIn r)

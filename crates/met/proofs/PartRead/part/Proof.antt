@@ -1,3 +1,4 @@
+-- Both cases, by the one that the answer is.
 use mathlib.Core.Path.{refl}
 use borrow.Author.Needs.{needs}
 use Rattle.met.proofs.PartRead.part.Statement.{statement}

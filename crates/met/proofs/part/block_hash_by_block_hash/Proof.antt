@@ -1,3 +1,4 @@
+-- Each turn reads one hash and keeps none: the laws of Loops.
 use Prim.Native.Nat.{_-_}
 use Rattle.format.specs.Decoding.{decodeRun}
 use Rattle.wire.proofs.Loops.{ReadUpTo, begins, goes-on, refuses, finishes}
@@ -30,8 +31,8 @@ returns : tie.Need-returns Inv-loop μ-loop
 returns c =
     let told = c .before .enum-told .given .1 in
     let read = rw told at (c .before .before .before .run .ensures .0) in
-    let l = c .before .before .before .before in
-    rw (c .fault .ensures, told) (refuses (decodeRun 8) _ _ _ _ _ (l .loop-test .taken) (l .before .loop .inv) read)
+    let turn = c .before .before .before .before in
+    rw (c .fault .ensures, told) (refuses (decodeRun 8) _ _ _ _ _ (turn .loop-test .taken) (turn .before .loop .inv) read)
 
 add-i : tie.Need-add-i Inv-loop μ-loop
 add-i c = search needs
@@ -42,8 +43,8 @@ loop-less c = search needs
 loop-again : tie.Need-loop-again Inv-loop μ-loop
 loop-again c =
     let read = rw (c .before .hash-step .given .1) at (c .before .before .before .run .ensures .0) in
-    let l = c .before .before .before .before in
-    goes-on (decodeRun 8) _ _ _ _ _ (l .loop-test .taken) (l .before .loop .inv) read
+    let turn = c .before .before .before .before in
+    goes-on (decodeRun 8) _ _ _ _ _ (turn .loop-test .taken) (turn .before .loop .inv) read
 
 returns-2 : tie.Need-returns-2 Inv-loop μ-loop
 returns-2 c = finishes (decodeRun 8) _ _ _ _ _ (c .loop-test .left) (c .before .loop .inv)

@@ -1,3 +1,4 @@
+-- All have 8 bytes, so that they are there at once (`even-list`), or are read one by one for the fault.
 use native.Mathlib.Omega.{arith}
 use denote.Ref.{now}
 use Rattle.format.specs.Decoding.{decodeRun}
@@ -29,8 +30,8 @@ add-end c = search needs
 
 returns-3 : tie.Need-returns-3
 returns-3 c =
-    let a = c .before .before .before .args in
-    even-list (decodeRun 8) 8 (run-item 8) (now (a .s)) (a .n) (a .first .at) (omega (arith, c .before .if1 .left, c .if2 .left))
+    let start = c .before .before .before .args in
+    even-list (decodeRun 8) 8 (run-item 8) (now (start .s)) (start .n) (start .first .at) (omega (arith, c .before .if1 .left, c .if2 .left))
 
 pub block-hashes-from-spec : {M : Type 1} → statement M
 block-hashes-from-spec =

@@ -1,12 +1,27 @@
-use mathlib.Core.Path.{refl}
-use Rattle.format.specs.MetOrder.{decodeHashBlocks}
+-- A mark and the hashes of the parts: each is named once it is read, and the returns after it rewrite by that.
+use mathlib.Core.Path.{_≡_, refl, sym}
 use denote.Ref.{now}
+use Rattle.format.specs.Rules.{partCount}
+use Rattle.format.specs.Decoding.{decodeMany, got}
+use Rattle.format.specs.Order.{decodeCode, decodeHash}
+use Rattle.format.specs.MetOrder.{decodeHashBlocks, marks}
 use Rattle.format.proofs.Items.{codec-hash}
 use Rattle.wire.proofs.Inside.{items-inside}
+use Rattle.wire.specs.WireAnswers.{itemsIn}
+use Rattle.met.specs.MetAnswers.{markOf}
 use Rattle.met.proofs.Inside.{mark-inside}
 use borrow.Author.Needs.{needs}
 use Rattle.met.proofs.part.read_blocks.Statement.{statement}
 use Rattle.met.proofs.part.read_blocks.Tie as tie
+
+mark-read : (c : tie.After-mark-step) → let start = c .before .before .before .before .args in
+    decodeCode marks (now (start .s)) (start .c .at) ≡ got (markOf (c .mark-step .given .0 .0)) (c .mark-step .given .0 .1 .0 .at)
+mark-read c = rw (← c .before .before .read-mark .ensures, c .mark-step .given .1) refl
+
+parts-read : (c : tie.After-parts-step) → let mark = c .before .before .before .before .before .before .before in
+    let start = mark .before .before .before .before .args in
+    decodeMany (partCount (start .size)) decodeHash (now (start .s)) (mark .mark-step .given .0 .1 .0 .at) ≡ got (itemsIn decodeHash (now (start .s)) (c .parts-step .given .0 .0)) (c .parts-step .given .0 .1 .0 .at)
+parts-read c = rw (← c .before .before .before .part-count .ensures, ← c .before .before .hashes-from .ensures .0, c .parts-step .given .1) refl
 
 read-mark-requires : tie.Need-read-mark-requires
 read-mark-requires c κs = search needs
@@ -32,9 +47,7 @@ enum-told-3 c = search needs
 
 returns-2 : tie.Need-returns-2
 unfolding decodeHashBlocks
-returns-2 c =
-    let m = c .before .before .before in
-    (rw (← m .before .before .read-mark .ensures, m .mark-step .given .1, c .enum-told3 .given .1) refl, tt)
+returns-2 c = (rw (mark-read, c .enum-told3 .given .1) refl, tt)
 
 part-count-requires : tie.Need-part-count-requires
 part-count-requires c κs = search needs
@@ -54,47 +67,24 @@ fault-requires-2 c κs = search needs
 returns-3 : tie.Need-returns-3
 unfolding decodeHashBlocks
 returns-3 c =
-    let more = c .before .before .before .before .before in
-    let m = more .before .before .before in (
-      rw (
-        c .fault2 .ensures,
-        ← m .before .before .read-mark .ensures,
-        m .mark-step .given .1,
-        more .enum-told2 .given .1,
-        ← c .before .before .before .before .part-count .ensures,
-        ← c .before .before .before .hashes-from .ensures .0,
-        c .before .enum-told4 .given .1,
-      )
-          refl,
-      tt,
-    )
+    let hashes = c .before .before .before in
+    let more = hashes .before .before in
+    (rw (c .fault2 .ensures, mark-read, more .enum-told2 .given .1, ← hashes .before .part-count .ensures, ← hashes .hashes-from .ensures .0, c .before .enum-told4 .given .1) refl, tt)
 
 read-second-block-requires : tie.Need-read-second-block-requires
 read-second-block-requires c κs =
-    let p = c .before .before .before in
-    let m = p .before .before .before .before .before in
-    let marked = mark-inside _ _ (rw (m .mark-step .given .1) at (m .before .before .read-mark .ensures)) in
-    let list = p .hashes-from in
+    let hashes = c .before .before .before in
+    let mark = hashes .before .before .before .before .before in
+    let marked = mark-inside _ _ (sym (mark-read mark)) in
+    let list = hashes .hashes-from in
     rw (c .before .parts-step .given .1) at
-    (items-inside codec-hash (now (m .before .before .before .before .args .s)) (m .before .before .before .shared-slice-known .given) (list .result) (p .before .part-count .result) _ marked (list .ensures .0) (list .ensures .1))
+    (items-inside codec-hash (now (mark .before .before .before .before .args .s)) (mark .before .before .before .shared-slice-known .given) (list .result) (hashes .before .part-count .result) _ marked (list .ensures .0) (list .ensures .1))
 
 returns-4 : tie.Need-returns-4
 unfolding decodeHashBlocks
 returns-4 c =
-    let parts = c .before .before in
-    let more = parts .before .before .before .before in
-    let m = more .before .before .before in (
-      rw (
-        ← m .before .before .read-mark .ensures,
-        m .mark-step .given .1,
-        more .enum-told2 .given .1,
-        ← parts .before .before .before .part-count .ensures,
-        ← parts .before .before .hashes-from .ensures .0,
-        parts .parts-step .given .1,
-      )
-          (c .read-second-block .ensures .0),
-      c .read-second-block .ensures .1,
-    )
+    let more = c .before .before .before .before .before .before in
+    (rw (mark-read, more .enum-told2 .given .1, parts-read) (c .read-second-block .ensures .0), c .read-second-block .ensures .1)
 
 pub read-blocks-spec : {M : Type 1} → statement M
 read-blocks-spec =

@@ -1,9 +1,18 @@
-use mathlib.Core.Path.{refl}
+-- The opening byte, which tells the edition: it is named once it is read, and the returns after it rewrite by that.
+use mathlib.Core.Path.{_≡_, refl}
+use denote.Ref.{now}
 use borrow.Author.Tests.{ne-eqb}
-use Rattle.format.specs.MetOrder.{decodeEdition}
+use Rattle.format.specs.Tables.{lookup}
+use Rattle.format.specs.Decoding.{Rule, found, settled}
+use Rattle.format.specs.MetOrder.{decodeEdition, editions}
 use borrow.Author.Needs.{needs}
 use Rattle.met.proofs.part.read_edition.Statement.{statement}
 use Rattle.met.proofs.part.read_edition.Tie as tie
+
+code-read : (c : tie.After-code-step) → let start = c .before .before .before .before .args in
+    decodeEdition (now (start .s)) (start .c .at) ≡ settled (start .c .at) 1 (found Rule.opening (lookup editions (c .code-step .given .0 .0))) (c .code-step .given .0 .1 .0 .at)
+unfolding decodeEdition
+code-read c = rw (← c .before .before .byte .ensures, c .code-step .given .1) refl
 
 byte-requires : tie.Need-byte-requires
 byte-requires c κs = search needs
@@ -22,18 +31,15 @@ unfolding decodeEdition
 returns c = rw (c .fault .ensures, ← c .before .before .before .byte .ensures, c .before .enum-told .given .1) refl
 
 returns-2 : tie.Need-returns-2
-unfolding decodeEdition
-returns-2 c = rw (← c .before .before .before .before .byte .ensures, c .before .before .code-step .given .1, c .match2 .keys1) refl
+returns-2 c = rw (code-read, c .match2 .keys1) refl
 
 returns-3 : tie.Need-returns-3
-unfolding decodeEdition
-returns-3 c = rw (← c .before .before .before .before .byte .ensures, c .before .before .code-step .given .1, c .match2 .keys2) refl
+returns-3 c = rw (code-read, c .match2 .keys2) refl
 
 returns-4 : tie.Need-returns-4
-unfolding decodeEdition
 returns-4 c =
     let others = c .match2 .rest in
-    rw (← c .before .before .before .before .byte .ensures, c .before .before .code-step .given .1, ne-eqb _ _ (others .0 .1), ne-eqb _ _ (others .1)) refl
+    rw (code-read, ne-eqb _ _ (others .0 .1), ne-eqb _ _ (others .1)) refl
 
 pub read-edition-spec : {M : Type 1} → statement M
 read-edition-spec =

@@ -1,3 +1,4 @@
+-- The gaps of a file that was read are those at the offsets that its reader left.
 use mathlib.Core.Path.{refl}
 use denote.Ref.{now}
 use Rattle.met.proofs.PartFile.{gaps-told}
@@ -19,8 +20,8 @@ enum-known-read-2 c = search needs
 
 record-of-requires : tie.Need-record-of-requires
 record-of-requires c κs =
-    let a = c .before .before in
-    let held = (rw (a .read2 .given .1) at (a .before .before .read-part .ensures .1 .1 .0)) .1 .1 in
+    let read = c .before .before in
+    let held = (rw (read .read2 .given .1) at (read .before .before .read-part .ensures .1 .1 .0)) .1 .1 in
     (held .few, held .inside)
 
 returns : tie.Need-returns
@@ -28,11 +29,10 @@ returns c = rw (c .none-missing .ensures, ← c .before .before .before .before 
 
 returns-2 : tie.Need-returns-2
 returns-2 c =
-    let a = c .before .before .before in
-    let f = a .read2 .given in
-    let read = a .before .before in
-    let h = rw (f .1) at (read .read-part .ensures .1 .1 .0) in
-    rw (← read .read-part .ensures .0, f .1) (gaps-told (now (read .before .before .before .args .s)) (f .0 .0) _ (f .0 .1 .0) h (c .record-of .ensures))
+    let file = c .before .before .before .read2 .given in
+    let read = c .before .before .before .before .before in
+    let found = rw (file .1) at (read .read-part .ensures .1 .1 .0) in
+    rw (← read .read-part .ensures .0, file .1) (gaps-told (now (read .before .before .before .args .s)) (file .0 .0) _ (file .0 .1 .0) found (c .record-of .ensures))
 
 pub read-gaps-spec : {M : Type 1} → statement M
 read-gaps-spec =

@@ -1,9 +1,19 @@
-use mathlib.Core.Path.{refl}
+-- A byte that is one of two marks: it is named once it is read, and the returns after it rewrite by that.
+use mathlib.Core.Path.{_≡_, refl}
+use denote.Ref.{now}
 use borrow.Author.Tests.{ne-eqb}
+use Rattle.format.specs.Tables.{lookup}
+use Rattle.format.specs.Decoding.{choice, found, settled}
+use Rattle.format.specs.MetOrder.{marks}
 use Rattle.format.specs.Order.{decodeCode}
 use borrow.Author.Needs.{needs}
 use Rattle.met.proofs.part.read_mark.Statement.{statement}
 use Rattle.met.proofs.part.read_mark.Tie as tie
+
+code-read : (c : tie.After-code-step) → let start = c .before .before .before .before .args in
+    decodeCode marks (now (start .s)) (start .c .at) ≡ settled (start .c .at) 1 (found choice (lookup marks (c .code-step .given .0 .0))) (c .code-step .given .0 .1 .0 .at)
+unfolding decodeCode
+code-read c = rw (← c .before .before .byte .ensures, c .code-step .given .1) refl
 
 byte-requires : tie.Need-byte-requires
 byte-requires c κs = search needs
@@ -22,18 +32,15 @@ unfolding decodeCode
 returns c = rw (c .fault .ensures, ← c .before .before .before .byte .ensures, c .before .enum-told .given .1) refl
 
 returns-2 : tie.Need-returns-2
-unfolding decodeCode
-returns-2 c = rw (← c .before .before .before .before .byte .ensures, c .before .before .code-step .given .1, c .match2 .keys1) refl
+returns-2 c = rw (code-read, c .match2 .keys1) refl
 
 returns-3 : tie.Need-returns-3
-unfolding decodeCode
-returns-3 c = rw (← c .before .before .before .before .byte .ensures, c .before .before .code-step .given .1, c .match2 .keys2) refl
+returns-3 c = rw (code-read, c .match2 .keys2) refl
 
 returns-4 : tie.Need-returns-4
-unfolding decodeCode
 returns-4 c =
     let others = c .match2 .rest in
-    rw (← c .before .before .before .before .byte .ensures, c .before .before .code-step .given .1, ne-eqb _ _ (others .0 .1), ne-eqb _ _ (others .1)) refl
+    rw (code-read, ne-eqb _ _ (others .0 .1), ne-eqb _ _ (others .1)) refl
 
 pub read-mark-spec : {M : Type 1} → statement M
 read-mark-spec =

@@ -1,9 +1,33 @@
-use mathlib.Core.Path.{refl}
-use Rattle.format.specs.MetOrder.{decodePartE1}
+-- A fixed byte, a date, a hash, checked tags and blocks: each is named once it is read, and the returns after it rewrite by that.
+use mathlib.Core.Path.{_≡_, refl, sym}
+use denote.Ref.{now}
+use Rattle.format.specs.MetOrder.{decodePartE1, decodePartTags}
+use Rattle.format.specs.Decoding.{got}
+use Rattle.format.specs.Order.{decodeDword, decodeFixed, decodeHash, decodeTag}
 use Rattle.wire.proofs.Inside.{hash-inside}
+use Rattle.wire.specs.WireAnswers.{hashAt, itemsIn}
 use borrow.Author.Needs.{needs}
 use Rattle.met.proofs.part.read_part_e1.Statement.{statement}
 use Rattle.met.proofs.part.read_part_e1.Tie as tie
+
+fixed-read : (c : tie.After-fixed-step) → let start = c .before .before .before .before .args in
+    decodeFixed 0x02 (now (start .s)) (start .c .at) ≡ got (tt) (c .fixed-step .given .0 .0 .at)
+fixed-read c = rw (← c .before .before .fixed .ensures, c .fixed-step .given .1) refl
+
+date-read : (c : tie.After-date-step) → let fixed = c .before .before .before .before in
+    decodeDword (now (fixed .before .before .before .before .args .s)) (fixed .fixed-step .given .0 .0 .at) ≡ got (c .date-step .given .0 .0) (c .date-step .given .0 .1 .0 .at)
+date-read c = rw (← c .before .before .dword .ensures, c .date-step .given .1) refl
+
+hash-read : (c : tie.After-hash-step) → let date = c .before .before .before .before in
+    let s = now (date .before .before .before .before .before .before .before .before .args .s) in
+    decodeHash s (date .date-step .given .0 .1 .0 .at) ≡ got (hashAt s (c .hash-step .given .0 .0)) (c .hash-step .given .0 .1 .0 .at)
+hash-read c = rw (← c .before .before .hash .ensures, c .hash-step .given .1) refl
+
+tags-read : (c : tie.After-tags-step) → let hash = c .before .before .before .before .before in
+    let s = now (hash .before .before .before .before .before .before .before .before .before .before .before .before .args .s) in
+    let found = c .tags-step .given .0 in
+    decodePartTags s (hash .hash-step .given .0 .1 .0 .at) ≡ got (found .1 .0 .size, itemsIn decodeTag s (found .0)) (found .1 .1 .0 .at)
+tags-read c = rw (← c .before .before .read-part-tags .ensures .0, c .tags-step .given .1) refl
 
 fixed-requires : tie.Need-fixed-requires
 fixed-requires c κs = search needs
@@ -35,18 +59,7 @@ fault-requires-2 c κs = search needs
 
 returns-2 : tie.Need-returns-2
 unfolding decodePartE1
-returns-2 c =
-    let fixed = c .before .before .before .before .before in (
-      rw (
-        c .fault2 .ensures,
-        ← fixed .before .before .fixed .ensures,
-        fixed .fixed-step .given .1,
-        ← c .before .before .before .dword .ensures,
-        c .before .enum-told2 .given .1,
-      )
-          refl,
-      (tt, tt),
-    )
+returns-2 c = (rw (c .fault2 .ensures, fixed-read, ← c .before .before .before .dword .ensures, c .before .enum-told2 .given .1) refl, (tt, tt))
 
 hash-requires : tie.Need-hash-requires
 hash-requires c κs = search needs
@@ -62,21 +75,7 @@ fault-requires-3 c κs = search needs
 
 returns-3 : tie.Need-returns-3
 unfolding decodePartE1
-returns-3 c =
-    let date = c .before .before .before .before .before in
-    let fixed = date .before .before .before .before in (
-      rw (
-        c .fault3 .ensures,
-        ← fixed .before .before .fixed .ensures,
-        fixed .fixed-step .given .1,
-        ← date .before .before .dword .ensures,
-        date .date-step .given .1,
-        ← c .before .before .before .hash .ensures,
-        c .before .enum-told3 .given .1,
-      )
-          refl,
-      (tt, tt),
-    )
+returns-3 c = (rw (c .fault3 .ensures, fixed-read, date-read, ← c .before .before .before .hash .ensures, c .before .enum-told3 .given .1) refl, (tt, tt))
 
 read-part-tags-requires : tie.Need-read-part-tags-requires
 read-part-tags-requires c κs = search needs
@@ -92,24 +91,7 @@ fault-requires-4 c κs = search needs
 
 returns-4 : tie.Need-returns-4
 unfolding decodePartE1
-returns-4 c =
-    let hash = c .before .before .before .before .before .before in
-    let date = hash .before .before .before .before in
-    let fixed = date .before .before .before .before in (
-      rw (
-        c .fault4 .ensures,
-        ← fixed .before .before .fixed .ensures,
-        fixed .fixed-step .given .1,
-        ← date .before .before .dword .ensures,
-        date .date-step .given .1,
-        ← hash .before .before .hash .ensures,
-        hash .hash-step .given .1,
-        ← c .before .before .before .read-part-tags .ensures .0,
-        c .before .enum-told4 .given .1,
-      )
-          refl,
-      (tt, tt),
-    )
+returns-4 c = (rw (c .fault4 .ensures, fixed-read, date-read, hash-read, ← c .before .before .before .read-part-tags .ensures .0, c .before .enum-told4 .given .1) refl, (tt, tt))
 
 read-blocks-requires : tie.Need-read-blocks-requires
 read-blocks-requires c κs = search needs
@@ -125,58 +107,19 @@ fault-requires-5 c κs = search needs
 
 returns-5 : tie.Need-returns-5
 unfolding decodePartE1
-returns-5 c =
-    let tags = c .before .before .before .before .before in
-    let hash = tags .before .before .before .before .before in
-    let date = hash .before .before .before .before in
-    let fixed = date .before .before .before .before in (
-      rw (
-        c .fault5 .ensures,
-        ← fixed .before .before .fixed .ensures,
-        fixed .fixed-step .given .1,
-        ← date .before .before .dword .ensures,
-        date .date-step .given .1,
-        ← hash .before .before .hash .ensures,
-        hash .hash-step .given .1,
-        ← tags .before .before .read-part-tags .ensures .0,
-        tags .tags-step .given .1,
-        ← c .before .before .before .read-blocks .ensures .0,
-        c .before .enum-told5 .given .1,
-      )
-          refl,
-      (tt, tt),
-    )
+returns-5 c = (rw (c .fault5 .ensures, fixed-read, date-read, hash-read, tags-read, ← c .before .before .before .read-blocks .ensures .0, c .before .enum-told5 .given .1) refl, (tt, tt))
 
 returns-6 : tie.Need-returns-6
 unfolding decodePartE1
 returns-6 c =
     let tags = c .before .before .before .before .before in
-    let hash = tags .before .before .before .before .before in
-    let date = hash .before .before .before .before in
-    let fixed = date .before .before .before .before in (
-      rw (
-        ← fixed .before .before .fixed .ensures,
-        fixed .fixed-step .given .1,
-        ← date .before .before .dword .ensures,
-        date .date-step .given .1,
-        ← hash .before .before .hash .ensures,
-        hash .hash-step .given .1,
-        ← tags .before .before .read-part-tags .ensures .0,
-        tags .tags-step .given .1,
-        ← c .before .before .before .read-blocks .ensures .0,
-        c .before .blocks-step .given .1,
-      )
-          refl,
-      (
-        (
-          hash-inside _ _ _ (rw (hash .hash-step .given .1) at (hash .before .before .hash .ensures)),
-          (
-            rw (tags .tags-step .given .1) at (tags .before .before .read-part-tags .ensures .1 .0),
-            rw (c .before .blocks-step .given .1) at (c .before .before .before .read-blocks .ensures .1),
-          ),
-        ),
-        rw (tags .tags-step .given .1) at (tags .before .before .read-part-tags .ensures .1 .1),
-      ),
+    let tags-told = tags .tags-step .given .1 in
+    let tags-found = tags .before .before .read-part-tags .ensures .1 in
+    let blocks-told = c .before .blocks-step .given .1 in
+    let blocks-found = c .before .before .before .read-blocks .ensures in
+    let hash-there = hash-inside _ _ _ (sym (hash-read (tags .before .before .before .before .before))) in (
+      rw (fixed-read, date-read, hash-read, tags-read, ← blocks-found .0, blocks-told) refl,
+      ((hash-there, (rw tags-told at (tags-found .0), rw blocks-told at (blocks-found .1))), rw tags-told at (tags-found .1)),
     )
 
 pub read-part-e1-spec : {M : Type 1} → statement M

@@ -1,3 +1,4 @@
+-- The answer of the reader with the gaps, without them.
 use mathlib.Core.Path.{refl}
 use denote.Ref.{now}
 use Rattle.met.proofs.PartFile.{part-sized}
@@ -13,9 +14,9 @@ part-requires c κs = search needs
 
 returns : tie.Need-returns
 returns c =
-    let r = c .before in
-    let h = r .read-part .ensures in
-    rw (c .part .ensures) (h .0, (h .1 .0, (part-sized (now (r .before .before .before .args .s)) _ (r .read-part .result) (h .1 .1 .0), h .1 .1 .1)))
+    let read = c .before in
+    let found = read .read-part .ensures in
+    rw (c .part .ensures) (found .0, (found .1 .0, (part-sized (now (read .before .before .before .args .s)) _ (read .read-part .result) (found .1 .1 .0), found .1 .1 .1)))
 
 pub read-part-met-spec : {M : Type 1} → statement M
 read-part-met-spec = tie.close (tie.spec read-part-requires part-requires returns)

@@ -1,11 +1,17 @@
-use mathlib.Core.Path.{refl}
+-- A count and the tags after it, which are checked: the count is named once it is read, and each answer after it is a law of PartFile.
+use mathlib.Core.Path.{_≡_, refl}
+use Rattle.format.specs.Decoding.{got}
 use denote.Ref.{now}
 use Rattle.format.specs.MetOrder.{decodePartTags}
-use Rattle.format.specs.Order.{decodeCounted, decodeTags}
+use Rattle.format.specs.Order.{decodeCounted, decodeDword, decodeTags}
 use Rattle.met.proofs.PartFile.{tags-pass, tags-refused, tags-violate}
 use borrow.Author.Needs.{needs}
 use Rattle.met.proofs.part.read_part_tags.Statement.{statement}
 use Rattle.met.proofs.part.read_part_tags.Tie as tie
+
+count-read : (c : tie.After-count-step) → let start = c .before .before .before .before .args in
+    got (c .count-step .given .0 .0) (c .count-step .given .0 .1 .0 .at) ≡ decodeDword (now (start .s)) (start .c .at)
+count-read c = rw (c .count-step .given .1) at (c .before .before .dword .ensures)
 
 dword-requires : tie.Need-dword-requires
 dword-requires c κs = search needs
@@ -37,12 +43,9 @@ fault-requires-2 c κs = search needs
 
 returns-2 : tie.Need-returns-2
 returns-2 c =
-    let t = c .before .before .before in
-    let d = t .before .before .before in
-    let b = d .before .before .before .before in
-    let counted = rw (d .count-step .given .1) at (d .before .before .dword .ensures) in
+    let tags = c .before .before .before in
     let told = c .before .enum-told2 .given .1 in
-    (rw (c .fault2 .ensures, told) (tags-refused (now (b .args .s)) (b .args .c .at) _ _ counted (rw told at (t .part-tags-from .ensures))), (tt, tt))
+    (rw (c .fault2 .ensures, told) (tags-refused _ _ _ _ (count-read (tags .before .before .before)) (rw told at (tags .part-tags-from .ensures))), (tt, tt))
 
 enum-known-verdict : tie.Need-enum-known-verdict
 enum-known-verdict c = search needs
@@ -55,23 +58,16 @@ length-between-requires c κs = search needs
 
 returns-3 : tie.Need-returns-3
 returns-3 c =
-    let t = c .before .before .before .before .before in
-    let d = t .before .before .before .before .before in
-    let b = d .before .before .before .before in
-    let counted = rw (d .count-step .given .1) at (d .before .before .dword .ensures) in
-    let h = rw (t .tags-step .given .1) at (t .before .before .part-tags-from .ensures) in
-    let v = c .before .verdict .given in
-    tags-pass (now (b .args .s)) (b .args .c .at) _ _ counted _ (t .tags-step .given .0 .0) h (d .before .before .before .shared-slice-known .given) (v .0 .0) (v .1)
+    let tags = c .before .before .before .before .before in
+    let count = tags .before .before .before .before .before in
+    let found = rw (tags .tags-step .given .1) at (tags .before .before .part-tags-from .ensures) in
+    tags-pass _ _ _ _ (count-read count) _ _ found (count .before .before .before .shared-slice-known .given) _ (c .before .verdict .given .1)
 
 returns-4 : tie.Need-returns-4
 returns-4 c =
-    let t = c .before .before .before .before .before .before in
-    let d = t .before .before .before .before .before in
-    let b = d .before .before .before .before in
-    let counted = rw (d .count-step .given .1) at (d .before .before .dword .ensures) in
-    let h = rw (t .tags-step .given .1) at (t .before .before .part-tags-from .ensures) in
-    let v = c .before .before .verdict2 .given in
-    (tags-violate (now (b .args .s)) (b .args .c .at) _ _ counted _ (t .tags-step .given .0 .0) h (v .0 .0) _ (v .1) (c .length-between .ensures), (tt, tt))
+    let tags = c .before .before .before .before .before .before in
+    let found = rw (tags .tags-step .given .1) at (tags .before .before .part-tags-from .ensures) in
+    (tags-violate _ _ _ _ (count-read (tags .before .before .before .before .before)) _ _ found _ _ (c .before .before .verdict2 .given .1) (c .length-between .ensures), (tt, tt))
 
 pub read-part-tags-spec : {M : Type 1} → statement M
 read-part-tags-spec =

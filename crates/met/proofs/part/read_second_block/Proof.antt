@@ -1,11 +1,27 @@
-use mathlib.Core.Path.{refl}
+-- A mark, the hashes of the blocks and the closing mark: each is named once it is read, and the returns after it rewrite by that.
+use mathlib.Core.Path.{_≡_, refl, sym}
 use denote.Ref.{now}
+use Rattle.format.specs.Rules.{blockCount}
+use Rattle.format.specs.Decoding.{decodeMany, decodeRun, got}
+use Rattle.format.specs.Order.{decodeCode}
+use Rattle.format.specs.MetOrder.{marks}
 use Rattle.format.proofs.Codec.{anywhere, codec-run}
 use Rattle.wire.proofs.Inside.{items-inside}
+use Rattle.wire.specs.WireAnswers.{itemsIn}
+use Rattle.met.specs.MetAnswers.{markOf}
 use Rattle.met.proofs.Inside.{mark-inside}
 use borrow.Author.Needs.{needs}
 use Rattle.met.proofs.part.read_second_block.Statement.{statement}
 use Rattle.met.proofs.part.read_second_block.Tie as tie
+
+mark-read : (c : tie.After-mark-step) → let start = c .before .before .before .before .args in
+    decodeCode marks (now (start .s)) (start .c .at) ≡ got (markOf (c .mark-step .given .0 .0)) (c .mark-step .given .0 .1 .0 .at)
+mark-read c = rw (← c .before .before .read-mark .ensures, c .mark-step .given .1) refl
+
+blocks-read : (c : tie.After-blocks-step) → let mark = c .before .before .before .before .before .before .before in
+    let start = mark .before .before .before .before .args in
+    decodeMany (blockCount (start .size)) (decodeRun 8) (now (start .s)) (mark .mark-step .given .0 .1 .0 .at) ≡ got (itemsIn (decodeRun 8) (now (start .s)) (c .blocks-step .given .0 .0)) (c .blocks-step .given .0 .1 .0 .at)
+blocks-read c = rw (← c .before .before .before .block-count .ensures, ← c .before .before .block-hashes-from .ensures .0, c .blocks-step .given .1) refl
 
 read-mark-requires : tie.Need-read-mark-requires
 read-mark-requires c κs = search needs
@@ -29,9 +45,7 @@ enum-told-3 : tie.Need-enum-told-3
 enum-told-3 c = search needs
 
 returns-2 : tie.Need-returns-2
-returns-2 c =
-    let m = c .before .before .before in
-    (rw (← m .before .before .read-mark .ensures, m .mark-step .given .1, c .enum-told3 .given .1) refl, m .before .before .before .before .pre)
+returns-2 c = (rw (mark-read, c .enum-told3 .given .1) refl, c .before .before .before .before .before .before .before .pre)
 
 block-count-requires : tie.Need-block-count-requires
 block-count-requires c κs = search needs
@@ -50,20 +64,9 @@ fault-requires-2 c κs = search needs
 
 returns-3 : tie.Need-returns-3
 returns-3 c =
-    let more = c .before .before .before .before .before in
-    let m = more .before .before .before in (
-      rw (
-        c .fault2 .ensures,
-        ← m .before .before .read-mark .ensures,
-        m .mark-step .given .1,
-        more .enum-told2 .given .1,
-        ← c .before .before .before .before .block-count .ensures,
-        ← c .before .before .before .block-hashes-from .ensures .0,
-        c .before .enum-told4 .given .1,
-      )
-          refl,
-      tt,
-    )
+    let hashes = c .before .before .before in
+    let more = hashes .before .before in
+    (rw (c .fault2 .ensures, mark-read, more .enum-told2 .given .1, ← hashes .before .block-count .ensures, ← hashes .block-hashes-from .ensures .0, c .before .enum-told4 .given .1) refl, tt)
 
 fixed-requires : tie.Need-fixed-requires
 fixed-requires c κs = search needs
@@ -79,45 +82,20 @@ fault-requires-3 c κs = search needs
 
 returns-4 : tie.Need-returns-4
 returns-4 c =
-    let blocks = c .before .before .before .before .before in
-    let more = blocks .before .before .before .before in
-    let m = more .before .before .before in (
-      rw (
-        c .fault3 .ensures,
-        ← m .before .before .read-mark .ensures,
-        m .mark-step .given .1,
-        more .enum-told2 .given .1,
-        ← blocks .before .before .before .block-count .ensures,
-        ← blocks .before .before .block-hashes-from .ensures .0,
-        blocks .blocks-step .given .1,
-        ← c .before .before .before .fixed .ensures,
-        c .before .enum-told5 .given .1,
-      )
-          refl,
-      tt,
-    )
+    let more = c .before .before .before .before .before .before .before .before .before in
+    (rw (c .fault3 .ensures, mark-read, more .enum-told2 .given .1, blocks-read, ← c .before .before .before .fixed .ensures, c .before .enum-told5 .given .1) refl, tt)
 
 returns-5 : tie.Need-returns-5
 returns-5 c =
     let blocks = c .before .before .before .before .before in
     let more = blocks .before .before .before .before in
-    let m = more .before .before .before in
-    let marked = mark-inside _ _ (rw (m .mark-step .given .1) at (m .before .before .read-mark .ensures)) in
+    let mark = more .before .before .before in
+    let begun = mark .before .before .before in
+    let marked = mark-inside _ _ (sym (mark-read mark)) in
     let list = blocks .before .before .block-hashes-from in
-    let a = m .before .before .before in
-    let inside = items-inside (codec-run {p = anywhere} 8) (now (a .before .args .s)) (a .shared-slice-known .given) (list .result) (blocks .before .before .before .block-count .result) _ marked (list .ensures .0) (list .ensures .1) in (
-      rw (
-        ← m .before .before .read-mark .ensures,
-        m .mark-step .given .1,
-        more .enum-told2 .given .1,
-        ← blocks .before .before .before .block-count .ensures,
-        ← blocks .before .before .block-hashes-from .ensures .0,
-        blocks .blocks-step .given .1,
-        ← c .before .before .before .fixed .ensures,
-        c .before .closing-step .given .1,
-      )
-          refl,
-      (m .before .before .before .before .pre, rw (blocks .blocks-step .given .1) at inside),
+    let inside = items-inside (codec-run {p = anywhere} 8) (now (begun .before .args .s)) (begun .shared-slice-known .given) (list .result) (blocks .before .before .before .block-count .result) _ marked (list .ensures .0) (list .ensures .1) in (
+      rw (mark-read, more .enum-told2 .given .1, blocks-read, ← c .before .before .before .fixed .ensures, c .before .closing-step .given .1) refl,
+      (begun .before .pre, rw (blocks .blocks-step .given .1) at inside),
     )
 
 pub read-second-block-spec : {M : Type 1} → statement M
