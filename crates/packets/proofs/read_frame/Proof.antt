@@ -1,3 +1,4 @@
+-- By the link: the length on TCP, nothing on UDP.
 use mathlib.Core.Path.{refl}
 use borrow.Author.Needs.{needs}
 use Rattle.packets.proofs.read_frame.Statement.{statement}

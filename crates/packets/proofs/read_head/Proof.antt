@@ -1,9 +1,18 @@
+-- The opening byte is named once it is read, and each answer is a law of Heads.
+use mathlib.Core.Path.{_≡_}
+use mathlib.Core.List.{[], _∷_}
 use denote.Ref.{now}
 use borrow.Author.Needs.{needs}
+use Rattle.format.specs.Decoding.{got}
+use Rattle.format.specs.PacketOrder.{decodeOpening}
 use Rattle.packets.proofs.Heads.{no-opening, no-frame, after-frame}
 use Rattle.packets.proofs.Openings.{opened}
 use Rattle.packets.proofs.read_head.Statement.{statement}
 use Rattle.packets.proofs.read_head.Tie as tie
+
+opening-read : (c : tie.After-opening-step) → let start = c .before .before .before .before .args in
+    got 0xE3 (c .opening-step .given .0 .1 .0 .at) ≡ decodeOpening (0xE3 ∷ []) (now (start .s)) 0
+opening-read c = opened 0xE3 (now (c .before .before .before .before .args .s)) 0 (c .opening-step .given .1) (c .before .before .read-opening .ensures)
 
 read-opening-requires : tie.Need-read-opening-requires
 read-opening-requires c κs = search needs
@@ -19,10 +28,9 @@ fault-requires c κs = search needs
 
 returns : tie.Need-returns
 returns c =
-    let opening = c .before .before .before in
-    let given = opening .before .before .args in
-    rw (c .fault .ensures, c .before .enum-told .given .1)
-    (no-opening (now (given .s)) (given .link) (rw (c .before .enum-told .given .1) at (opening .read-opening .ensures)))
+    let read = c .before .before .before in
+    let told = c .before .enum-told .given .1 in
+    rw (c .fault .ensures, told) (no-opening _ (read .before .before .args .link) (rw told at (read .read-opening .ensures)))
 
 read-frame-requires : tie.Need-read-frame-requires
 read-frame-requires c κs = search needs
@@ -39,11 +47,9 @@ fault-requires-2 c κs = search needs
 returns-2 : tie.Need-returns-2
 returns-2 c =
     let frame = c .before .before .before in
-    let opening = frame .before .before .before .before in
-    let given = opening .before .before .args in
-    let begun = opened 0xE3 (now (given .s)) 0 (frame .before .before .opening-step .given .1) (opening .read-opening .ensures) in
-    rw (c .fault2 .ensures, c .before .enum-told2 .given .1)
-    (no-frame (now (given .s)) begun (given .link) (rw (c .before .enum-told2 .given .1) at (frame .read-frame .ensures)))
+    let opening = frame .before .before in
+    let told = c .before .enum-told2 .given .1 in
+    rw (c .fault2 .ensures, told) (no-frame _ (opening-read opening) (opening .before .before .before .before .args .link) (rw told at (frame .read-frame .ensures)))
 
 read-opcode-requires : tie.Need-read-opcode-requires
 read-opcode-requires c κs = search needs
@@ -51,12 +57,9 @@ read-opcode-requires c κs = search needs
 returns-3 : tie.Need-returns-3
 returns-3 c =
     let frame = c .before .before .before .before in
-    let opening = frame .before .before .before .before in
-    let given = opening .before .before .args in
-    let begun = opened 0xE3 (now (given .s)) 0 (frame .before .before .opening-step .given .1) (opening .read-opening .ensures) in
-    after-frame (now (given .s)) begun (given .link) (c .read-opcode .result)
-    (rw (c .before .before .frame-step .given .1) at (frame .read-frame .ensures))
-    (c .read-opcode .ensures)
+    let opening = frame .before .before in
+    let framed = rw (c .before .before .frame-step .given .1) at (frame .read-frame .ensures) in
+    after-frame _ (opening-read opening) (opening .before .before .before .before .args .link) (c .read-opcode .result) framed (c .read-opcode .ensures)
 
 pub read-head-spec : {M : Type 1} → statement M
 read-head-spec =

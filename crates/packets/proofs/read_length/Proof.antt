@@ -1,10 +1,17 @@
-use mathlib.Core.Path.{refl}
+-- The length is named once it is read: a return rewrites by that and by the tests of it.
+use mathlib.Core.Path.{_≡_, refl}
+use denote.Ref.{now}
 use borrow.Author.Tests.{eq-eqb, ne-eqb}
 use borrow.Author.Needs.{needs}
-use Rattle.format.specs.Decoding.{ends}
+use Rattle.format.specs.Decoding.{ends, got}
+use Rattle.format.specs.Order.{decodeDword}
 use Rattle.format.specs.PacketOrder.{decodeLength}
 use Rattle.packets.proofs.read_length.Statement.{statement}
 use Rattle.packets.proofs.read_length.Tie as tie
+
+length-read : (c : tie.After-length-step) → let start = c .before .before .before .before .args in
+    decodeDword (now (start .s)) (start .c .at) ≡ got (c .length-step .given .0 .0) (c .length-step .given .0 .1 .0 .at)
+length-read c = rw (← c .before .before .dword .ensures, c .length-step .given .1) refl
 
 dword-requires : tie.Need-dword-requires
 dword-requires c κs = search needs
@@ -24,7 +31,7 @@ returns c = rw (c .fault .ensures, ← c .before .before .before .dword .ensures
 
 returns-2 : tie.Need-returns-2
 unfolding decodeLength ends
-returns-2 c = rw (← c .before .before .before .before .dword .ensures, c .before .before .length-step .given .1, eq-eqb _ _ (c .if1 .taken)) refl
+returns-2 c = rw (length-read, eq-eqb _ _ (c .if1 .taken)) refl
 
 cast-framed : tie.Need-cast-framed
 cast-framed c = search needs
@@ -35,28 +42,14 @@ remaining-requires c κs = search needs
 returns-3 : tie.Need-returns-3
 unfolding decodeLength ends
 returns-3 c =
-    let b = c .before .before .before .before in
-    rw (
-      ← b .before .before .dword .ensures,
-      b .length-step .given .1,
-      ne-eqb _ _ (c .before .before .if1 .left),
-      ← c .before .remaining .ensures,
-      eq-eqb _ (c .before .remaining .result) (c .if2 .taken),
-    )
-    refl
+    let left = c .before in
+    rw (length-read, ne-eqb _ _ (left .before .if1 .left), ← left .remaining .ensures, eq-eqb _ (left .remaining .result) (c .if2 .taken)) refl
 
 returns-4 : tie.Need-returns-4
 unfolding decodeLength ends
 returns-4 c =
-    let b = c .before .before .before .before in
-    rw (
-      ← b .before .before .dword .ensures,
-      b .length-step .given .1,
-      ne-eqb _ _ (c .before .before .if1 .left),
-      ← c .before .remaining .ensures,
-      ne-eqb _ (c .before .remaining .result) (c .if2 .left),
-    )
-    refl
+    let left = c .before in
+    rw (length-read, ne-eqb _ _ (left .before .if1 .left), ← left .remaining .ensures, ne-eqb _ (left .remaining .result) (c .if2 .left)) refl
 
 pub read-length-spec : {M : Type 1} → statement M
 read-length-spec =
