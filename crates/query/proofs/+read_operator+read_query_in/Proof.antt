@@ -7,11 +7,11 @@ use denote.Ref.{now}
 use borrow.Author.Needs.{needs}
 use borrow.Fn.Kinds.{In}
 use borrow.Fn.PlainCycle.{Measures}
-use Rattle.query.proofs.Measures.{at-measure, below-measure, of-operator, of-query}
 use Rattle.format.specs.Decoding.{got}
 use Rattle.format.specs.Order.{decodeCode, decodeQueryIn, operators}
 use Rattle.query.specs.Nodes.{depths}
 use Rattle.query.specs.QueryAnswers.{operatorOf}
+use Rattle.query.proofs.Measures.{at-measure, below-measure, of-operator, of-query}
 use Rattle.query.proofs.Nodes.{query-case}
 use Rattle.query.proofs.Depths.{depth-leaf, depth-join, within-depths}
 use Rattle.query.proofs.read_operator.Reads as operator

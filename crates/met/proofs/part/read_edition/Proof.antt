@@ -1,4 +1,4 @@
--- The opening byte, which tells the edition: it is named once it is read, and the returns after it rewrite by that.
+-- The opening byte, which tells the edition: once it is read, a return rewrites by its check alone.
 use mathlib.Core.Path.{_≡_, refl}
 use denote.Ref.{now}
 use borrow.Author.Tests.{ne-eqb}
@@ -9,10 +9,11 @@ use borrow.Author.Needs.{needs}
 use Rattle.met.proofs.part.read_edition.Statement.{statement}
 use Rattle.met.proofs.part.read_edition.Tie as tie
 
-code-read : (c : tie.After-code-step) → let start = c .before .before .before .before .args in
+-- The byte is read: what is left is its check.
+code-checked : (c : tie.After-code-step) → let start = c .before .before .before .before .args in
     decodeEdition (now (start .s)) (start .c .at) ≡ settled (start .c .at) 1 (found Rule.opening (lookup editions (c .code-step .given .0 .0))) (c .code-step .given .0 .1 .0 .at)
 unfolding decodeEdition
-code-read c = rw (← c .before .before .byte .ensures, c .code-step .given .1) refl
+code-checked c = rw (← c .before .before .byte .ensures, c .code-step .given .1) refl
 
 byte-requires : tie.Need-byte-requires
 byte-requires c κs = search needs
@@ -31,15 +32,13 @@ unfolding decodeEdition
 returns c = rw (c .fault .ensures, ← c .before .before .before .byte .ensures, c .before .enum-told .given .1) refl
 
 returns-2 : tie.Need-returns-2
-returns-2 c = rw (code-read, c .match2 .keys1) refl
+returns-2 c = rw (code-checked, c .match2 .keys1) refl
 
 returns-3 : tie.Need-returns-3
-returns-3 c = rw (code-read, c .match2 .keys2) refl
+returns-3 c = rw (code-checked, c .match2 .keys2) refl
 
 returns-4 : tie.Need-returns-4
-returns-4 c =
-    let others = c .match2 .rest in
-    rw (code-read, ne-eqb _ _ (others .0 .1), ne-eqb _ _ (others .1)) refl
+returns-4 c = rw (code-checked, ne-eqb _ _ (c .match2 .rest .0 .1), ne-eqb _ _ (c .match2 .rest .1)) refl
 
 pub read-edition-spec : {M : Type 1} → statement M
 read-edition-spec =

@@ -11,7 +11,7 @@ use Rattle.met.proofs.part.read_part_e1.Statement.{statement}
 use Rattle.met.proofs.part.read_part_e1.Tie as tie
 
 fixed-read : (c : tie.After-fixed-step) → let start = c .before .before .before .before .args in
-    decodeFixed 0x02 (now (start .s)) (start .c .at) ≡ got (tt) (c .fixed-step .given .0 .0 .at)
+    decodeFixed 0x02 (now (start .s)) (start .c .at) ≡ got tt (c .fixed-step .given .0 .0 .at)
 fixed-read c = rw (← c .before .before .fixed .ensures, c .fixed-step .given .1) refl
 
 date-read : (c : tie.After-date-step) → let fixed = c .before .before .before .before in

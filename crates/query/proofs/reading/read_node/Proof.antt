@@ -1,4 +1,4 @@
--- The code of a case and what stands after it: the code is named once it is read, and the returns after it rewrite by that.
+-- The code of a case and what stands after it: once the code is read, a return rewrites by its check and by the equation of the case.
 use mathlib.Core.Path.{_≡_, refl}
 use denote.Ref.{now}
 use borrow.Author.Tests.{ne-eqb}
@@ -10,10 +10,11 @@ use borrow.Author.Needs.{needs}
 use Rattle.query.proofs.reading.read_node.Statement.{statement}
 use Rattle.query.proofs.reading.read_node.Tie as tie
 
-code-read : (c : tie.After-code-step) → let start = c .before .before .before .before .args in
+-- The byte is read: what is left is its check.
+code-checked : (c : tie.After-code-step) → let start = c .before .before .before .before .args in
     decodeCode queryCases (now (start .s)) (start .c .at) ≡ settled (start .c .at) 1 (found choice (lookup queryCases (c .code-step .given .0 .0))) (c .code-step .given .0 .1 .0 .at)
 unfolding decodeCode
-code-read c = rw (← c .before .before .byte .ensures, c .code-step .given .1) refl
+code-checked c = rw (← c .before .before .byte .ensures, c .code-step .given .1) refl
 
 byte-requires : tie.Need-byte-requires
 byte-requires c κs = search needs
@@ -45,25 +46,25 @@ read-limit-requires c κs = search needs
 
 returns-2 : tie.Need-returns-2
 unfolding decodeNode
-returns-2 c = rw (code-read, c .before .match2 .keys1) (c .read-join .ensures)
+returns-2 c = rw (code-checked, c .before .match2 .keys1) (c .read-join .ensures)
 
 returns-3 : tie.Need-returns-3
 unfolding decodeNode
-returns-3 c = rw (code-read, c .before .match2 .keys2) (c .read-keyword .ensures)
+returns-3 c = rw (code-checked, c .before .match2 .keys2) (c .read-keyword .ensures)
 
 returns-4 : tie.Need-returns-4
 unfolding decodeNode
-returns-4 c = rw (code-read, c .before .match2 .keys3) (c .read-field .ensures)
+returns-4 c = rw (code-checked, c .before .match2 .keys3) (c .read-field .ensures)
 
 returns-5 : tie.Need-returns-5
 unfolding decodeNode
-returns-5 c = rw (code-read, c .before .match2 .keys4) (c .read-limit .ensures)
+returns-5 c = rw (code-checked, c .before .match2 .keys4) (c .read-limit .ensures)
 
 returns-6 : tie.Need-returns-6
 unfolding decodeNode
 returns-6 c =
     let others = c .match2 .rest in
-    rw (code-read, ne-eqb _ _ (others .0 .0 .0 .1), ne-eqb _ _ (others .0 .0 .1), ne-eqb _ _ (others .0 .1), ne-eqb _ _ (others .1)) (refl, tt)
+    rw (code-checked, ne-eqb _ _ (others .0 .0 .0 .1), ne-eqb _ _ (others .0 .0 .1), ne-eqb _ _ (others .0 .1), ne-eqb _ _ (others .1)) (refl, tt)
 
 pub read-node-spec : {M : Type 1} → statement M
 read-node-spec =
