@@ -21,15 +21,19 @@ use Rattle.tags.proofs.WholeTags.{name-lies, on-tag}
 use Rattle.truth.specs.TruthAnswers.{isOf, onItem}
 use Rattle.truth.proofs.Texts.{same-prefix}
 
+pick-self : (t : Bool) → t ≡ pick t true false
+pick-self true = refl
+pick-self false = refl
+
+pick-no : (t : Bool) → false ≡ pick t false false
+pick-no true = refl
+pick-no false = refl
+
 -- Two names of one byte.
 one-byte : (s : List ℕ) (at : ℕ) (name : List ℕ) → at < length s → length name ≡ 1 → eqb (getD s at 0) (getD name 0 0) ≡ same (bytesAt s at 1) name
 unfolding same
 one-byte s at [] h e = absurd (omega arith)
-one-byte s at (b ∷ []) h e = rw (part-cons s at 0 h) (go (eqb (getD s at 0) b))
-  where
-    go : (t : Bool) → t ≡ pick t true false
-    go true = refl
-    go false = refl
+one-byte s at (b ∷ []) h e = rw (part-cons s at 0 h) (pick-self (eqb (getD s at 0) b))
 one-byte s at (b ∷ c ∷ l) h e = absurd (omega arith)
 
 -- The type and the name of a tag, as the tests find them.
@@ -41,17 +45,31 @@ module _ (s : List ℕ) (at n : ℕ) (word : n ≡ getD s (at + 1) 0 + 256 * get
   unfolding isOf
   other-type other = on-tag s at n word lies (λ o. false ≡ onItem (isOf code name) o) (λ t next w. rw (w .is, w .code, ne-eqb _ _ other) refl)
 
+  other-name : same (bytesAt s (at + 3) n) name ≡ false → false ≡ onItem (isOf code name) (decodeTag s at)
+  unfolding isOf
+  other-name e = on-tag s at n word lies (λ o. false ≡ onItem (isOf code name) o) (λ t next w. rw (w .is, w .code, w .name-is, e) (pick-no (eqb (getD s at 0) code)))
+
   by-name : getD s at 0 ≡ code → same (bytesAt s (at + 3) n) name ≡ onItem (isOf code name) (decodeTag s at)
   unfolding isOf
   by-name this = on-tag s at n word lies (λ o. same (bytesAt s (at + 3) n) name ≡ onItem (isOf code name) o) (λ t next w. rw (w .is, w .code, eq-eqb _ _ this, w .name-is) refl)
 
-  pub by-byte : getD s at 0 ≡ code → n ≡ 1 → length name ≡ 1 → eqb (getD s (at + 3) 0) (getD name 0 0) ≡ onItem (isOf code name) (decodeTag s at)
-  by-byte this one is =
-      let h = name-lies s at n word lies in
-      one-byte s (at + 3) name (omega arith) is ∙ ap (λ n. same (bytesAt s (at + 3) n) name) (sym one) ∙ by-name this
+  -- a name of another length, or another byte as the name
+  pub other-length : (n ≡ length name → ⊥) → false ≡ onItem (isOf code name) (decodeTag s at)
+  other-length other = other-name (same-lengths _ _ (λ z. other (sym part-length ∙ z)))
 
-  pub other-length : getD s at 0 ≡ code → (n ≡ length name → ⊥) → false ≡ onItem (isOf code name) (decodeTag s at)
-  other-length this other = sym (same-lengths _ _ (λ z. other (sym part-length ∙ z))) ∙ by-name this
+  named : n ≡ 1 → length name ≡ 1 → eqb (getD s (at + 3) 0) (getD name 0 0) ≡ same (bytesAt s (at + 3) n) name
+  named one is =
+      let h = name-lies s at n word lies in
+      one-byte s (at + 3) name (omega arith) is ∙ ap (λ n. same (bytesAt s (at + 3) n) name) (sym one)
+
+  pub other-byte : n ≡ 1 → length name ≡ 1 → (getD s (at + 3) 0 ≡ getD name 0 0 → ⊥) → false ≡ onItem (isOf code name) (decodeTag s at)
+  other-byte one is other = other-name (sym (named one is) ∙ ne-eqb _ _ other)
+
+  pub by-type : n ≡ 1 → length name ≡ 1 → getD s (at + 3) 0 ≡ getD name 0 0 → eqb (getD s at 0) code ≡ onItem (isOf code name) (decodeTag s at)
+  unfolding isOf
+  by-type one is this =
+      let e = sym (named one is) ∙ eq-eqb _ _ this in
+      on-tag s at n word lies (λ o. eqb (getD s at 0) code ≡ onItem (isOf code name) o) (λ t next w. rw (w .is, w .code, w .name-is, e) (pick-self (eqb (getD s at 0) code)))
 
   pub by-prefix : getD s at 0 ≡ code → n ≡ length name → prefix (bytesAt s (at + 3) n) name ≡ onItem (isOf code name) (decodeTag s at)
   by-prefix this is = same-prefix _ _ (part-length ∙ is) ∙ by-name this

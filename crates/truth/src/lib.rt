@@ -101,20 +101,24 @@ fn is_within(bound: Bound, limit: u32, number: u32) -> bool
 
 // A list is read before the leaves look into it, so that a tag lies whole at each of its offsets.
 
-// Whether the tag at an offset has the type and the name. Its value is not read. Most names have one byte, compared without a call.
+// Whether the tag at an offset has the type and the name. Its value is not read. Most names have one byte, compared without a call, and
+// before the type: few tags of a list have one name, but many have one type, so that this test is guessed right.
 fn is_candidate(tags: &[u8], at: usize, code: u8, name: &[u8]) -> bool
     requires { ⌜ Lies (decodeTag (now tags) at) ⌝ }
     ensures { λ r. ⌜ r ≡ onItem (isOf code (now (name .entry))) (decodeTag (now (tags .entry)) at) ⌝ }
 {
-    if tags[at] != code {
-        return false;
-    }
     let name_length = pair(tags[at + 1], tags[at + 2]) as usize;
     if name_length != name.len() {
         return false;
     }
     if name_length == 1 {
-        return tags[at + 3] == name[0];
+        if tags[at + 3] != name[0] {
+            return false;
+        }
+        return tags[at] == code;
+    }
+    if tags[at] != code {
+        return false;
     }
     starts_with(name, bytes_at(tags, at + 3, name_length))
 }
