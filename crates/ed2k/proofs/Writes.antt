@@ -20,20 +20,17 @@ was-no : (t : Bool) → not t ≡ true → t ≡ false
 was-no true e = absurd (no-true e)
 was-no false e = refl
 
--- The message g that given numbers would be those of, as the code has it in m, and its numbers f: whether they are the given ones decides.
-module _ {M : Type 0} (numbers : M → List ℕ) (Writes : M → Written → Type 0) (g m : M) (is : m ≡ g) (given output f : List ℕ) (has : f ≡ filled 16 (numbers m))
-    (t : Bool) (tells : t ≡ same f (take 16 given)) where
-  pub writes-given : not t ≡ false → {w : Written} → Writes m w → GivenWrites (numbers g) given output (Writes g) w
-  writes-given e {w} h =
-      let q : filled 16 (numbers m) ≡ take 16 given = sym has ∙ same-true f (take 16 given) (sym tells ∙ was-yes t e) in
-      let x : GivenWrites (numbers m) given output (Writes m) w = message q h in
-      rw is at x
+-- What the test of a writer tells: whether the given numbers are those of the message that they are taken as.
+abbrev pub Tells : Bool → (numbers given : List ℕ) → Type 0
+Tells t numbers given = t ≡ same (filled 16 numbers) (take 16 given)
 
-  pub none-given : not t ≡ true → GivenWrites (numbers g) given output (Writes g) (unwritten 5 output)
-  none-given e =
-      let no : filled 16 (numbers m) ≡ take 16 given → ⊥ = λ q. no-true (sym (was-no t e) ∙ tells ∙ rw (has, q) (same-refl (take 16 given))) in
-      let x : GivenWrites (numbers m) given output (Writes m) (unwritten 5 output) = noMessage no in
-      rw is at x
+-- So the message is written, or the call refuses.
+module _ {numbers given output : List ℕ} {Writes : Written → Type 0} {t : Bool} (tells : Tells t numbers given) where
+  pub message-given : not t ≡ false → {w : Written} → Writes w → GivenWrites numbers given output Writes w
+  message-given e h = message (same-true (filled 16 numbers) (take 16 given) (sym tells ∙ was-yes t e)) h
+
+  pub none-given : not t ≡ true → GivenWrites numbers given output Writes (unwritten 5 output)
+  none-given e = noMessage (λ q. no-true (sym (was-no t e) ∙ tells ∙ rw q (same-refl (take 16 given))))
 
 pub as-byte : (t : Bool) → boolByte t ≡ cond t 1 0
 as-byte true = refl

@@ -1,12 +1,19 @@
+-- The packet that the given numbers are taken as, and whether these are its numbers: either return is then by a law of Writes.
 use denote.Ref.{now}
-use Rattle.write_packets.specs.Packets.{kindOf, packetOf, packetThere}
+use mathlib.Core.Path.{_≡_}
 use Rattle.fields.specs.Fields.{packetNumbers}
 use Rattle.fields.specs.Given.{packetGiven}
-use Rattle.ed2k.specs.Calls.{WritesBack}
-use Rattle.ed2k.proofs.Writes.{none-given, writes-given}
+use Rattle.ed2k.proofs.Writes.{Tells, message-given, none-given}
 use borrow.Author.Needs.{needs}
 use Rattle.ed2k.proofs.write.write_link.Statement.{statement}
 use Rattle.ed2k.proofs.write.write_link.Tie as tie
+
+found : (c : tie.After-packet-given) → c .packet-given .result ≡ packetGiven (now (c .before .before .before .before .args .given))
+found c = c .packet-given .ensures
+
+tells : (c : tie.After-same-fields) → let given = now (c .before .before .before .before .before .before .before .args .given) in
+    Tells (c .same-fields .result) (packetNumbers (packetGiven given)) given
+tells c = rw (c .before .before .packet-numbers .ensures, found) at (c .same-fields .ensures)
 
 packet-given-requires : tie.Need-packet-given-requires
 packet-given-requires c κs = search needs
@@ -21,13 +28,7 @@ same-fields-requires : tie.Need-same-fields-requires
 same-fields-requires c κs = search needs
 
 returns : tie.Need-returns
-returns c =
-    let look = c .before .before .before in
-    let a = look .before .before .before .before .before .args in
-    let s = now (a .bytes) in
-    let given = now (a .given) in
-    let out = now (a .output) in
-    none-given packetNumbers (λ p. WritesBack (kindOf (a .link)) (packetThere (a .link) s p) (packetOf (a .link) s p) out) (packetGiven given) _ (look .before .packet-given .ensures) given out _ (look .packet-numbers .ensures) _ (c .before .same-fields .ensures) (c .if1 .taken)
+returns c = none-given (tells (c .before)) (c .if1 .taken)
 
 write-packet-requires : tie.Need-write-packet-requires
 write-packet-requires c κs = search needs
@@ -37,15 +38,8 @@ same-length c = search needs
 
 returns-2 : tie.Need-returns-2
 returns-2 c =
-    let wrote = c .before .before in
-    let test = wrote .before .before in
-    let look = test .before .before .before in
-    let a = look .before .before .before .before .before .args in
-    let s = now (a .bytes) in
-    let given = now (a .given) in
-    let out = now (a .output) in
-    writes-given packetNumbers (λ p. WritesBack (kindOf (a .link)) (packetThere (a .link) s p) (packetOf (a .link) s p) out) (packetGiven given) _ (look .before .packet-given .ensures) given out _ (look .packet-numbers .ensures) _ (test .before .same-fields .ensures) (test .if1 .left)
-    (wrote .write-packet .ensures)
+    let test = c .before .before .before .before in
+    message-given (tells (test .before)) (test .if1 .left) (rw found at (c .before .before .write-packet .ensures))
 
 pub write-link-spec : {M : Type 1} → statement M
 write-link-spec =

@@ -1,11 +1,19 @@
+-- The query that the given numbers are taken as, and whether these are its numbers: either return is then by a law of Writes.
 use denote.Ref.{now}
+use mathlib.Core.Path.{_≡_}
 use Rattle.fields.specs.Fields.{queryNumbers}
 use Rattle.fields.specs.Given.{queryAt}
-use Rattle.ed2k.specs.Calls.{QueryWritten}
-use Rattle.ed2k.proofs.Writes.{none-given, writes-given}
+use Rattle.ed2k.proofs.Writes.{Tells, message-given, none-given}
 use borrow.Author.Needs.{needs}
 use Rattle.ed2k.proofs.write.write_lone_query.Statement.{statement}
 use Rattle.ed2k.proofs.write.write_lone_query.Tie as tie
+
+found : (c : tie.After-query-given) → c .query-given .result ≡ queryAt (now (c .before .before .before .before .args .given)) 0
+found c = c .query-given .ensures
+
+tells : (c : tie.After-same-fields) → let given = now (c .before .before .before .before .before .before .before .args .given) in
+    Tells (c .same-fields .result) (queryNumbers (queryAt given 0)) given
+tells c = rw (c .before .before .query-fields .ensures, found) at (c .same-fields .ensures)
 
 query-given-requires : tie.Need-query-given-requires
 query-given-requires c κs = search needs
@@ -20,13 +28,7 @@ same-fields-requires : tie.Need-same-fields-requires
 same-fields-requires c κs = search needs
 
 returns : tie.Need-returns
-returns c =
-    let look = c .before .before .before in
-    let a = look .before .before .before .before .before .args in
-    let s = now (a .bytes) in
-    let given = now (a .given) in
-    let out = now (a .output) in
-    none-given queryNumbers (λ q. QueryWritten s q out) (queryAt given 0) _ (look .before .query-given .ensures) given out _ (look .query-fields .ensures) _ (c .before .same-fields .ensures) (c .if1 .taken)
+returns c = none-given (tells (c .before)) (c .if1 .taken)
 
 write-query-requires : tie.Need-write-query-requires
 write-query-requires c κs = search needs
@@ -36,15 +38,8 @@ same-length c = search needs
 
 returns-2 : tie.Need-returns-2
 returns-2 c =
-    let wrote = c .before .before in
-    let test = wrote .before .before in
-    let look = test .before .before .before in
-    let a = look .before .before .before .before .before .args in
-    let s = now (a .bytes) in
-    let given = now (a .given) in
-    let out = now (a .output) in
-    writes-given queryNumbers (λ q. QueryWritten s q out) (queryAt given 0) _ (look .before .query-given .ensures) given out _ (look .query-fields .ensures) _ (test .before .same-fields .ensures) (test .if1 .left)
-    (wrote .write-query .ensures)
+    let test = c .before .before .before .before in
+    message-given (tells (test .before)) (test .if1 .left) (rw found at (c .before .before .write-query .ensures))
 
 pub write-lone-query-spec : {M : Type 1} → statement M
 write-lone-query-spec =

@@ -1,15 +1,19 @@
+-- The part.met that the given numbers are taken as, and whether these are its numbers: either return is then by a law of Writes.
 use denote.Ref.{now}
-use mathlib.Core.Path.{ap, _∙_}
-use Rattle.format.specs.Messages.{partMet}
-use Rattle.met.specs.MetAnswers.{partMetIn}
-use Rattle.write_part.specs.PartWrites.{partThere}
-use Rattle.fields.specs.Fields.{filled, partNumbers}
+use mathlib.Core.Path.{_≡_}
+use Rattle.fields.specs.Fields.{partNumbers}
 use Rattle.fields.specs.Given.{partGiven, sizeGiven}
-use Rattle.ed2k.specs.Calls.{WritesBack}
-use Rattle.ed2k.proofs.Writes.{none-given, writes-given}
+use Rattle.ed2k.proofs.Writes.{Tells, message-given, none-given}
 use borrow.Author.Needs.{needs}
 use Rattle.ed2k.proofs.write.write_part.Statement.{statement}
 use Rattle.ed2k.proofs.write.write_part.Tie as tie
+
+found : (c : tie.After-part-given) → c .part-given .result ≡ partGiven (now (c .before .before .before .before .args .given))
+found c = c .part-given .ensures
+
+tells : (c : tie.After-same-fields) → let given = now (c .before .before .before .before .before .before .before .before .args .given) in
+    Tells (c .same-fields .result) (partNumbers (partGiven given) (sizeGiven given)) given
+tells c = rw (c .before .before .part-fields .ensures, c .before .before .before .size-given .ensures, found) at (c .same-fields .ensures)
 
 part-given-requires : tie.Need-part-given-requires
 part-given-requires c κs = search needs
@@ -27,13 +31,7 @@ same-fields-requires : tie.Need-same-fields-requires
 same-fields-requires c κs = search needs
 
 returns : tie.Need-returns
-returns c =
-    let look = c .before .before .before in
-    let a = look .before .before .before .before .before .before .args in
-    let s = now (a .bytes) in
-    let given = now (a .given) in
-    let out = now (a .output) in
-    none-given (λ m. partNumbers m (sizeGiven given)) (λ m. WritesBack partMet (partThere s m) (partMetIn s m) out) (partGiven given) _ (look .before .before .part-given .ensures) given out _ (look .part-fields .ensures ∙ ap (λ n. filled 16 (partNumbers (look .before .before .part-given .result) n)) (look .before .size-given .ensures)) _ (c .before .same-fields .ensures) (c .if1 .taken)
+returns c = none-given (tells (c .before)) (c .if1 .taken)
 
 write-part-met-requires : tie.Need-write-part-met-requires
 write-part-met-requires c κs = search needs
@@ -43,15 +41,8 @@ same-length c = search needs
 
 returns-2 : tie.Need-returns-2
 returns-2 c =
-    let wrote = c .before .before in
-    let test = wrote .before .before in
-    let look = test .before .before .before in
-    let a = look .before .before .before .before .before .before .args in
-    let s = now (a .bytes) in
-    let given = now (a .given) in
-    let out = now (a .output) in
-    writes-given (λ m. partNumbers m (sizeGiven given)) (λ m. WritesBack partMet (partThere s m) (partMetIn s m) out) (partGiven given) _ (look .before .before .part-given .ensures) given out _ (look .part-fields .ensures ∙ ap (λ n. filled 16 (partNumbers (look .before .before .part-given .result) n)) (look .before .size-given .ensures)) _ (test .before .same-fields .ensures) (test .if1 .left)
-    (wrote .write-part-met .ensures)
+    let test = c .before .before .before .before in
+    message-given (tells (test .before)) (test .if1 .left) (rw found at (c .before .before .write-part-met .ensures))
 
 pub write-part-spec : {M : Type 1} → statement M
 write-part-spec =

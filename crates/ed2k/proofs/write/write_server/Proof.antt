@@ -1,14 +1,19 @@
+-- The server.met that the given numbers are taken as, and whether these are its numbers: either return is then by a law of Writes.
 use denote.Ref.{now}
-use Rattle.format.specs.Messages.{serverMet}
-use Rattle.met.specs.MetAnswers.{serverMetIn}
-use Rattle.write_met.specs.MetWrites.{serverThere}
+use mathlib.Core.Path.{_≡_}
 use Rattle.fields.specs.Fields.{serverNumbers}
 use Rattle.fields.specs.Given.{serverGiven}
-use Rattle.ed2k.specs.Calls.{WritesBack}
-use Rattle.ed2k.proofs.Writes.{none-given, writes-given}
+use Rattle.ed2k.proofs.Writes.{Tells, message-given, none-given}
 use borrow.Author.Needs.{needs}
 use Rattle.ed2k.proofs.write.write_server.Statement.{statement}
 use Rattle.ed2k.proofs.write.write_server.Tie as tie
+
+found : (c : tie.After-server-given) → c .server-given .result ≡ serverGiven (now (c .before .before .before .before .args .given))
+found c = c .server-given .ensures
+
+tells : (c : tie.After-same-fields) → let given = now (c .before .before .before .before .before .before .before .args .given) in
+    Tells (c .same-fields .result) (serverNumbers (serverGiven given)) given
+tells c = rw (c .before .before .server-fields .ensures, found) at (c .same-fields .ensures)
 
 server-given-requires : tie.Need-server-given-requires
 server-given-requires c κs = search needs
@@ -23,13 +28,7 @@ same-fields-requires : tie.Need-same-fields-requires
 same-fields-requires c κs = search needs
 
 returns : tie.Need-returns
-returns c =
-    let look = c .before .before .before in
-    let a = look .before .before .before .before .before .args in
-    let s = now (a .bytes) in
-    let given = now (a .given) in
-    let out = now (a .output) in
-    none-given serverNumbers (λ m. WritesBack serverMet (serverThere s m) (serverMetIn s m) out) (serverGiven given) _ (look .before .server-given .ensures) given out _ (look .server-fields .ensures) _ (c .before .same-fields .ensures) (c .if1 .taken)
+returns c = none-given (tells (c .before)) (c .if1 .taken)
 
 write-server-met-requires : tie.Need-write-server-met-requires
 write-server-met-requires c κs = search needs
@@ -39,15 +38,8 @@ same-length c = search needs
 
 returns-2 : tie.Need-returns-2
 returns-2 c =
-    let wrote = c .before .before in
-    let test = wrote .before .before in
-    let look = test .before .before .before in
-    let a = look .before .before .before .before .before .args in
-    let s = now (a .bytes) in
-    let given = now (a .given) in
-    let out = now (a .output) in
-    writes-given serverNumbers (λ m. WritesBack serverMet (serverThere s m) (serverMetIn s m) out) (serverGiven given) _ (look .before .server-given .ensures) given out _ (look .server-fields .ensures) _ (test .before .same-fields .ensures) (test .if1 .left)
-    (wrote .write-server-met .ensures)
+    let test = c .before .before .before .before in
+    message-given (tells (test .before)) (test .if1 .left) (rw found at (c .before .before .write-server-met .ensures))
 
 pub write-server-spec : {M : Type 1} → statement M
 write-server-spec =
