@@ -26,18 +26,18 @@ use wire::Items;
 pub extern "C" fn ed2k_truth(query: &[u8], tags: &[u8], truth: &mut u8) -> u8
     ensures { λ r. ⌜ (r ≡ format.truth (now (query .entry)) (now (tags .entry)) .number) × (now (truth .exit) ≡ truthByte (format.truth (now (query .entry)) (now (tags .entry)))) ⌝ }
 {
-    let t = truth::truth_of(query, tags);
-    *truth = t.holds as u8;
-    t.number
+    let answer = truth::truth_of(query, tags);
+    *truth = answer.holds as u8;
+    answer.number
 }
 
 #[no_mangle]
 pub extern "C" fn ed2k_write_keyword(text: &[u8], output: &mut [u8], written: &mut usize) -> u8
     ensures { λ r. ⌜ PiecesWritten (keyword (now (text .entry))) (now (output .entry)) (leaves r (now (written .exit)) (now (output .exit))) ⌝ }
 {
-    let a = write_items::write_keyword(text, output);
-    *written = a.length;
-    a.number
+    let wrote = write_items::write_keyword(text, output);
+    *written = wrote.length;
+    wrote.number
 }
 
 #[no_mangle]
@@ -49,17 +49,17 @@ pub extern "C" fn ed2k_write_field(
 ) -> u8
     ensures { λ r. ⌜ PiecesWritten (field (now (text .entry)) (now (name .entry))) (now (output .entry)) (leaves r (now (written .exit)) (now (output .exit))) ⌝ }
 {
-    let a = write_items::write_field(text, name, output);
-    *written = a.length;
-    a.number
+    let wrote = write_items::write_field(text, name, output);
+    *written = wrote.length;
+    wrote.number
 }
 
 fn write_limit(number: u32, bound: Bound, name: &[u8], output: &mut [u8], written: &mut usize) -> u8
     ensures { λ r. ⌜ PiecesWritten (limit number (boundOf bound) (now (name .entry))) (now (output .entry)) (leaves r (now (written .exit)) (now (output .exit))) ⌝ }
 {
-    let a = write_items::write_limit(number, bound, name, output);
-    *written = a.length;
-    a.number
+    let wrote = write_items::write_limit(number, bound, name, output);
+    *written = wrote.length;
+    wrote.number
 }
 
 #[no_mangle]
@@ -93,9 +93,9 @@ fn write_join(
     ensures { λ r. ⌜ JoinWritten (operatorOf operator) (decode loneQuery (now (left .entry))) (decode loneQuery (now (right .entry))) (now (output .entry))
         (leaves r (now (written .exit)) (now (output .exit))) ⌝ }
 {
-    let a = write_items::write_join(operator, left, right, output);
-    *written = a.length;
-    a.number
+    let wrote = write_items::write_join(operator, left, right, output);
+    *written = wrote.length;
+    wrote.number
 }
 
 #[no_mangle]
@@ -130,9 +130,9 @@ pub extern "C" fn ed2k_write_text_tag(
 ) -> u8
     ensures { λ r. ⌜ WritesTag noPlaces (tagOf (now (name .entry)) stringType (now (text .entry))) (now (output .entry)) (leaves r (now (written .exit)) (now (output .exit))) ⌝ }
 {
-    let a = write_items::write_text_tag(name, text, output);
-    *written = a.length;
-    a.number
+    let wrote = write_items::write_text_tag(name, text, output);
+    *written = wrote.length;
+    wrote.number
 }
 
 #[no_mangle]
@@ -144,9 +144,9 @@ pub extern "C" fn ed2k_write_dword_tag(
 ) -> u8
     ensures { λ r. ⌜ WritesTag noPlaces (tagOf (now (name .entry)) dwordType number) (now (output .entry)) (leaves r (now (written .exit)) (now (output .exit))) ⌝ }
 {
-    let a = write_items::write_dword_tag(name, number, output);
-    *written = a.length;
-    a.number
+    let wrote = write_items::write_dword_tag(name, number, output);
+    *written = wrote.length;
+    wrote.number
 }
 
 #[no_mangle]
@@ -158,9 +158,9 @@ pub extern "C" fn ed2k_write_float_tag(
 ) -> u8
     ensures { λ r. ⌜ WritesTag noPlaces (tagOf (now (name .entry)) floatType bits) (now (output .entry)) (leaves r (now (written .exit)) (now (output .exit))) ⌝ }
 {
-    let a = write_items::write_float_tag(name, bits, output);
-    *written = a.length;
-    a.number
+    let wrote = write_items::write_float_tag(name, bits, output);
+    *written = wrote.length;
+    wrote.number
 }
 
 #[no_mangle]
@@ -173,9 +173,9 @@ pub extern "C" fn ed2k_write_hash_tag(
     ensures { λ r. ⌜ WritesTag (hashThere (now (hash .entry)) 0) (tagOf (now (name .entry)) hashType (hashAt (now (hash .entry)) 0)) (now (output .entry))
         (leaves r (now (written .exit)) (now (output .exit))) ⌝ }
 {
-    let a = write_items::write_hash_tag(name, hash, 0, output);
-    *written = a.length;
-    a.number
+    let wrote = write_items::write_hash_tag(name, hash, 0, output);
+    *written = wrote.length;
+    wrote.number
 }
 
 #[no_mangle]
@@ -188,9 +188,9 @@ pub extern "C" fn ed2k_write_tag_list(
 ) -> u8
     ensures { λ r. ⌜ TagListWritten (now (bytes .entry)) (itemsFrom at count) (now (output .entry)) (leaves r (now (written .exit)) (now (output .exit))) ⌝ }
 {
-    let a = write_items::write_tag_list(bytes, Items { at, end: at, count }, output);
-    *written = a.length;
-    a.number
+    let wrote = write_items::write_tag_list(bytes, Items { at, end: at, count }, output);
+    *written = wrote.length;
+    wrote.number
 }
 
 #[no_mangle]
@@ -202,14 +202,14 @@ pub extern "C" fn ed2k_write_query(
 ) -> u8
     ensures { λ r. ⌜ QueryWritten (now (bytes .entry)) (queryFrom at) (now (output .entry)) (leaves r (now (written .exit)) (now (output .exit))) ⌝ }
 {
-    let q = Query {
+    let query = Query {
         at,
         end: at,
         depth: 0,
     };
-    let a = write_items::write_query(bytes, q, output);
-    *written = a.length;
-    a.number
+    let wrote = write_items::write_query(bytes, query, output);
+    *written = wrote.length;
+    wrote.number
 }
 
 // Entries, to compose lists. A list's end is not read: the list is read again.
@@ -223,9 +223,9 @@ pub extern "C" fn ed2k_write_address(
 ) -> u8
     ensures { λ r. ⌜ leaves r (now (written .exit)) (now (output .exit)) ≡ writeAddress (record { ip = ip; port = port }) (now (output .entry)) ⌝ }
 {
-    let a = write_bodies::write_address(Address { ip, port }, output);
-    *written = a.length;
-    a.number
+    let wrote = write_bodies::write_address(Address { ip, port }, output);
+    *written = wrote.length;
+    wrote.number
 }
 
 #[no_mangle]
@@ -252,9 +252,9 @@ pub extern "C" fn ed2k_write_record(
         port,
         tags,
     };
-    let a = write_bodies::write_record(bytes, record, output);
-    *written = a.length;
-    a.number
+    let wrote = write_bodies::write_record(bytes, record, output);
+    *written = wrote.length;
+    wrote.number
 }
 
 #[no_mangle]
@@ -287,9 +287,9 @@ pub extern "C" fn ed2k_write_file_entry(
         parts,
         tags,
     };
-    let a = write_met::write_file_entry(bytes, entry, output);
-    *written = a.length;
-    a.number
+    let wrote = write_met::write_file_entry(bytes, entry, output);
+    *written = wrote.length;
+    wrote.number
 }
 
 #[no_mangle]
@@ -310,7 +310,7 @@ pub extern "C" fn ed2k_write_server_entry(
         count: tag_count,
     };
     let entry = ServerEntry { ip, port, tags };
-    let a = write_met::write_server_entry(bytes, entry, output);
-    *written = a.length;
-    a.number
+    let wrote = write_met::write_server_entry(bytes, entry, output);
+    *written = wrote.length;
+    wrote.number
 }

@@ -13,8 +13,8 @@ cast-truth c = search needs
 
 returns : tie.Need-returns
 returns c =
-    let t = c .before .truth-of in
-    (ap (λ (r : TruthReply). r .number) (t .ensures), rw (← t .ensures) (as-byte (t .result .holds)))
+    let answer = c .before .truth-of in
+    (ap (λ (reply : TruthReply). reply .number) (answer .ensures), rw (← answer .ensures) (as-byte (answer .result .holds)))
 
 pub ed2k-truth-spec : {M : Type 1} → statement M
 ed2k-truth-spec = tie.close (tie.spec truth-of-requires cast-truth returns)
