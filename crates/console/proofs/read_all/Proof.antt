@@ -1,3 +1,4 @@
+-- As many bytes came as `at` says, and no more than the buffer holds.
 use Prim.Native.Nat.{_≤_, _-_}
 use mathlib.Core.Path.{_≡_, refl, _∙_}
 use native.Mathlib.Omega.{arith}

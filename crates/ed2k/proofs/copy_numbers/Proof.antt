@@ -1,3 +1,4 @@
+-- The first i numbers are copied (`copied` of output).
 use native.Mathlib.Omega.{arith}
 use Prim.Native.Nat.{_≤_, _-_}
 use mathlib.Core.Path.{_≡_, refl}

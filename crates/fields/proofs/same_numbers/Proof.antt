@@ -1,3 +1,4 @@
+-- From place i on the numbers are still to be compared (`same-next`, `same-stop`, `same-done` of output).
 use borrow.Author.Needs.{needs}
 use Prim.Native.Nat.{_≤_, _-_}
 use mathlib.Core.Path.{_≡_, refl, sym}

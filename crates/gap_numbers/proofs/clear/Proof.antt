@@ -1,3 +1,4 @@
+-- Up to `at` the numbers are 0 (`clear-next` of Moves).
 use Prim.Native.Nat.{_-_, _≤_}
 use native.Mathlib.Omega.{arith}
 use mathlib.Core.Path.{_≡_, refl, ap, _∙_}

@@ -1,3 +1,4 @@
+-- The first i gaps end by the start of the range (`end-by-next` of Loops).
 use Prim.Native.Nat.{_-_}
 use denote.Ref.{now}
 use borrow.Author.Needs.{needs}

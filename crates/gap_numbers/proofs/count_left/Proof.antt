@@ -1,3 +1,4 @@
+-- The gaps before the range, the pieces and the gaps after it are counted (`one-between` of Lists).
 use native.Mathlib.Omega.{arith}
 use lib.ListN.{length-append}
 use borrow.Author.Needs.{needs}

@@ -1,3 +1,4 @@
+-- Up to gap i the record is lawful, and its missing bytes are counted (`Judging` of Loops).
 use Prim.Native.Nat.{_-_}
 use native.Mathlib.Omega.{arith}
 use mathlib.Core.Path.{_≡_, refl, sym, _∙_}

@@ -1,3 +1,4 @@
+-- What is refused with 8, by the laws of Marks; a range that may be marked is left to take_out (`may`).
 use mathlib.Core.Path.{refl, sym, _∙_}
 use denote.Ref.{now}
 use borrow.Author.Tests.{not-true, not-false}

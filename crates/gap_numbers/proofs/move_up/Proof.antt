@@ -1,3 +1,4 @@
+-- From the last number down: those after the first `left` are moved (`move-before` of Moves).
 use Prim.Native.Nat.{_+_, _-_, _≤_}
 use native.Mathlib.Omega.{arith}
 use mathlib.Core.Path.{_≡_, refl, _∙_}

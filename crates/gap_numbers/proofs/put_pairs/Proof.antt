@@ -1,3 +1,4 @@
+-- After i gaps the numbers of these are put (`PairsWritten` of Records).
 use Prim.Native.Nat.{_-_}
 use native.Mathlib.Omega.{arith}
 use mathlib.Core.Path.{_≡_, sym, _∙_}

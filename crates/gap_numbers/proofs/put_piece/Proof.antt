@@ -1,3 +1,4 @@
+-- A gap of no bytes puts nothing.
 use native.Mathlib.Omega.{arith}
 use mathlib.Core.Path.{refl}
 use borrow.Author.Tests.{lt-ltb, le-ltb}

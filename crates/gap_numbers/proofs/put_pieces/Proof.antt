@@ -1,3 +1,4 @@
+-- The gap before the range, then the one after it (`after` of output, `gap-numbers-append` of Numbers).
 use native.Mathlib.Omega.{arith}
 use mathlib.Core.Path.{sym, ap, _∙_}
 use lib.ListN.{length-append, length-take, length-drop}

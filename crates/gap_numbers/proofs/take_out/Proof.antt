@@ -1,3 +1,4 @@
+-- More than 64 gaps are refused with nothing written; else the gaps are replaced (`too-many`, `accepts` of Marks).
 use mathlib.Core.Path.{_≡_, refl, _∙_}
 use lib.ListN.{length}
 use denote.Ref.{now}

@@ -1,3 +1,4 @@
+-- Up to `next` the gaps that the range touches are joined into one, and their bytes in it counted (`Touching` of Loops).
 use Prim.Native.Nat.{_-_}
 use native.Mathlib.Omega.{arith}
 use mathlib.Core.Path.{refl}

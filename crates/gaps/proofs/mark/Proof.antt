@@ -1,3 +1,4 @@
+-- A range that may not be marked, more than 64 gaps, and the new record, by the laws of Marking.
 use Rattle.format.specs.Gaps.{marking, sizeLimit}
 use mathlib.Core.Path.{sym, _∙_}
 use borrow.Author.Needs.{needs}

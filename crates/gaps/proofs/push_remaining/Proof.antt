@@ -1,3 +1,4 @@
+-- What is left before the range is added, then what is left after it.
 use mathlib.Core.Path.{refl}
 use borrow.Author.Needs.{needs}
 use Rattle.gaps.specs.MarkingSteps.{pushedRemaining}

@@ -1,3 +1,4 @@
+-- After i gaps what the range leaves of these is in the record made (`Made` of MarkingSteps).
 use Prim.Native.Nat.{_-_}
 use native.Mathlib.Omega.{arith}
 use mathlib.Core.Path.{_≡_, sym, _∙_}

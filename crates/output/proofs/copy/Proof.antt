@@ -1,3 +1,4 @@
+-- The first i bytes are copied (`copied` of Laws).
 use native.Mathlib.Omega.{arith}
 use Prim.Native.Nat.{_≤_, _-_}
 use mathlib.Core.Path.{_≡_, refl}

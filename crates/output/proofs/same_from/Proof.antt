@@ -1,3 +1,4 @@
+-- From place i on the bytes are still to be compared (`same-next`, `same-stop`, `same-done` of Laws).
 use Prim.Native.Nat.{_≤_, _-_}
 use mathlib.Core.Path.{_≡_, refl, sym}
 use native.Mathlib.Omega.{arith}

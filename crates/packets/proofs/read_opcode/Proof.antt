@@ -1,3 +1,4 @@
+-- The opcode is read and looked up in the table of the link.
 use mathlib.Core.Path.{refl}
 use borrow.Author.Needs.{needs}
 use Rattle.format.specs.PacketOrder.{decodeOpcode}

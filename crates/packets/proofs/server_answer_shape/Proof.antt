@@ -1,3 +1,4 @@
+-- Each opcode of the run has the shape of the table, by computing; another one is not listed (`unlisted-in` of Arms).
 use mathlib.Core.Path.{refl}
 use mathlib.Core.Logic.{⊎-elim}
 use mathlib.Core.List.{[], _∷_}

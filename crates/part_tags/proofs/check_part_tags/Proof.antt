@@ -1,3 +1,4 @@
+-- The list was read before, so that its survey is not refused (`never-refused` of Rest); the verdict is that of part_tags_from.
 use mathlib.Core.Path.{refl, ap, _∙_}
 use Rattle.gaps.specs.GapRecords.{recordOf}
 use Rattle.part_tags.proofs.Rest.{never-refused}

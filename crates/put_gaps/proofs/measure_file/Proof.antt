@@ -1,3 +1,4 @@
+-- The numbers of the new file from those of the old one (`old`, `new-count`, `new-length` of Lengths).
 use Rattle.put_gaps.proofs.Lengths.{tags-inside, old, new-count, new-length, record-pairs}
 use Rattle.gap_numbers.specs.NumberSteps.{gapsIn}
 use Rattle.wire.proofs.Replies.{slice-bytes}

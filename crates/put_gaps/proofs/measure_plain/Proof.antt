@@ -1,3 +1,4 @@
+-- After i tags the tags that stay and their bytes are counted (`Measured` of Kept).
 use Rattle.put_gaps.proofs.Kept.{kept-within}
 use Rattle.put_gaps.proofs.Kept.{Measured, measured-first, measured-next, measured-all, tag-place}
 use Rattle.part_tags.proofs.Rest.{rest-there}

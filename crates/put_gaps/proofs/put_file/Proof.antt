@@ -1,3 +1,4 @@
+-- Too long or no room: nothing is written. Else head, tag list and tail are written one after the other (`new-pieces` of Lengths).
 use Rattle.put_gaps.proofs.Lengths.{tags-inside, head-bytes, tail-bytes, new-list, new-pieces, above-ceiling, no-room, written}
 use Rattle.put_gaps.specs.Pieces.{headOf, tailOf}
 use Rattle.output.proofs.Laws.{after}

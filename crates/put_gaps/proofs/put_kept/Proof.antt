@@ -1,3 +1,4 @@
+-- The tags before the range, those in it that stay, and the tags after it are written one after the other (`kept-pieces` of Range).
 use Rattle.put_gaps.proofs.Range.{placed-range, kept-pieces, spans}
 use Rattle.put_gaps.specs.Pieces.{plainBytes}
 use Rattle.output.proofs.Laws.{after}

@@ -1,3 +1,4 @@
+-- The start tag, then the end tag (`after` of output).
 use Rattle.put_gaps.proofs.Pairs.{length-pair, length-tag}
 use Rattle.output.proofs.Laws.{after}
 use Rattle.put_gaps.specs.Pieces.{pairBytes}

@@ -1,3 +1,4 @@
+-- After i gaps their pairs of tags are written (`PairsWritten` of Pairs).
 use Rattle.put_gaps.proofs.Pairs.{PairsWritten, pairs-all, pair-room, pair-ordered, pairs-next, length-pair}
 use Rattle.output.proofs.Loops.{written-none}
 use Rattle.gap_numbers.proofs.Numbers.{gapAt}

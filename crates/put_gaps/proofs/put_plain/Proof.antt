@@ -1,3 +1,4 @@
+-- After i tags those of them that stay are written (`Copied` of Kept).
 use Rattle.put_gaps.proofs.Kept.{Copied, copied-first, copied-room, copied-next, copied-all, tag-place}
 use Rattle.part_tags.proofs.Rest.{rest-there}
 use Rattle.wire.proofs.Replies.{slice-bytes}

@@ -1,3 +1,4 @@
+-- The count, the tags that stay and the pairs are written one after the other (`list-pieces` of Pieces).
 use Rattle.put_gaps.proofs.Pieces.{list-pieces}
 use Rattle.output.proofs.Laws.{after}
 use Rattle.put_gaps.specs.Pieces.{plainBytes, pairsBytes}

@@ -1,3 +1,4 @@
+-- The reader of each kind, its answer and its offsets taken as those of any kind (AsKind).
 use denote.Ref.{now}
 use borrow.Author.Needs.{needs}
 use Rattle.format.specs.Messages.{serverLink, clientLink, udpLink, knownMet, serverMet, partMet}

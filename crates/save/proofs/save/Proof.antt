@@ -1,3 +1,4 @@
+-- The refusals in their order, and the copy, by the laws of Saves.
 use Rattle.save.proofs.Saves.{save-refused, save-conflict, save-over}
 use borrow.Author.Tests.{le-leb, lt-leb, not-true, not-false}
 use mathlib.Core.Path.{refl}

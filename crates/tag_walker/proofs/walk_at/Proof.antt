@@ -1,3 +1,4 @@
+-- At the beginning the ceiling and the count come first; elsewhere, and after these, the step is that of walk_from.
 use mathlib.Core.Path.{refl}
 use borrow.Author.Tests.{le-leb, lt-leb, eq-eqb, ne-eqb}
 use Rattle.format.specs.Rules.{packetCeiling}

@@ -1,3 +1,4 @@
+-- No tag left: bytes after the list, or its end. Else the tag that is read there, or the number of its refusal.
 use mathlib.Core.Path.{refl}
 use borrow.Author.Tests.{lt-ltb, le-ltb, eq-eqb, ne-eqb}
 use Rattle.tag_walker.specs.Walk.{walkFrom}

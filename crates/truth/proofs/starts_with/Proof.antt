@@ -1,3 +1,4 @@
+-- From byte i on the beginning is still to be compared (the laws `prefix-..` of Texts).
 use Prim.Native.Nat.{_≤_, _-_}
 use mathlib.Core.Path.{_≡_, refl, sym, _∙_}
 use native.Mathlib.Omega.{arith}

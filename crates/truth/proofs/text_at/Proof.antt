@@ -1,3 +1,4 @@
+-- The text of a tag that lies there lies there too (`text-lies` of tags), and is the one decoded (`text-is` of Values).
 use mathlib.Core.Path.{refl, _∙_}
 use native.Mathlib.Omega.{arith}
 use Rattle.tags.proofs.WholeTags.{text-lies}

@@ -1,3 +1,4 @@
+-- The query is refused first, then the list; else the truth (Answers).
 use mathlib.Core.Path.{_∙_}
 use Rattle.truth.proofs.Answers.{query-refused, tags-accepted, tags-refused}
 use borrow.Author.Needs.{needs}

@@ -1,3 +1,4 @@
+-- The query is evaluated, or refused, or leaves bytes, by the laws of Answers.
 use mathlib.Core.Path.{refl}
 use borrow.Author.Tests.{lt-leb}
 use Rattle.format.specs.Rules.{packetCeiling}

@@ -1,3 +1,4 @@
+-- Each kind has its reader (`kind-read` of Links); another number is no kind (`unlisted-in` of Arms).
 use mathlib.Core.List.{[], _∷_}
 use mathlib.Core.Path.{refl}
 use lib.Dec.{ltb}

@@ -1,3 +1,4 @@
+-- The numbers of the packet that is read or given, if there is room for them (`handed` of Links).
 use denote.Ref.{now}
 use mathlib.Core.Path.{refl}
 use Rattle.ed2k.proofs.Links.{handed}

@@ -1,3 +1,4 @@
+-- The numbers of a known.met that is accepted, or its number (`known-read`, `handed` of Links).
 use denote.Ref.{now}
 use mathlib.Core.Path.{refl}
 use Rattle.ed2k.proofs.Links.{handed, known-read}

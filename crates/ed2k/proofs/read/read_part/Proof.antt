@@ -1,3 +1,4 @@
+-- The numbers of a part.met that is accepted, or its number (`part-read`, `handed` of Links).
 use denote.Ref.{now}
 use mathlib.Core.Path.{refl}
 use Rattle.ed2k.proofs.Links.{handed, part-read}

@@ -1,3 +1,4 @@
+-- The numbers of a server.met that is accepted, or its number (`server-read`, `handed` of Links).
 use denote.Ref.{now}
 use mathlib.Core.Path.{refl}
 use Rattle.ed2k.proofs.Links.{handed, server-read}

@@ -1,3 +1,4 @@
+-- Each kind has its writer; another number is no kind (`unlisted` of Arms).
 use mathlib.Core.List.{[], _∷_}
 use mathlib.Core.Path.{refl}
 use Rattle.packets.proofs.Arms.{unlisted}

@@ -1,3 +1,4 @@
+-- Each number of hash lists that is listed gives its lists, by computing; another one gives none (`unlisted` of Arms).
 use mathlib.Core.Path.{refl}
 use denote.Ref.{now}
 use mathlib.Core.List.{[], _∷_}

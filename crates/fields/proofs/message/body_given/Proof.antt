@@ -1,3 +1,4 @@
+-- Each shape number that is listed gives its body, by computing; another one gives none (`unlisted` of Arms).
 use mathlib.Core.Path.{refl}
 use denote.Ref.{now}
 use mathlib.Core.List.{[], _∷_}

@@ -1,3 +1,4 @@
+-- The numbers of each shape of body, by computing.
 use borrow.Author.Needs.{needs}
 use Rattle.fields.proofs.packet.packet_fields.Statement.{statement}
 use Rattle.fields.proofs.packet.packet_fields.Tie as tie

@@ -1,3 +1,4 @@
+-- Each test that fails is a tag that does not end the pair, and one that passes ends it, by the laws `ends-..` of GapTags.
 use Prim.Native.Nat.{_+_}
 use mathlib.Core.Path.{_≡_, sym, _∙_}
 use mathlib.Core.Bool.{true}

@@ -1,3 +1,4 @@
+-- Each test that fails gives the rule that the tag breaks, and one that passes the pair begun, by the laws `starts-..` of GapTags.
 use Prim.Native.Nat.{_+_, _≤_, _<_}
 use mathlib.Core.Path.{_≡_, sym, _∙_}
 use mathlib.Core.Bool.{Bool, false, true}

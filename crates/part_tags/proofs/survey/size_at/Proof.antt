@@ -1,3 +1,4 @@
+-- Each test that fails is no size tag, and one that passes has the size, by the laws of SizeTags.
 use denote.Ref.{now}
 use Rattle.part_tags.proofs.TagLaws.{bytes-of}
 use Rattle.part_tags.proofs.SizeTags.{size-byte, size-length, size-type, size-there}

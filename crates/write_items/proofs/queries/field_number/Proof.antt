@@ -1,3 +1,4 @@
+-- The tests in their order; that of the name is the last (`name_number`).
 use mathlib.Core.Path.{refl}
 use borrow.Author.Tests.{le-leb, lt-leb}
 use Rattle.write_items.specs.Numbers.{fieldNumber}

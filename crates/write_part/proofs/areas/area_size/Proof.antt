@@ -1,3 +1,4 @@
+-- What an area of each form has, by computing; no sum is above the ceiling.
 use mathlib.Core.Path.{refl}
 use native.Mathlib.Omega.{arith}
 use borrow.Author.Needs.{needs}
