@@ -15,6 +15,7 @@ ghost use Rattle.ed2k.specs.Calls.{leaves, itemsFrom, queryFrom, truthBy
 ghost use Rattle.ed2k.specs.Calls.{QueryWritten, TagListWritten, PiecesWritten, JoinWritten};
 use met::FileEntry;
 use met::ServerEntry;
+use output::CHOICE;
 use query::Bound;
 use query::Operator;
 use query::Query;
@@ -78,7 +79,7 @@ pub extern "C" fn ed2k_write_limit(
         2 => write_limit(number, Bound::AtMost, name, output, written),
         _ => {
             *written = 0;
-            5
+            CHOICE
         }
     }
 }
@@ -116,7 +117,7 @@ pub extern "C" fn ed2k_write_join(
         2 => write_join(Operator::AndNot, left, right, output, written),
         _ => {
             *written = 0;
-            5
+            CHOICE
         }
     }
 }

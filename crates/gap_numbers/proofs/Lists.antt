@@ -65,12 +65,12 @@ parts-after a b s e h k = go (decLe a e)
     inside : a ≤ e → (s - a) + (b - e) + (min b e - a) ≡ b - a
     inside t = omega arith
 
-    behind : e < a → (s - a) + (b - a) + (min b e - a) ≡ b - a
-    behind t = omega arith
+    later : e < a → (s - a) + (b - a) + (min b e - a) ≡ b - a
+    later t = omega arith
 
     go : Dec (a ≤ e) → (s - a) + (b - max a e) + (min b e - a) ≡ b - a
     go (yes t) = let p : max a e ≡ e = omega arith in rw p (inside t)
-    go (no t) = let p : max a e ≡ a = omega arith in rw p (behind (omega arith))
+    go (no t) = let p : max a e ≡ a = omega arith in rw p (later (omega arith))
 
 parts : (a b s e : ℕ) → s < e → (min b s - a) + (b - max a e) + (min b e - max a s) ≡ b - a
 parts a b s e h = go (decLe b s) (decLe a s)

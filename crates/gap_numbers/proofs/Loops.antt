@@ -189,7 +189,7 @@ module _ {l : List ℕ} {n : ℕ} (h : Holds l n) {s e : ℕ} (r : s < e) where
       }
 
     -- the gap at `next`, if there is one, begins at the end of the range or after it
-    module _ (behind : next < n → e ≤ getD l (2 * next + 2) 0) where
+    module _ (later : next < n → e ≤ getD l (2 * next + 2) 0) where
       kept-rest : subtract (drop next (gapsIn l)) s e ≡ drop next (gapsIn l)
       unfolding Ordered subtract
       kept-rest = go (decLt next n)
@@ -197,7 +197,7 @@ module _ {l : List ℕ} {n : ℕ} (h : Holds l n) {s e : ℕ} (r : s < e) where
           go : Dec (next < n) → subtract (drop next (gapsIn l)) s e ≡ drop next (gapsIn l)
           go (yes k) =
               let o = in-order l n h next k in
-              let p : Ordered (getD l 0 0) e (gapAt l next ∷ drop (next + 1) (gapsIn l)) = (behind k, o .1, o .2, o .3) in
+              let p : Ordered (getD l 0 0) e (gapAt l next ∷ drop (next + 1) (gapsIn l)) = (later k, o .1, o .2, o .3) in
               rw (next-in l n h next k) (subtract-after (getD l 0 0) (gapAt l next ∷ drop (next + 1) (gapsIn l)) s e e r (omega arith) p)
           go (no k) = rw (drop-of-length-le (gapsIn l) {i = next} (omega (arith, length-gaps l n h))) refl
 

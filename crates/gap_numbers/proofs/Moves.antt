@@ -76,7 +76,7 @@ cleared-after kept l last length-kept few =
     ∙ ap (λ k. drop k l) e in
     rw (e, take-at kept (drop last l) last length-kept, rest, take-replicate (130 - last) 130 (omega arith)) refl
 
--- The numbers from `from` are moved to stand behind the pieces at `at`, and those after them are cleared.
+-- The numbers from `from` are moved to stand later the pieces at `at`, and those after them are cleared.
 module _ (l pieces : List ℕ) (at from to count last : ℕ) (fits : at + length pieces ≡ to) (ends : to + count ≡ last) (few : last ≤ 130) (long : 130 ≤ length l)
     (inside : from + count ≤ length l) (first : List ℕ) (w : first ≡ moved l from to count) where
   abbrev kept : List ℕ
@@ -95,8 +95,8 @@ module _ (l pieces : List ℕ) (at from to count last : ℕ) (fits : at + length
       rw (w, append-assoc)
       (take-append-le at (take to l) (take count (drop from l) ++ drop (to + count) l) (omega (arith, length-to)) ∙ take-take at to l (omega arith))
 
-  behind : drop to first ≡ take count (drop from l) ++ drop (to + count) l
-  behind = rw (w, append-assoc) (drop-at (take to l) (take count (drop from l) ++ drop (to + count) l) to length-to)
+  later : drop to first ≡ take count (drop from l) ++ drop (to + count) l
+  later = rw (w, append-assoc) (drop-at (take to l) (take count (drop from l) ++ drop (to + count) l) to length-to)
 
   module _ (new : List ℕ) (q : new ≡ overwritten pieces (midOf at (length first - at) first)) where
     pieces-put : putMid at (length first - at) first new ≡ kept ++ drop last l
@@ -106,7 +106,7 @@ module _ (l pieces : List ℕ) (at from to count last : ℕ) (fits : at + length
         let over : first ≡ overwritten (take at first) first = sym (take-append-drop at first) ∙ ap (λ k. take at first ++ drop k first) (sym m) in
         after (take at first) pieces first first new at m over q
         ∙ ap (λ k. (take at first ++ pieces) ++ drop k first) n
-        ∙ rw (before, behind, ends) (sym (append-assoc (take at l ++ pieces) (take count (drop from l)) (drop last l)))
+        ∙ rw (before, later, ends) (sym (append-assoc (take at l ++ pieces) (take count (drop from l)) (drop last l)))
 
     pub all-put : cleared (putMid at (length first - at) first new) last ≡ (kept ++ replicate (130 - last) 0) ++ drop 130 l
     all-put = ap (λ r. cleared r last) pieces-put ∙ cleared-after kept l last length-kept few

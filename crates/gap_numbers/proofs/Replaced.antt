@@ -47,22 +47,22 @@ module _ {l : List ℕ} {n s e count : ℕ} {t : Touched} (c : Replaceable l n s
   sizes = count-left (c .holds) (c .touches) ∙ sym (c .counted)
 
   -- the numbers of the gaps after the range, and the place after the last gap
-  abbrev behind : ℕ
-  behind = 2 * (n - next)
+  abbrev later : ℕ
+  later = 2 * (n - next)
 
   abbrev last : ℕ
   last = 2 * count + 2
 
-  fits : 2 * first + 2 + length (gapNumbers piece) ≡ last - behind
+  fits : 2 * first + 2 + length (gapNumbers piece) ≡ last - later
   fits = omega (arith, length-gap-numbers piece, sizes)
 
-  pub ends : last - behind + behind ≡ last
+  pub ends : last - later + later ≡ last
   ends = omega (arith, sizes)
 
-  inside : 2 * next + 2 + behind ≤ 130
+  inside : 2 * next + 2 + later ≤ 130
   inside = omega (arith, c .holds .few, c .touches .passed, c .holds .counted)
 
-  kept-numbers : (take (2 * first + 2) l ++ gapNumbers piece) ++ take behind (drop (2 * next + 2) l)
+  kept-numbers : (take (2 * first + 2) l ++ gapNumbers piece) ++ take later (drop (2 * next + 2) l)
       ≡ getD l 0 0 ∷ getD l 1 0 ∷ gapNumbers left
   kept-numbers =
       let a = c .holds .counted in
@@ -71,7 +71,7 @@ module _ {l : List ℕ} {n s e count : ℕ} {t : Touched} (c : Replaceable l n s
       let front : take (2 * first + 2) l ≡ getD l 0 0 ∷ getD l 1 0 ∷ gapNumbers (take first (gapsIn l)) =
       ap (λ k. take k l) two ∙ two-first l (2 * first) (omega (arith, c .holds .long))
       ∙ ap (λ r. getD l 0 0 ∷ getD l 1 0 ∷ r) (sym (first-numbers l (c .holds .long) f first (omega (arith, c .touches .begun, c .touches .passed)))) in
-      let back : take behind (drop (2 * next + 2) l) ≡ gapNumbers (drop next (gapsIn l)) =
+      let back : take later (drop (2 * next + 2) l) ≡ gapNumbers (drop next (gapsIn l)) =
       ap (λ k. take (2 * (k - next)) (drop (2 * next + 2) l)) a ∙ sym (last-numbers l (c .holds .long) f next (c .touches .passed)) in
       rw (front, back, ← c .touches .left, gap-numbers-append (take first (gapsIn l)) (piece ++ drop next (gapsIn l)), gap-numbers-append piece (drop next (gapsIn l)))
       (ap (λ r. getD l 0 0 ∷ getD l 1 0 ∷ r) (append-assoc (gapNumbers (take first (gapsIn l))) (gapNumbers piece) (gapNumbers (drop next (gapsIn l)))))
@@ -79,11 +79,11 @@ module _ {l : List ℕ} {n s e count : ℕ} {t : Touched} (c : Replaceable l n s
   pub room : 2 * first + 2 + 2 * length piece ≤ 130
   room = omega (arith, sizes, few)
 
-  pub replaced : (moved-numbers new cleared-numbers : List ℕ) → moved-numbers ≡ moved l (2 * next + 2) (last - behind) behind
+  pub replaced : (moved-numbers new cleared-numbers : List ℕ) → moved-numbers ≡ moved l (2 * next + 2) (last - later) later
       → new ≡ overwritten (gapNumbers piece) (midOf (2 * first + 2) (length moved-numbers - (2 * first + 2)) moved-numbers)
       → cleared-numbers ≡ cleared (putMid (2 * first + 2) (length moved-numbers - (2 * first + 2)) moved-numbers new) last
       → set cleared-numbers 1 count ≡ holding left l
   replaced moved-numbers new cleared-numbers moving putting clearing =
       let k : 130 - last ≡ 2 * (64 - length left) = omega arith in
-      let all = all-put l (gapNumbers piece) (2 * first + 2) (2 * next + 2) (last - behind) behind last fits ends (omega arith) (c .holds .long) (omega (arith, inside, c .holds .long)) moved-numbers moving new putting in
+      let all = all-put l (gapNumbers piece) (2 * first + 2) (2 * next + 2) (last - later) later last fits ends (omega arith) (c .holds .long) (omega (arith, inside, c .holds .long)) moved-numbers moving new putting in
       ap (λ r. set r 1 count) (clearing ∙ all) ∙ rw (kept-numbers, k, c .counted, record-numbers (getD l 0 0) left l few) refl

@@ -266,7 +266,7 @@ fn clear(numbers: &mut [u64], from: usize)
 }
 
 // Puts what is left of the gaps in their place: the gaps after the range move, and the slots after the last gap hold 0. A gap's two
-// numbers stand after the size, the count and the gaps before it: `behind` are the numbers of the gaps after the range, and all after
+// numbers stand after the size, the count and the gaps before it: `later` are the numbers of the gaps after the range, and all after
 // `last` are free.
 fn replace(numbers: &mut [u64], gaps: usize, touched: Touched, start: u64, end: u64, count: usize)
     requires { ⌜ Replaceable (now numbers) gaps start end touched count ⌝ }
@@ -274,9 +274,9 @@ fn replace(numbers: &mut [u64], gaps: usize, touched: Touched, start: u64, end: 
 {
     let first = touched.first;
     let next = touched.next;
-    let behind = 2 * (gaps - next);
+    let later = 2 * (gaps - next);
     let last = 2 * count + 2;
-    move_numbers(numbers, 2 * next + 2, last - behind, behind);
+    move_numbers(numbers, 2 * next + 2, last - later, later);
     let at = 2 * first + 2;
     put_pieces(&mut numbers[at..], touched.low, start, end, touched.high);
     clear(numbers, last);

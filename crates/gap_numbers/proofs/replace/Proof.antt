@@ -5,11 +5,11 @@ use Rattle.gap_numbers.proofs.Replaced.{ends, room, replaced}
 use Rattle.gap_numbers.proofs.replace.Statement.{statement}
 use Rattle.gap_numbers.proofs.replace.Tie as tie
 
-sub-behind : tie.Need-sub-behind
-sub-behind c = search needs
+sub-later : tie.Need-sub-later
+sub-later c = search needs
 
-mul-behind : tie.Need-mul-behind
-mul-behind c = search needs
+mul-later : tie.Need-mul-later
+mul-later c = search needs
 
 mul-last : tie.Need-mul-last
 mul-last c = search needs
@@ -69,8 +69,8 @@ pub replace-spec : {M : Type 1} → statement M
 replace-spec =
     tie.close
     (tie.spec
-    sub-behind
-    mul-behind
+    sub-later
+    mul-later
     mul-last
     add-last
     mul-move-numbers
