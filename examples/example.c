@@ -1,5 +1,5 @@
 /* A tour of the library: a packet is read, a query is composed and evaluated on a tag list, an offer of two files is composed and read
- * back, and arrived bytes are marked. */
+ * back, arrived bytes are marked, and two saves of one model are merged. */
 #include <inttypes.h>
 #include <stdio.h>
 #include <string.h>
@@ -140,6 +140,13 @@ static void offer(void)
     }
 }
 
+static void print_gaps(const uint64_t *gaps)
+{
+    const uint64_t *gap = gaps + ED2K_GAPS_FIRST;
+    for (uint64_t left = gaps[ED2K_GAPS_COUNT]; left > 0; left--, gap += 2)
+        printf("  gap %" PRIu64 " up to %" PRIu64 "\n", gap[0], gap[1]);
+}
+
 static void mark(void)
 {
     uint64_t gaps[ED2K_GAP_NUMBERS];
@@ -148,11 +155,49 @@ static void mark(void)
     printf("all missing: number %u\n", number);
     number = ed2k_mark(gaps, ED2K_GAP_NUMBERS, 200, 500, &missing);
     printf("mark 200 up to 500: number %u, missing %" PRIu64 "\n", number, missing);
-    const uint64_t *gap = gaps + ED2K_GAPS_FIRST;
-    for (uint64_t left = gaps[ED2K_GAPS_COUNT]; left > 0; left--, gap += 2)
-        printf("  gap %" PRIu64 " up to %" PRIu64 "\n", gap[0], gap[1]);
+    print_gaps(gaps);
     number = ed2k_mark(gaps, ED2K_GAP_NUMBERS, 900, 1001, &missing);
     printf("mark 900 up to 1001: number %u, missing %" PRIu64 "\n", number, missing);
+}
+
+/* What a window wants to save that opened this part.met, and in which these bytes have arrived, in `saved`; how many bytes it has. */
+static size_t save_of_window(const uint8_t *opened, size_t length, uint64_t start, uint64_t end, uint8_t *saved, size_t room)
+{
+    uint64_t gaps[ED2K_GAP_NUMBERS], missing;
+    size_t saved_length = 0;
+    uint8_t number = ed2k_read_gaps(opened, length, gaps, ED2K_GAP_NUMBERS);
+    if (number == ED2K_ACCEPTED)
+        number = ed2k_mark(gaps, ED2K_GAP_NUMBERS, start, end, &missing);
+    if (number == ED2K_ACCEPTED)
+        number = ed2k_put_gaps(opened, length, gaps, ED2K_GAP_NUMBERS, saved, room, &saved_length);
+    printf("window with %" PRIu64 " up to %" PRIu64 ": number %u, %zu bytes\n", start, end, number, saved_length);
+    return saved_length;
+}
+
+/* Two windows opened one part.met. Saving the one over the other would lose what arrived in the other: they are merged. */
+static void merge(void)
+{
+    static const uint8_t opened[] = {
+        0xe0, 0, 0, 0, 0,                               /* E0, date */
+        7, 7, 7, 7, 7, 7, 7, 7, 7, 7, 7, 7, 7, 7, 7, 7, /* hash */
+        0, 0, 3, 0, 0, 0,                               /* no part hashes, three tags */
+        3, 1, 0, 0x02, 0xe8, 3, 0, 0,                   /* the size, 1000 */
+        3, 2, 0, 0x09, '0', 0, 0, 0, 0,                 /* where the one gap begins */
+        3, 2, 0, 0x0a, '0', 0xe8, 3, 0, 0               /* and ends */
+    };
+    uint8_t first[128], second[128], merged[384];
+    size_t first_length = save_of_window(opened, sizeof opened, 0, 300, first, sizeof first);
+    size_t second_length = save_of_window(opened, sizeof opened, 500, 700, second, sizeof second);
+    size_t length;
+    uint8_t number =
+        ed2k_merge(opened, sizeof opened, first, first_length, second, second_length, merged, sizeof merged, &length);
+    printf("merge: number %u, %zu bytes\n", number, length);
+    uint64_t gaps[ED2K_GAP_NUMBERS];
+    if (ed2k_read_gaps(merged, length, gaps, ED2K_GAP_NUMBERS) == ED2K_ACCEPTED)
+        print_gaps(gaps);
+    second[5] ^= 1; /* the file hash */
+    number = ed2k_merge(opened, sizeof opened, first, first_length, second, second_length, merged, sizeof merged, &length);
+    printf("another hash: number %u, %s\n", number, ed2k_meaning(number));
 }
 
 int main(void)
@@ -161,5 +206,6 @@ int main(void)
     search();
     offer();
     mark();
+    merge();
     return 0;
 }

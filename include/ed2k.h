@@ -1,5 +1,5 @@
 /*
- * ed2k: packets, queries and met files of the eDonkey protocol, read, written, marked and saved by proved code.
+ * ed2k: packets, queries and met files of the eDonkey protocol, read, written, marked, saved and merged by proved code.
  *
  * Every call answers with a number: ED2K_ACCEPTED, or why it refuses (ED2K_REFUSED_.. below). A refused call leaves the arrays and
  * the output that it was lent as they were, and 0 in `written`, `missing` and `truth`; an accepted one changes nothing after what it
@@ -25,17 +25,18 @@ extern "C" {
 /* The numbers that calls answer with. */
 enum {
     ED2K_ACCEPTED = 0,
-    ED2K_REFUSED_SHORT = 1,    /* the bytes end before the item being read ends */
-    ED2K_REFUSED_OPENING = 2,  /* the first byte is not one of this link's or file's */
-    ED2K_REFUSED_LENGTH = 3,   /* the header's length is 0 or is not the number of bytes after the header */
-    ED2K_REFUSED_KIND = 4,     /* the opcode is not listed for the link, or the kind is none of those below */
-    ED2K_REFUSED_CHOICE = 5,   /* a byte is outside its list, an unused status bit is set, or a tag name has length 0 */
-    ED2K_REFUSED_LIMIT = 6,    /* a ceiling is exceeded */
-    ED2K_REFUSED_REST = 7,     /* bytes are left after the last item */
-    ED2K_REFUSED_RANGE = 8,    /* a start, end or gap breaks its rule */
-    ED2K_REFUSED_SIZE = 9,     /* a part.met has not exactly one size tag */
-    ED2K_REFUSED_ROOM = 10,    /* the lent output is too small */
-    ED2K_REFUSED_CONFLICT = 11 /* the stored file differs from the one opened */
+    ED2K_REFUSED_SHORT = 1,     /* the bytes end before the item being read ends */
+    ED2K_REFUSED_OPENING = 2,   /* the first byte is not one of this link's or file's */
+    ED2K_REFUSED_LENGTH = 3,    /* the header's length is 0 or is not the number of bytes after the header */
+    ED2K_REFUSED_KIND = 4,      /* the opcode is not listed for the link, or the kind is none of those below */
+    ED2K_REFUSED_CHOICE = 5,    /* a byte is outside its list, an unused status bit is set, or a tag name has length 0 */
+    ED2K_REFUSED_LIMIT = 6,     /* a ceiling is exceeded */
+    ED2K_REFUSED_REST = 7,      /* bytes are left after the last item */
+    ED2K_REFUSED_RANGE = 8,     /* a start, end or gap breaks its rule */
+    ED2K_REFUSED_SIZE = 9,      /* a part.met has not exactly one size tag */
+    ED2K_REFUSED_ROOM = 10,     /* the lent output is too small */
+    ED2K_REFUSED_CONFLICT = 11, /* the stored file differs from the one opened, or two saves changed something in different ways */
+    ED2K_REFUSED_STRANGERS = 12 /* the files are not of one model */
 };
 
 /* What a call's number means, in words. */
@@ -65,7 +66,9 @@ static inline const char *ed2k_meaning(uint8_t number)
     case ED2K_REFUSED_ROOM:
         return "the lent output is too small";
     case ED2K_REFUSED_CONFLICT:
-        return "the stored file differs from the one opened";
+        return "the stored file differs from the one opened, or two saves changed something in different ways";
+    case ED2K_REFUSED_STRANGERS:
+        return "the files are not of one model";
     default:
         return "a number that this header does not have";
     }
@@ -341,6 +344,22 @@ uint8_t ed2k_put_gaps(const uint8_t *file, size_t length, const uint64_t *gaps, 
  * No file is touched: examples/saving.c does this with one on the disk, from the lock to the renaming. */
 uint8_t ed2k_save(const uint8_t *stored, size_t stored_length, const uint8_t *opened, size_t opened_length, const uint8_t *saved,
                   size_t saved_length, uint8_t *output, size_t room, size_t *written);
+
+/*
+ * Merges two saves of one part.met: `opened` is the file that both windows opened, `first` and `second` are what they want to save. A
+ * byte that the opened file misses is missing in the outcome exactly when both saves miss it; a byte that it has, exactly when either
+ * save misses it. The date is the later one of the two saves. The opening form with its hash lists, as one value, and the tags other
+ * than gap tags, as one list, are those of the save that changed them; equal changes are one change. The gaps come after the other tags,
+ * numbered from 0. In this order:
+ *   ..  the own number of `opened`, that of `first`, that of `second`
+ *   12  the file hash or the size differs in any two
+ *   11  the form with its hash lists, or the other tags, were changed in two different ways
+ *   6   more than 64 gaps, or more than 1,048,576 bytes
+ *   10
+ * An outcome has at most first_length + second_length + 1,280 bytes.
+ */
+uint8_t ed2k_merge(const uint8_t *opened, size_t opened_length, const uint8_t *first, size_t first_length, const uint8_t *second,
+                   size_t second_length, uint8_t *output, size_t room, size_t *written);
 
 /* Whether a lone query holds on a lone tag list: `truth` takes 0 or 1, and 0 where the call refuses. The query's refusals come before
  * the list's. Each leaf that is asked scans the list once, in time linear in the bytes of the list, so the cost is at most the leaves

@@ -35,6 +35,7 @@ pub fn assert_agreement() {
         compare_reading(comparison, kind, &perhaps_damaged(random, kind, bytes));
     });
     comparison.rounds(ROUNDS, compare_parts);
+    comparison.rounds(ROUNDS, compare_merge);
     comparison.rounds(ROUNDS, compare_truth);
     comparison.rounds(ROUNDS, compare_marking);
 }
@@ -87,6 +88,21 @@ fn compare_parts(comparison: &mut Comparison, random: &mut Random) {
     let opened = &perhaps_damaged(random, PART_MET, file.clone());
     comparison.writing("save", &[file, opened], |calls, output, written| {
         (calls.save)(file, opened, file, output, written)
+    });
+}
+
+/// Saves of a small model, whose forms, tags and gaps are changed, or those of a line.
+fn compare_merge(comparison: &mut Comparison, random: &mut Random) {
+    let files = if random.once_in(2) {
+        inputs::some_saves(random)
+    } else {
+        let gaps = random.pick(&[1, 8, 63, 64]);
+        let part = files::long_part(random, 3_000, gaps);
+        files::two_saves(random, &part).map(|file| perhaps_damaged(random, PART_MET, file))
+    };
+    let [opened, first, second] = &files;
+    comparison.writing("merge", &[opened, first, second], |calls, output, written| {
+        (calls.merge)(opened, first, second, output, written)
     });
 }
 

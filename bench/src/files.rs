@@ -4,7 +4,7 @@
 use std::ops::Range;
 
 use crate::inputs::{self, Gaps, Random, counted};
-use crate::plain::MET_CEILING;
+use crate::plain::{MET_CEILING, PLAIN};
 
 /// What aMule wrote; the tags of a made file are theirs, in their order, with other values.
 const SAMPLES: [&[u8]; 3] = [
@@ -141,6 +141,40 @@ pub fn common_part(random: &mut Random) -> PartFile {
 /// A part.met near the ceiling, with room for more gaps below it.
 pub fn longest_part(random: &mut Random) -> PartFile {
     long_part(random, MET_CEILING - 2_048, 8)
+}
+
+/// The file that two windows opened, and their saves: in each window a part of every gap arrived, and
+/// mostly one of them wrote a tag more. Each save has its gap tags last, as `put_gaps` leaves them.
+pub fn two_saves(random: &mut Random, opened: &PartFile) -> [Vec<u8>; 3] {
+    let save = |arrived: fn((u64, u64)) -> (u64, u64)| {
+        let gaps = opened.gaps.iter().copied().map(arrived).collect();
+        let record = inputs::gap_record(opened.size.into(), &gaps, 0);
+        let mut bytes = vec![0; opened.bytes.len() + GAP_TAGS];
+        let mut length = 0;
+        let number = (PLAIN.put_gaps)(&opened.bytes, &record, &mut bytes, &mut length);
+        assert_eq!(number, 0, "the gaps fit into the file");
+        bytes.truncate(length);
+        bytes
+    };
+    let first = save(|(start, end)| (start + (end - start) / 4, end));
+    let second = save(|(start, end)| (start, end - (end - start) / 4));
+    let (first, second) = match random.below(3) {
+        0 => (first, second),
+        1 => (with_one_tag_more(first), second),
+        _ => (first, with_one_tag_more(second)),
+    };
+    [opened.bytes.clone(), first, second]
+}
+
+/// Room for the tags of 64 gaps.
+const GAP_TAGS: usize = 64 * 2 * 10;
+
+/// An E0 with no part hashes, as [`long_part`] makes it, with one tag more.
+fn with_one_tag_more(mut file: Vec<u8>) -> Vec<u8> {
+    let count = u32::from_le_bytes(file[23..27].try_into().expect("four bytes")) + 1;
+    file[23..27].copy_from_slice(&count.to_le_bytes());
+    dword_tag(&[0x05], 1, &mut file);
+    file
 }
 
 /// The tags of a model's entry, in the order of samples/amule_known_0E.met.

@@ -2,7 +2,7 @@
 
 _ed2k() {
     local current=${COMP_WORDS[COMP_CWORD]} before=${COMP_WORDS[COMP_CWORD - 1]}
-    local subcommands='read show gaps mark search save help'
+    local subcommands='read show gaps mark search save merge help'
     local kinds='server-link client-link udp known.met server.met part.met query tags'
     COMPREPLY=()
 
@@ -48,6 +48,7 @@ _ed2k() {
         mark) offered+=' --dry-run --wait' ;;
         search) offered+=' --name --type --min --max' ;;
         save) offered+=' --wait --opened --new' ;;
+        merge) offered+=' --json --wait --opened' ;;
         esac
         COMPREPLY=($(compgen -W "$offered" -- "$current"))
         return

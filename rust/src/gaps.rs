@@ -10,8 +10,8 @@ use crate::refusal::Refusal;
 /// How many gaps a record has at most.
 pub const GAP_CEILING: usize = 64;
 
-/// Two tags for each gap: type, WORD, 0A or 09 with at most two digits, DWORD.
-const GAP_TAGS_BYTES: usize = GAP_CEILING * 2 * 10;
+/// How many bytes the tags of all gaps have at most, two tags for each gap: type, WORD, 0A or 09 with at most two digits, DWORD.
+pub(crate) const GAP_TAGS_BYTES: usize = GAP_CEILING * 2 * 10;
 
 /// A run of missing bytes, from `start` up to `end`, which is the first offset after it.
 #[derive(Clone, Copy, Debug, PartialEq, Eq, Hash)]

@@ -1,4 +1,4 @@
-//! Packets, queries and met files of the eDonkey protocol: read, written, marked and saved by proved code.
+//! Packets, queries and met files of the eDonkey protocol: read, written, marked, saved and merged by proved code.
 //!
 //! The work is done by an archive of proved code; this crate gives it types and names. Bytes are lent, and what is read
 //! are values and parts of those bytes; nothing is copied. Every call either does all that it says, or refuses with a
@@ -9,6 +9,7 @@
 //! - [`GapRecord`]: what is missing of a file, and marking what arrived; [`put_gaps`];
 //! - [`save`]: the new file, unless the stored one is not the one that was opened; [`disk::save`]: the same with a file on the
 //!   disk, from the lock to the renaming;
+//! - [`merge`]: one file of two saves and the file that both windows opened;
 //! - [`truth`]: whether a query holds on a tag list;
 //! - [`mod@write`]: writers of packets, met files, queries and tag lists.
 //!
@@ -28,6 +29,7 @@ mod gaps;
 mod items;
 mod kind;
 mod list;
+mod merging;
 mod message;
 mod met;
 mod names;
@@ -50,6 +52,7 @@ pub use items::{
 };
 pub use kind::{Kind, Link, MET_CEILING, PACKET_CEILING, UnknownKind};
 pub use list::{Entry, List};
+pub use merging::{merge, merge_into};
 pub use message::{Message, read, read_tags};
 pub use met::{
     BLOCK_SIZE, KnownMet, PART_SIZE, PartMet, ServerMet, block_count, part_count, read_known_met,

@@ -3,7 +3,8 @@
 use std::error::Error;
 use std::fmt;
 
-/// Why bytes, a range, a record or a save are refused. Each has its number in document 01 and in the reading program.
+/// Why bytes, a range, a record, a save or a merge are refused. Each has its number in documents 01 and 02 and in the reading
+/// program.
 ///
 /// More may come with later requests, each with a number above those here, so a `match` outside of this crate needs an arm
 /// `_`. What it gets is a refusal like the others: nothing was done, [`Refusal::number`] says which it is, and it prints
@@ -44,8 +45,10 @@ pub enum Refusal {
     Size = 9,
     /// 10: the lent output is too small.
     Room = 10,
-    /// 11: the stored file differs from the one opened.
+    /// 11: the stored file differs from the one opened, or two saves changed something in different ways.
     Conflict = 11,
+    /// 12: the files are not of one model.
+    Strangers = 12,
 }
 
 impl Refusal {
@@ -62,9 +65,10 @@ impl Refusal {
         Refusal::Size,
         Refusal::Room,
         Refusal::Conflict,
+        Refusal::Strangers,
     ];
 
-    /// The number that document 01 gives it.
+    /// The number that the documents give it.
     pub fn number(self) -> u8 {
         self as u8
     }
@@ -89,7 +93,10 @@ impl Refusal {
             Refusal::Range => "a start, end or gap breaks its rule",
             Refusal::Size => "a part.met has not exactly one size tag",
             Refusal::Room => "the lent output is too small",
-            Refusal::Conflict => "the stored file differs from the one opened",
+            Refusal::Conflict => {
+                "the stored file differs from the one opened, or two saves changed something in different ways"
+            }
+            Refusal::Strangers => "the files are not of one model",
         }
     }
 }

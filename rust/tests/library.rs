@@ -464,6 +464,42 @@ fn a_save_is_refused_by_its_own_bytes_then_by_the_stored_ones() {
 }
 
 #[test]
+fn two_saves_are_merged_or_left_alone() {
+    let file = |date, gaps: &[_]| packets::part_met(date, 3, 100, gaps);
+    let opened = file(9, &[(0, 100)]);
+    let (first, second) = (file(7, &[(30, 100)]), file(8, &[(0, 60), (90, 100)]));
+    let merged = file(8, &[(30, 60), (90, 100)]);
+    assert_eq!(ed2k::merge(&opened, &first, &second).unwrap(), merged);
+    let mut room = vec![7; merged.len() + 1];
+    assert_eq!(ed2k::merge_into(&opened, &first, &second, &mut room), Ok(merged.len()));
+    assert_eq!(room, [&merged[..], &[7]].concat());
+    let mut small = vec![7; merged.len() - 1];
+    assert_eq!(ed2k::merge_into(&opened, &first, &second, &mut small), Err(Refusal::Room));
+    assert!(small.iter().all(|byte| *byte == 7));
+    assert_eq!(ed2k::merge(&opened[1..], &first, &[]), Err(Refusal::Opening));
+    assert_eq!(ed2k::merge(&opened, &[], &second[1..]), Err(Refusal::Short));
+    assert_eq!(ed2k::merge(&opened, &first, &second[1..]), Err(Refusal::Opening));
+    let other_lists = [packets::part_met(9, 2, 100, &[]), packets::part_met(9, 4, 100, &[])];
+    assert_eq!(ed2k::merge(&opened, &other_lists[0], &other_lists[1]), Err(Refusal::Conflict));
+    assert_eq!(
+        ed2k::merge(&opened, &other_lists[0], &packets::part_met(9, 4, 101, &[])),
+        Err(Refusal::Strangers)
+    );
+}
+
+/// The form of one save, the tags of the other, and more gaps than either has.
+#[test]
+fn a_merge_that_is_longer_than_both_saves_fits_into_its_own_room() {
+    let gaps = |start: u32| (0..32).map(|gap| (start + 4 * gap, start + 4 * gap + 1)).collect::<Vec<_>>();
+    let opened = packets::part_met(0, 0, 300, &[]);
+    let first = packets::part_met(0, 500, 300, &gaps(0));
+    let second = packets::part_met(0, 0, 300, &gaps(2));
+    let merged = ed2k::merge(&opened, &first, &second).unwrap();
+    assert!(merged.len() > first.len().max(second.len()));
+    assert_eq!(GapRecord::read(&merged).unwrap().gaps().len(), 64);
+}
+
+#[test]
 fn truth_is_that_of_the_papers() {
     let tags = packets::list(&packets::four_tags());
     let truth = |query: Result<Vec<u8>, Refusal>| ed2k::truth(&query.unwrap(), &tags).unwrap();
@@ -494,7 +530,7 @@ fn refusals_have_their_numbers() {
         assert_eq!(Refusal::from_number(refusal.number()), Some(refusal));
     }
     assert_eq!(Refusal::from_number(0), None);
-    assert_eq!(Refusal::from_number(12), None);
+    assert_eq!(Refusal::from_number(13), None);
 }
 
 /// Outside of the crate an arm `_` is asked for, and can be reached, though every case of today is named before it.
@@ -504,7 +540,7 @@ fn later_cases_need_an_arm_of_their_own() {
     let met = |refusal| match refusal {
         Refusal::Short | Refusal::Opening | Refusal::Length | Refusal::Kind | Refusal::Choice => "today",
         Refusal::Limit | Refusal::Rest | Refusal::Range | Refusal::Size | Refusal::Room => "today",
-        Refusal::Conflict => "today",
+        Refusal::Conflict | Refusal::Strangers => "today",
         _ => "later",
     };
     assert!(Refusal::ALL.iter().all(|refusal| met(*refusal) == "today"));

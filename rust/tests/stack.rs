@@ -184,6 +184,26 @@ fn files_written() {
     writes("save", |output, written| (ARCHIVE.save)(&file, &file, &saved, output, written));
 }
 
+/// The file with its gap tags after the others.
+fn with_gaps_last(file: &[u8]) -> Vec<u8> {
+    let (mut record, mut output) = (vec![0; plain::GAP_NUMBERS], vec![0; MET_CEILING]);
+    plain::read_gaps(file, &mut record).expect("a file");
+    let length = plain::put_gaps(file, &record, &mut output).expect("the same gaps");
+    output.truncate(length);
+    output
+}
+
+/// Files with 64 gaps and with 1 MiB of tags, whose gap tags stand at the same place and at another.
+#[test]
+fn saves_merged() {
+    for opened in [part_met_with_gaps(), made(plain::PART_MET, MET_CEILING)] {
+        let moved = with_gaps_last(&opened);
+        for (first, second) in [(&opened, &opened), (&moved, &opened), (&moved, &moved)] {
+            writes("merge", |output, written| (ARCHIVE.merge)(&opened, first, second, output, written));
+        }
+    }
+}
+
 #[test]
 fn queries_and_tags_written() {
     let (text, name, hash) = (vec![b'x'; 65_000], vec![b'n'; 255], [7; 16]);

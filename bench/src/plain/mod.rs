@@ -5,6 +5,7 @@
 
 mod cursor;
 mod gaps;
+mod merging;
 mod met;
 mod packets;
 mod part;
@@ -26,6 +27,9 @@ pub const PLAIN: Calls = Calls {
     put_gaps: |file, record, output, written| leave(part::put_gaps(file, record, output), written),
     save: |stored, opened, saved, output, written| {
         leave(part::save(stored, opened, saved, output), written)
+    },
+    merge: |opened, first, second, output, written| {
+        leave(merging::merge(opened, first, second, output), written)
     },
     truth: |query, tags, truth| leave(query::truth(query, tags).map(u8::from), truth),
     ..reference::PLAIN

@@ -5,7 +5,7 @@ use super::gaps::{Lawful, lawful};
 use super::tags::{after_tag, fault};
 use super::{Answer, Fields, GAP_CEILING, GAP_NUMBERS, MET_CEILING, Refusal, within};
 
-const COUNTED_OPENING: u8 = 0xE0;
+pub(super) const COUNTED_OPENING: u8 = 0xE0;
 const BLOCKS_OPENING: u8 = 0xE1;
 const PART_BYTES: u32 = 9_728_000;
 const BLOCK_BYTES: u32 = 486_400;
@@ -14,12 +14,12 @@ const SIZE_TAG: [u8; 4] = [3, 1, 0, 2];
 const START: u8 = 0x09;
 const END: u8 = 0x0A;
 
-struct Part {
-    opening: u8,
-    date: u32,
-    hash: u64,
-    size: u32,
-    tags: List,
+pub(super) struct Part {
+    pub opening: u8,
+    pub date: u32,
+    pub hash: u64,
+    pub size: u32,
+    pub tags: List,
     /// Which hash lists it has, by the numbers of `ed2k.h`.
     which: u64,
     parts: List,
@@ -27,16 +27,17 @@ struct Part {
 }
 
 /// A gap, and the byte range of its two tags.
-struct Pair {
-    start: u32,
-    end: u32,
-    at: usize,
-    next: usize,
+#[derive(Clone, Copy, Default)]
+pub(super) struct Pair {
+    pub start: u32,
+    pub end: u32,
+    pub at: usize,
+    pub next: usize,
 }
 
 /// Reads the whole file; `keep` is given each gap as it is met, also where a later rule is broken.
 #[inline]
-fn read(file: &[u8], keep: impl FnMut(usize, Pair)) -> Answer<Part> {
+pub(super) fn read(file: &[u8], keep: impl FnMut(usize, Pair)) -> Answer<Part> {
     within(file, MET_CEILING)?;
     let mut cursor = Cursor::new(file);
     let part = match cursor.byte()? {
@@ -287,29 +288,35 @@ pub fn put_gaps(file: &[u8], record: &[u64], output: &mut [u8]) -> Answer<usize>
     }
     output.put(&file[from..part.tags.end]);
     for (number, &[start, end]) in gaps.iter().enumerate() {
-        output.put_gap_tag(START, number as u8, start as u32);
-        output.put_gap_tag(END, number as u8, end as u32);
+        output.put_pair(number, start as u32, end as u32);
     }
     output.put(&file[part.tags.end..]);
     Ok(length)
 }
 
 /// Two tags of type, name length, name of a byte and one or two digits, and DWORD.
-fn pairs_bytes(count: usize) -> usize {
+pub(super) fn pairs_bytes(count: usize) -> usize {
     18 * count + 2 * count.saturating_sub(10)
 }
 
 /// What is left of the output.
-struct Output<'a> {
-    rest: &'a mut [u8],
+pub(super) struct Output<'a> {
+    pub rest: &'a mut [u8],
 }
 
 impl Output<'_> {
     #[inline]
-    fn put(&mut self, bytes: &[u8]) {
+    pub fn put(&mut self, bytes: &[u8]) {
         let (front, rest) = std::mem::take(&mut self.rest).split_at_mut(bytes.len());
         front.copy_from_slice(bytes);
         self.rest = rest;
+    }
+
+    /// The tags of the gap with this number.
+    #[inline]
+    pub fn put_pair(&mut self, number: usize, start: u32, end: u32) {
+        self.put_gap_tag(START, number as u8, start);
+        self.put_gap_tag(END, number as u8, end);
     }
 
     #[inline]

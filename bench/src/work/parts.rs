@@ -1,4 +1,4 @@
-//! The gaps of part.met files: reading, marking, putting and saving.
+//! The gaps of part.met files: reading, marking, putting, saving and merging.
 
 use super::reading::reading;
 use super::{Messages, Work, made};
@@ -22,6 +22,8 @@ pub const LINES: &[fn() -> Work] = &[
     puts,
     || saves("save of 4 KiB", 4_096, |random| files::long_part(random, 4_096, 8)),
     longest_save,
+    || merges("merge of 4 KiB, 64 gaps", 4_096, |random| files::long_part(random, 4_096, 64)),
+    || merges("merge of 1 MiB", 1 << 20, files::longest_part),
 ];
 
 fn common_parts() -> impl Iterator<Item = PartFile> {
@@ -137,6 +139,21 @@ fn saves(name: &str, length: usize, make: impl Fn(&mut Random) -> PartFile) -> W
 
 pub fn longest_save() -> Work {
     saves("save of 1 MiB", 1 << 20, files::longest_part)
+}
+
+/// The bytes of all three files count.
+fn merges(name: &str, length: usize, make: impl Fn(&mut Random) -> PartFile) -> Work {
+    let three = |random: &mut Random| {
+        let opened = make(random);
+        files::two_saves(random, &opened)
+    };
+    let files: Messages = made(3 * length, three).flatten().collect();
+    let (count, amount) = (files.count() / 3, files.bytes.len());
+    let work = Work::new(name, count, move |calls, index, lent| {
+        let [opened, first, second] = [0, 1, 2].map(|file| files.at(3 * index + file));
+        (calls.merge)(opened, first, second, &mut lent.output, &mut lent.written)
+    });
+    work.of_bytes(amount).with_room(length + SHORT_ROOM)
 }
 
 /// What a save of 1 MiB cannot do without: comparing, copying and reading as many bytes.

@@ -1,10 +1,11 @@
-// The calls over gap records, which C lends as numbers, and over part.met files: gaps, marking, putting and saving.
+// The calls over gap records, which C lends as numbers, and over part.met files: gaps, marking, putting, saving and merging.
 ghost use mathlib.Core.Path.{_≡_};
 ghost use Rattle.format.specs.Messages.{partMet};
 ghost use Rattle.format.specs.Decoding.{reply};
 ghost use Rattle.format.specs.MetOrder.{decode};
 ghost use Rattle.format.specs.Gaps.{sizeLimit};
 ghost use Rattle.format.specs.Saving.{save};
+ghost use Rattle.format.specs.Merging.{Merges};
 ghost use Rattle.gaps.specs.Marking.{marked};
 ghost use Rattle.met.specs.MetAnswers.{gapsAnswer};
 ghost use Rattle.put_gaps.specs.PutAnswers.{putRecord};
@@ -99,6 +100,21 @@ pub extern "C" fn ed2k_save(
     ensures { λ r. ⌜ leaves r (now (written .exit)) (now (output .exit)) ≡ save (now (stored .entry)) (now (opened .entry)) (now (saved .entry)) (now (output .entry)) ⌝ }
 {
     let answer = save::save(stored, opened, saved, output);
+    *written = answer.length;
+    answer.number
+}
+
+#[no_mangle]
+pub extern "C" fn ed2k_merge(
+    opened: &[u8],
+    first: &[u8],
+    second: &[u8],
+    output: &mut [u8],
+    written: &mut usize,
+) -> u8
+    ensures { λ r. ⌜ Merges (now (opened .entry)) (now (first .entry)) (now (second .entry)) (now (output .entry)) (leaves r (now (written .exit)) (now (output .exit))) ⌝ }
+{
+    let answer = merge::merge(opened, first, second, output);
     *written = answer.length;
     answer.number
 }

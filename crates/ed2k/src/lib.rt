@@ -34,6 +34,7 @@ pub use compose::ed2k_write_text_tag;
 pub use gap_records::ed2k_all_missing;
 pub use gap_records::ed2k_count_missing;
 pub use gap_records::ed2k_mark;
+pub use gap_records::ed2k_merge;
 pub use gap_records::ed2k_put_gaps;
 pub use gap_records::ed2k_read_gaps;
 pub use gap_records::ed2k_save;

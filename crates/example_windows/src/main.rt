@@ -1,6 +1,9 @@
 // Two windows of an editor open one part.met, mark different ranges and save: the first save is accepted, the second is refused
-// as a conflict (11), and the stored bytes are the first's. Each step prints one line.
+// as a conflict (11), and the stored bytes are the first's. Then the second window merges its save with what is stored and saves that, over
+// what it merged with: both ranges have arrived. Each step prints one line.
+use gaps::count_missing;
 use gaps::mark;
+use merge::merge;
 use met::read_gaps;
 use output::WriteAnswer;
 use output::same;
@@ -105,6 +108,22 @@ fn show_same(a: &[u8], b: &[u8]) {
     }
 }
 
+// Merges what a window made with what is stored, and saves the outcome over that.
+fn merge_window(opened: &[u8], stored: &[u8], made: &[u8], out: &mut [u8]) -> WriteAnswer {
+    let mut merged = [0; 128];
+    let answer = merge(opened, stored, made, &mut merged);
+    say(b"merge: answer ", answer.number as u64);
+    save_window(stored, stored, &merged, answer.length, out)
+}
+
+fn show_missing(file: &[u8]) {
+    let read = read_gaps(file);
+    say(
+        b"bytes missing in the stored file: ",
+        count_missing(read.gaps),
+    );
+}
+
 fn main() {
     let mut first = [0; 128];
     let mut second = [0; 128];
@@ -120,4 +139,7 @@ fn main() {
         second_save.length as u64,
     );
     show_same(now, bytes_at(&first, 0, first_length));
+    let mut both = [0; 128];
+    let merged = merge_window(&OPENED, now, bytes_at(&second, 0, second_length), &mut both);
+    show_missing(bytes_at(&both, 0, merged.length));
 }

@@ -12,7 +12,7 @@ use Rattle.format.specs.Tables.{pick, same}
 use Rattle.format.specs.Messages.{PartMet, partMet}
 use Rattle.format.specs.Layout.{encode, encodePartMet}
 use Rattle.format.specs.Rules.{ceiling, metCeiling}
-use Rattle.format.specs.Decoding.{Answer, Rule, accepted, number, refusal}
+use Rattle.format.specs.Decoding.{Answer, accepted, number, refusal}
 use Rattle.format.specs.MetOrder.{decode}
 use Rattle.format.specs.Gaps.{Gap, Lawful, Marking, count, gapLimit, inside, lawful, leaves, marking, missing, rejected, subtract, within}
 use Rattle.format.specs.Writing.{Written, overwritten, refuses, tries, unwritten, writtenInto}
@@ -23,34 +23,18 @@ use Rattle.format.specs.Demands.{TrueCount, Untouched, WriteExact, Writt
 use Rattle.format.proofs.Acceptance.{accepts, unambiguous}
 use Rattle.format.proofs.Differ.{differ}
 use Rattle.format.proofs.Gaps.{both-true, lawful-exactly, missing-subtract, never, outside-both, subtract-lawful}
+use Rattle.format.proofs.Merging.{conflict-exactly, merge-once, merge-read-back, refused-merge, strangers-exactly}
 use Rattle.format.proofs.PartRefusals.{nine}
 use Rattle.format.proofs.PartTags.{same-not, same-refl, same-true}
 use Rattle.format.proofs.RoundTrip.{accepted-valid, valid-accepted}
 use Rattle.format.proofs.Truth.{holds-exactly}
-use Rattle.format.proofs.Writing.{judged-once, number-some, read-judged, reads-writes, writes-once, writes-reads}
+use Rattle.format.proofs.Writing.{judged-once, number-below, number-some, read-judged, reads-writes, writes-once, writes-reads}
 
 -- Demand 1
 
 ceiling-first : CeilingFirst
 unfolding decode
 ceiling-first k s h = rw (lt-leb (length s) (ceiling k) h) refl
-
--- The numbers of a reader are 1 to 9.
-number-below : (r : Rule) → number r < 10
-number-below Rule.short = omega arith
-number-below Rule.opening = omega arith
-number-below Rule.frameLength = omega arith
-number-below Rule.kind = omega arith
-number-below Rule.choice = omega arith
-number-below Rule.statusBit = omega arith
-number-below Rule.bytesCeiling = omega arith
-number-below Rule.depthCeiling = omega arith
-number-below Rule.nameCeiling = omega arith
-number-below Rule.gapCeiling = omega arith
-number-below Rule.rest = omega arith
-number-below Rule.order = omega arith
-number-below Rule.dataLength = omega arith
-number-below Rule.sizeTag = omega arith
 
 untouched-room : (bytes output : List ℕ) → Untouched output (writtenInto bytes output)
 untouched-room bytes output = go (leb (length bytes) (length output))
@@ -204,6 +188,10 @@ demands = record {
   refusedWrite = refused-write;
   refusedSave = refused-save;
   refusedPut = refused-put;
+  refusedMerge = refused-merge;
+  mergeOnce = merge-once;
+  strangers = strangers-exactly;
+  mergeConflict = conflict-exactly;
   conflict = conflict;
   saved = saved;
   writeOnce = λ k m output v w. writes-once k m output;
@@ -212,6 +200,7 @@ demands = record {
   readBack = λ k m output w. writes-reads k m output;
   missingAtEnd = missing-at-end;
   trueCount = true-count;
+  mergeReadBack = merge-read-back;
   trueSearch = holds-exactly;
   acceptsExactly = accepts;
   unambiguous = unambiguous;

@@ -11,10 +11,13 @@ pub mod PartTags
 pub mod PartRefusals
 pub mod PartMet
 pub mod Acceptance
+pub mod Decimals
 pub mod Many
 pub mod There
 pub mod Cases
 pub mod Truth
 pub mod Writing
+pub mod Regapped
+pub mod Merging
 pub mod RoundTrip
 pub mod Demands

@@ -3,7 +3,7 @@ use mathlib.Core.Path.{_≡_, refl, sym, ap, _∙_, subst}
 use mathlib.Core.Bool.{Bool, true, false}
 use mathlib.Core.Logic.{_↔_}
 use mathlib.Core.List.{List, [], _∷_, append-nil}
-use Prim.Native.Nat.{ℕ, zero, suc, _+_, _-_, _≤_}
+use Prim.Native.Nat.{ℕ, zero, suc, _+_, _-_, _≤_, _<_}
 use native.Mathlib.Omega.{arith}
 use lib.ListN.{length, take, drop, length-append, length-drop}
 use lib.Seq.{take-append-seam, take-at}
@@ -36,22 +36,28 @@ module _ {A : Type 0} where
   same-fault : {f g : Fault} → _≡_ {A = Answer A} (refusal f) (refusal g) → f ≡ g
   same-fault e = cc
 
--- A broken rule has a number.
+-- The number of a broken rule is one of 1 to 9.
+number-range : (r : Rule) → (1 ≤ number r) × (number r ≤ 9)
+number-range Rule.short = (omega arith, omega arith)
+number-range Rule.opening = (omega arith, omega arith)
+number-range Rule.frameLength = (omega arith, omega arith)
+number-range Rule.kind = (omega arith, omega arith)
+number-range Rule.choice = (omega arith, omega arith)
+number-range Rule.statusBit = (omega arith, omega arith)
+number-range Rule.bytesCeiling = (omega arith, omega arith)
+number-range Rule.depthCeiling = (omega arith, omega arith)
+number-range Rule.nameCeiling = (omega arith, omega arith)
+number-range Rule.gapCeiling = (omega arith, omega arith)
+number-range Rule.rest = (omega arith, omega arith)
+number-range Rule.order = (omega arith, omega arith)
+number-range Rule.dataLength = (omega arith, omega arith)
+number-range Rule.sizeTag = (omega arith, omega arith)
+
 pub number-some : (r : Rule) → number r ≡ 0 → ⊥
-number-some Rule.short e = omega arith
-number-some Rule.opening e = omega arith
-number-some Rule.frameLength e = omega arith
-number-some Rule.kind e = omega arith
-number-some Rule.choice e = omega arith
-number-some Rule.statusBit e = omega arith
-number-some Rule.bytesCeiling e = omega arith
-number-some Rule.depthCeiling e = omega arith
-number-some Rule.nameCeiling e = omega arith
-number-some Rule.gapCeiling e = omega arith
-number-some Rule.rest e = omega arith
-number-some Rule.order e = omega arith
-number-some Rule.dataLength e = omega arith
-number-some Rule.sizeTag e = omega arith
+number-some r e = omega (arith, number-range r .0)
+
+pub number-below : (r : Rule) → number r < 10
+number-below r = omega (arith, number-range r .1)
 
 -- A rule at each element carries over to another.
 pub all-map : {A : Type 0} {P Q : A → Type 0} → ((a : A) → P a → Q a) → (l : List A) → All P l → All Q l

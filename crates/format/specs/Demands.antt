@@ -3,6 +3,7 @@
 --
 -- Demand 1. Whatever a peer or a disk hands over gets document 01's answer. A refusal comes exactly where 01 says, with its number and
 --   length 0, and every lent buffer is as it was. A save over a file that is no longer the one opened is refused as a conflict.
+--   Here and below 01 reads with what a change request of 02 adds: the merge (No. 3).
 -- Demand 2. Each accepted packet, tag list, query and met file means what the layouts say; writing it gives the same bytes, and reading
 --   what was written gives the meaning. After markings a byte is missing exactly if it was and no accepted range holds it, and the
 --   reported number of missing bytes is true.
@@ -10,12 +11,13 @@
 --   and gives that message; no bytes are spelled by two lawful messages of one kind. A lawful message is called valid here and in the
 --   code, and its bytes its encoding.
 use mathlib.Core.Path.{_≡_}
-use mathlib.Core.Bool.{true, _&&_, not}
+use mathlib.Core.Bool.{true, false, _&&_, not}
 use mathlib.Core.Logic.{_↔_}
-use mathlib.Core.List.{List, [], _∷_}
-use Prim.Native.Nat.{ℕ, _≤_, _<_}
+use mathlib.Core.List.{List, [], _∷_, _++_}
+use mathlib.Core.Logic.{_⊎_}
+use Prim.Native.Nat.{ℕ, _≤_, _<_, max}
 use lib.ListN.{length, take}
-use Rattle.format.specs.Messages.{Kind, Message, Query, Tag, partMet}
+use Rattle.format.specs.Messages.{Kind, Message, PartMet, Query, Tag, partMet}
 use Rattle.format.specs.Layout.{encode}
 use Rattle.format.specs.Rules.{Bytes, SizeIs, Valid, ceiling}
 use Rattle.format.specs.Decoding.{accepted, refusedWith, reply, violates}
@@ -26,7 +28,9 @@ use Rattle.format.specs.Gaps.{Gap, Lawful, Marking, count, inside, lawfu
 use Rattle.format.specs.Truth.{Holds, holds}
 use Rattle.format.specs.Writing.{Written, Writes, overwritten, writtenInto}
 use Rattle.format.specs.Saving.{save}
-use Rattle.format.specs.PutGaps.{putGaps}
+use Rattle.format.specs.GapTags.{gapsOf}
+use Rattle.format.specs.PutGaps.{gapTags, plainTags, putGaps, tagsOf}
+use Rattle.format.specs.Merging.{Merges, OneModel, dateOf, formOf, hashOf}
 
 -- The bytes are accepted as some message.
 abbrev pub Accepted : Kind → List ℕ → Type 0
@@ -55,6 +59,9 @@ RefusedSave = (stored opened new output : List ℕ) → Untouched output (save s
 abbrev pub RefusedPut : Type 0
 RefusedPut = (file : List ℕ) (limit size : ℕ) (gaps : List Gap) (output : List ℕ) → Untouched output (putGaps file limit size gaps output)
 
+abbrev pub RefusedMerge : Type 0
+RefusedMerge = (opened first second output : List ℕ) (w : Written) → Merges opened first second output w → Untouched output w
+
 -- The conflict: 11 exactly where the new bytes are a part.met and the stored file is not the one opened.
 abbrev pub Conflict : Type 0
 Conflict =
@@ -67,6 +74,33 @@ Saved =
     (stored opened new output : List ℕ) →
     (save stored opened new output ≡ record { number = 0; length = length new; output = overwritten new output })
     ↔ (Accepted partMet new × ((stored ≡ opened) × (length new ≤ length output)))
+
+-- A merge has one answer. It is 12 exactly where three files that are accepted are not of one model, and 11 exactly where they are, and the
+-- form with its hash lists, or the other tags, were changed in two different ways.
+abbrev pub MergeOnce : Type 0
+MergeOnce = (opened first second output : List ℕ) (v w : Written) → Merges opened first second output v → Merges opened first second output w → v ≡ w
+
+abbrev pub Strangers : Type 0
+Strangers =
+    (opened first second output : List ℕ) (w : Written) → Merges opened first second output w →
+    (w .number ≡ 12) ↔ ((o : Accepted partMet opened) × ((a : Accepted partMet first) × ((b : Accepted partMet second) ×
+    ((size : ℕ) → OneModel size (o .0) (a .0) (b .0) → ⊥))))
+
+-- Changed in two different ways: both saves differ from the opened file, and from each other.
+abbrev pub AllDiffer : {A : Type 0} → (opened first second : A) → Type 0
+AllDiffer opened first second = (first ≡ opened → ⊥) × ((second ≡ opened → ⊥) × (first ≡ second → ⊥))
+
+pub record TwoWays (opened first second : PartMet) : Type 0 where
+  pub size : ℕ
+  pub one : OneModel size opened first second
+  pub changed : AllDiffer (formOf opened) (formOf first) (formOf second)
+      ⊎ AllDiffer (plainTags (tagsOf opened)) (plainTags (tagsOf first)) (plainTags (tagsOf second))
+
+abbrev pub MergeConflict : Type 0
+MergeConflict =
+    (opened first second output : List ℕ) (w : Written) → Merges opened first second output w →
+    (w .number ≡ 11) ↔ ((o : Accepted partMet opened) × ((a : Accepted partMet first) × ((b : Accepted partMet second) ×
+    TwoWays (o .0) (a .0) (b .0))))
 
 -- Demand 2
 
@@ -122,6 +156,43 @@ TrueCount =
     (limit size : ℕ) (gaps : List Gap) (r : Gap) (left : List Gap) (n : ℕ) → oneMarking limit size gaps r ≡ leaves left n →
     Lawful limit size left × (n ≡ count (missing left) size)
 
+-- Three-way, in plain words: where one save left it as it was, the other's is taken; where both are equal, that; and one of these is so.
+pub record Winner {A : Type 0} (opened first second won : A) : Type 0 where
+  pub firstLeftIt : first ≡ opened → won ≡ second
+  pub secondLeftIt : second ≡ opened → won ≡ first
+  pub equal : first ≡ second → won ≡ first
+  pub one : (first ≡ opened) ⊎ ((second ≡ opened) ⊎ (first ≡ second))
+
+-- What a merge of three part.mets makes, in plain words: the later date, the common hash and size, the form with its hash lists and the other
+-- tags of the save that changed them, the gaps last; and a byte that the opened one misses is missing exactly when both saves miss it, one
+-- that it has exactly when either does.
+pub record MergedFile (opened first second made : PartMet) : Type 0 where
+  pub date : dateOf made ≡ max (dateOf first) (dateOf second)
+  pub hash : (hashOf made ≡ hashOf opened) × ((hashOf made ≡ hashOf first) × (hashOf made ≡ hashOf second))
+  pub size : (n : ℕ) → SizeIs n (tagsOf opened) → SizeIs n (tagsOf first) × (SizeIs n (tagsOf second) × SizeIs n (tagsOf made))
+  pub form : Winner (formOf opened) (formOf first) (formOf second) (formOf made)
+  pub others : Winner (plainTags (tagsOf opened)) (plainTags (tagsOf first)) (plainTags (tagsOf second)) (plainTags (tagsOf made))
+  pub tags : tagsOf made ≡ plainTags (tagsOf made) ++ gapTags 0 (gapsOf (tagsOf made))
+  pub both : (x : ℕ) → missing (gapsOf (tagsOf opened)) x ≡ true →
+      (missing (gapsOf (tagsOf made)) x ≡ true)
+      ↔ ((missing (gapsOf (tagsOf first)) x ≡ true) × (missing (gapsOf (tagsOf second)) x ≡ true))
+  pub either : (x : ℕ) → missing (gapsOf (tagsOf opened)) x ≡ false →
+      (missing (gapsOf (tagsOf made)) x ≡ true)
+      ↔ ((missing (gapsOf (tagsOf first)) x ≡ true) ⊎ (missing (gapsOf (tagsOf second)) x ≡ true))
+
+-- What an accepted merge wrote is read as that part.met.
+pub record MergedBack (opened first second new : List ℕ) : Type 0 where
+  pub o : Accepted partMet opened
+  pub a : Accepted partMet first
+  pub b : Accepted partMet second
+  pub made : Accepted partMet new
+  pub merged : MergedFile (o .0) (a .0) (b .0) (made .0)
+
+abbrev pub MergeReadBack : Type 0
+MergeReadBack =
+    (opened first second output : List ℕ) (w : Written) → Bytes opened → Bytes first → Bytes second →
+    Merges opened first second output w → w .number ≡ 0 → MergedBack opened first second (take (w .length) (w .output))
+
 -- A query holds on a tag list exactly where it does in plain words.
 abbrev pub TrueSearch : Type 0
 TrueSearch = (q : Query) (tags : List Tag) → (holds q tags ≡ true) ↔ Holds q tags
@@ -141,6 +212,10 @@ pub record Demands : Type 0 where
   pub refusedWrite : RefusedWrite
   pub refusedSave : RefusedSave
   pub refusedPut : RefusedPut
+  pub refusedMerge : RefusedMerge
+  pub mergeOnce : MergeOnce
+  pub strangers : Strangers
+  pub mergeConflict : MergeConflict
   pub conflict : Conflict
   pub saved : Saved
   pub writeOnce : WriteOnce
@@ -149,6 +224,7 @@ pub record Demands : Type 0 where
   pub readBack : ReadBack
   pub missingAtEnd : MissingAtEnd
   pub trueCount : TrueCount
+  pub mergeReadBack : MergeReadBack
   pub trueSearch : TrueSearch
   pub acceptsExactly : AcceptsExactly
   pub unambiguous : Unambiguous

@@ -16,4 +16,5 @@ pub mod Writing
 pub mod RoundTrip
 pub mod Saving
 pub mod PutGaps
+pub mod Merging
 pub mod Demands

@@ -120,7 +120,7 @@ fn count_before(numbers: &[u64], gaps: usize, start: u64) -> usize
     i
 }
 
-fn smaller(one: u64, other: u64) -> u64
+pub fn smaller(one: u64, other: u64) -> u64
     ensures { λ r. ⌜ r ≡ min one other ⌝ }
 {
     if one < other { one } else { other }

@@ -32,6 +32,9 @@ pub const ROOM: u8 = 10;
 
 pub const CONFLICT: u8 = 11;
 
+// The number that No. 3 of 02 adds: files that are not of one model.
+pub const STRANGERS: u8 = 12;
+
 // The answer of a call that writes: 0 and how many bytes were written at the front of the output; or the number of the refusal, and 0.
 pub struct WriteAnswer {
     pub number: u8,

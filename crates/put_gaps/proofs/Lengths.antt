@@ -13,9 +13,10 @@ use Rattle.format.specs.Rules.{All, Bytes, ValidHash, ValidPartMet, metCeiling}
 use Rattle.format.specs.Decoding.{Decoder, bytesAt, decodeMany, got}
 use Rattle.format.specs.Order.{decodeHash, decodeTag}
 use Rattle.format.specs.Writing.{Written, overwritten, unwritten}
-use Rattle.format.specs.PutGaps.{gapTags, plainTags, regapped, tagsOf, withGaps, withinCeiling}
+use Rattle.format.specs.PutGaps.{plainTags, regapped, tagsOf, withGaps, withinCeiling}
 use Rattle.format.proofs.Codec.{length-littleEndian, same-place, same-value, went}
 use Rattle.format.proofs.Many.{ends-items}
+use Rattle.format.proofs.Regapped.{tags-few}
 use Rattle.wire.specs.declared.Items.{Items}
 use Rattle.wire.specs.WireAnswers.{itemsIn, ItemsPlaced, ItemsInside}
 use Rattle.gaps.proofs.GapRecords.{gaps-length}
@@ -25,7 +26,7 @@ use Rattle.gap_numbers.proofs.Numbers.{at}
 use Rattle.met.specs.declared.PartMet as code
 use Rattle.met.specs.MetAnswers.{partMetIn, tagsPlace}
 use Rattle.put_gaps.specs.Pieces.{headOf, tailOf, tagsAt, WasRead, plainBytes, pairsBytes, pairsLength}
-use Rattle.put_gaps.proofs.Pieces.{length-tags, list-pieces, pieces, pieces-withGaps, tags-few}
+use Rattle.put_gaps.proofs.Pieces.{length-list, length-tags, pieces, pieces-withGaps}
 use Rattle.put_gaps.proofs.Kept.{plain-short, tag-place}
 use Rattle.put_gaps.proofs.Pairs.{pairs-length}
 
@@ -56,11 +57,6 @@ tags-end s bytes (suc n) at end l e =
 hashes-length : (l : List (List ℕ)) → All ValidHash l → length (encodeAll encodeHash l) ≡ 16 * length l
 hashes-length [] h = refl
 hashes-length (a ∷ l) h = omega (arith, h .0 .0, hashes-length l (h .1), length-append a (encodeAll encodeHash l))
-
-length-gapTags : (i : ℕ) (gaps : List Gap) → length (gapTags i gaps) ≡ 2 * length gaps
-unfolding gapTags
-length-gapTags i [] = refl
-length-gapTags i (g ∷ gaps) = omega (arith, length-gapTags (suc i) gaps)
 
 pub items-length : {A : Type 0} (d : Decoder A) (s : List ℕ) (l : Items) → ItemsPlaced d s l → length (itemsIn d s l) ≡ l .count
 items-length d s l e = many-length d s (l .count) (l .at) (l .end) (itemsIn d s l) (sym (ends-items (decodeMany (l .count) d s (l .at)) (l .end) e))
@@ -137,9 +133,6 @@ module _ (s : List ℕ) (bytes : Bytes s) (part : code.PartMet) (h : WasRead s p
         pieces-withGaps gaps file ∙ ap (λ l. headOf file ++ (encodeTags (regapped gaps l) ++ tailOf file)) (tags-same s part) ∙
         sym (append-assoc (headOf file) (encodeTags (regapped gaps tags)) (tailOf file))
 
-    pub new-list : length (encodeTags (regapped gaps tags)) ≡ 4 + length (plainBytes tags) + length (pairsBytes 0 gaps)
-    new-list = ap length (sym (list-pieces gaps tags)) ∙ simp (length-append, length-littleEndian)
-
     pub new-length : length (encodePartMet (withGaps gaps file)) ≡
         length (headOf file) + (4 + length (plainBytes tags) + length (pairsBytes 0 gaps)) + length (tailOf file)
     new-length =
@@ -148,11 +141,8 @@ module _ (s : List ℕ) (bytes : Bytes s) (part : code.PartMet) (h : WasRead s p
           ap length new-pieces,
           length-append (headOf file ++ encodeTags (regapped gaps tags)) (tailOf file),
           length-append (headOf file) (encodeTags (regapped gaps tags)),
-          new-list,
+          length-list gaps tags,
         )
-
-    pub new-count : length (regapped gaps tags) ≡ length (plainTags tags) + 2 * length gaps
-    new-count = omega (arith, length-append (plainTags tags) (gapTags 0 gaps), length-gapTags 0 gaps)
 
 pub record-pairs : (l : List ℕ) → getD l 1 0 ≤ 64 →
     (length (gapsIn l) ≡ getD l 1 0) × (length (pairsBytes 0 (gapsIn l)) ≡ pairsLength (getD l 1 0))

@@ -1,5 +1,3 @@
-pub mod Decimals
-pub mod Regapped
 pub mod Pieces
 pub mod PutReadBack
 pub mod RecordBack

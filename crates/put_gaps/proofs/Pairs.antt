@@ -23,7 +23,7 @@ use Rattle.gap_numbers.proofs.Numbers.{gapAt, at, drop-in}
 use Rattle.output.proofs.Laws.{byte-bytes}
 use Rattle.output.proofs.Loops.{WrittenSoFar, written-all, piece-room, written-next}
 use Rattle.put_gaps.specs.Pieces.{pairBytes, pairsBytes, pairsLength}
-use Rattle.put_gaps.proofs.Decimals.{decimal-one, decimal-two}
+use Rattle.format.proofs.Decimals.{decimal-one, decimal-two}
 
 -- The items of a gap tag, in the order in which they are written.
 pub tag-pieces : (b : ℕ) (d : List ℕ) (v : ℕ) → b < 256 →

@@ -1,12 +1,12 @@
 -- A part.met's bytes by pieces: with other gaps, only the tag list differs.
-use Prim.Native.Nat.{_+_, _≤_}
+use Prim.Native.Nat.{ℕ, suc, _+_, _*_}
 use mathlib.Core.Path.{_≡_, refl, sym, ap, _∙_}
 use mathlib.Core.List.{List, [], _∷_, _++_, append-assoc, append-nil}
 use native.Mathlib.Omega.{arith}
 use lib.ListN.{length, length-append}
 use Rattle.format.specs.Gaps.{Gap}
 use Rattle.format.specs.Messages.{Tag, PartMet, e0, e1}
-use Rattle.format.specs.Layout.{dword, encodeAll, encodeFileEntry, encodePartE1, encodePartMet, encodeTag, encodeTags, littleEndian}
+use Rattle.format.specs.Layout.{dword, encodeAll, encodeFileEntry, encodePartE1, encodePartMet, encodeTag, encodeTags}
 use Rattle.format.specs.PutGaps.{gapTags, plainTags, regapped, withGaps, tagsOf}
 use Rattle.format.proofs.Codec.{length-littleEndian}
 use Rattle.put_gaps.specs.Pieces.{headOf, tailOf, plainBytes, pairsBytes}
@@ -27,15 +27,6 @@ pub pieces-withGaps : (gaps : List Gap) (m : PartMet) →
     encodePartMet (withGaps gaps m) ≡ headOf m ++ (encodeTags (regapped gaps (tagsOf m)) ++ tailOf m)
 pieces-withGaps gaps m = pieces (withGaps gaps m) ∙ others-stay gaps m
 
--- A tag has at least one byte, so that a list has at most as many tags as bytes.
-tag-some : (t : Tag) → 1 ≤ length (encodeTag t)
-unfolding encodeTag littleEndian
-tag-some t = omega arith
-
-pub tags-few : (l : List Tag) → length l ≤ length (encodeAll encodeTag l)
-tags-few [] = omega arith
-tags-few (t ∷ l) = omega (arith, tag-some t, tags-few l, length-append (encodeTag t) (encodeAll encodeTag l))
-
 pub length-tags : (l : List Tag) → length (encodeTags l) ≡ 4 + length (encodeAll encodeTag l)
 unfolding encodeTags
 length-tags l = simp (length-append, length-littleEndian)
@@ -51,3 +42,15 @@ pub list-pieces : (gaps : List Gap) (tags : List Tag) →
     (dword (length (regapped gaps tags)) ++ plainBytes tags) ++ pairsBytes 0 gaps ≡ encodeTags (regapped gaps tags)
 unfolding encodeTags plainBytes pairsBytes
 list-pieces gaps tags = rw (encode-append (plainTags tags) (gapTags 0 gaps), append-assoc) refl
+
+pub length-list : (gaps : List Gap) (tags : List Tag) →
+    length (encodeTags (regapped gaps tags)) ≡ 4 + length (plainBytes tags) + length (pairsBytes 0 gaps)
+length-list gaps tags = ap length (sym (list-pieces gaps tags)) ∙ simp (length-append, length-littleEndian)
+
+length-gapTags : (i : ℕ) (gaps : List Gap) → length (gapTags i gaps) ≡ 2 * length gaps
+unfolding gapTags
+length-gapTags i [] = refl
+length-gapTags i (g ∷ gaps) = omega (arith, length-gapTags (suc i) gaps)
+
+pub length-regapped : (gaps : List Gap) (tags : List Tag) → length (regapped gaps tags) ≡ length (plainTags tags) + 2 * length gaps
+length-regapped gaps tags = omega (arith, length-append (plainTags tags) (gapTags 0 gaps), length-gapTags 0 gaps)

@@ -25,12 +25,11 @@ use Rattle.met.specs.declared.PartMet as code
 use Rattle.met.specs.declared.PartRead.{PartRead}
 use Rattle.met.specs.MetAnswers.{partIn, partMetIn, partReply, PartAnswerPlaced, PartReadSized, PartMetSized, tagsPlace}
 use Rattle.part_tags.specs.PartTagAnswers.{GapsHeld}
-use Rattle.part_tags.specs.Survey.{GapTagsIn}
 use Rattle.part_tags.proofs.GapTags.{gaps-length}
 use Rattle.tags.specs.TagAnswers.{tagsIn}
 use Rattle.wire.specs.declared.Items.{Items}
 use Rattle.put_gaps.specs.PutAnswers.{putRecord}
-use Rattle.put_gaps.specs.Pieces.{HasGaps, WasRead}
+use Rattle.put_gaps.specs.Pieces.{Accepts, HasGaps}
 
 accepted-as : (a : Answer PartMet) (m : PartMet) → message m ≡ reply a → a ≡ accepted m
 accepted-as (refusal f) m e = cc
@@ -64,12 +63,6 @@ module _ (s : List ℕ) (g : GapRecord) (output : List ℕ) where
           rw (accepted-as (decode partMet s) m read, t .0, t .1, sized, eq-eqb (g .size) size fits) refl
 
 -- What the reader of the file says of a part.met that it accepts.
-pub record Accepts (s : List ℕ) (part : code.PartMet) (found : PartGaps) : Type 0 where
-  pub read : WasRead s part
-  pub told : message (partMetIn s part) ≡ reply (decode partMet s)
-  pub sized : checkPartTags (tagsOf (partMetIn s part)) ≡ passes (found .size, tagsOf (partMetIn s part))
-  pub ranged : GapTagsIn s (tagsPlace part) (found .range)
-  pub counted : HasGaps s (tagsPlace part) (found .count)
 
 sized-same : (s : List ℕ) (part : code.PartMet) (size : ℕ) → PartMetSized s part size →
     checkPartTags (tagsOf (partMetIn s part)) ≡ passes (size, tagsOf (partMetIn s part))
@@ -94,3 +87,8 @@ reads s starts r part found e h =
       ranged = k .1 .1 .0 .1 .0;
       counted = gaps-held s starts (tagsPlace part) (found .count) (k .1 .1 .0 .1 .1);
     }
+
+-- its gaps, as an array of offsets that was lent holds them
+pub reads-gaps : (s starts : List ℕ) (r : PartRead) (part : code.PartMet) (found : PartGaps) → r ≡ PartRead.Accepted part found →
+    PartReadSized s starts r → GapsHeld s starts (found .count) (tagsIn s (tagsPlace part))
+reads-gaps s starts r part found e h = let k = rw e at h in k .1 .1

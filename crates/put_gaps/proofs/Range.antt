@@ -22,7 +22,7 @@ use Rattle.wire.specs.WireAnswers.{ItemsPlaced, ItemsInside}
 use Rattle.tags.specs.TagAnswers.{tagsIn}
 use Rattle.part_tags.specs.Survey.{GapTagsIn, Plain}
 use Rattle.put_gaps.specs.Pieces.{HasGaps, plainBytes}
-use Rattle.put_gaps.proofs.Regapped.{plain-append}
+use Rattle.format.proofs.Regapped.{plain-append}
 use Rattle.put_gaps.proofs.Pieces.{encode-append}
 use Rattle.put_gaps.proofs.Kept.{plain-short}
 use Rattle.put_gaps.proofs.Lengths.{many-length, items-length, tags-end}

@@ -8,15 +8,19 @@ use Rattle.format.specs.Gaps.{Gap, Lawful, sizeLimit}
 use Rattle.format.specs.Messages.{Tag, PartMet, e0, e1, partMet}
 use Rattle.format.specs.Layout.{byte, word, dword, counted, encodeAll, encodeHash, encodeHashBlocks, encodePartMet, encodeTag, encodeTags}
 use Rattle.format.specs.Rules.{GapPair, startTag, endTag, Valid}
-use Rattle.format.specs.Decoding.{bytesAt}
+use Rattle.format.specs.Decoding.{bytesAt, message, passes, reply}
 use Rattle.format.specs.GapTags as tagged
 use Rattle.format.specs.GapTags.{role}
-use Rattle.format.specs.PutGaps.{isPlain, plainTags, decimalOf, gapTags, regapped, withGaps}
+use Rattle.format.specs.PartTagOrder.{checkPartTags}
+use Rattle.format.specs.MetOrder.{decode}
+use Rattle.format.specs.PutGaps.{isPlain, plainTags, decimalOf, gapTags, regapped, tagsOf}
 use Rattle.wire.specs.declared.Items.{Items}
 use Rattle.tags.specs.TagAnswers.{tagsIn}
 use Rattle.gaps.specs.declared.GapRecord.{GapRecord}
 use Rattle.gaps.specs.GapRecords.{gapsOf}
 use Rattle.gap_numbers.specs.Numbers.{held}
+use Rattle.part_tags.specs.Survey.{GapTagsIn}
+use Rattle.met.specs.declared.PartGaps.{PartGaps}
 use Rattle.met.specs.declared.PartMet as code
 use Rattle.met.specs.MetAnswers.{partMetIn, PartMetPlaced, tagsPlace}
 use Rattle.put_gaps.specs.declared.Sizes.{Sizes}
@@ -54,6 +58,14 @@ pub record HasGaps (s : List ℕ) (tags : Items) (n : ℕ) : Type 0 where
   pub few : n ≤ 64
   pub counted : n ≡ length (tagged.gapsOf (tagsIn s tags))
 
+-- What the reader of the file says of a part.met that it accepts: its message, its size, where its gap tags lie, and how many gaps it has.
+pub record Accepts (s : List ℕ) (part : code.PartMet) (found : PartGaps) : Type 0 where
+  pub read : WasRead s part
+  pub told : message (partMetIn s part) ≡ reply (decode partMet s)
+  pub sized : checkPartTags (tagsOf (partMetIn s part)) ≡ passes (found .size, tagsOf (partMetIn s part))
+  pub ranged : GapTagsIn s (tagsPlace part) (found .range)
+  pub counted : HasGaps s (tagsPlace part) (found .count)
+
 -- A tag that stays, and its bytes, which lie from one offset up to another; nothing of a gap tag.
 abbrev pub keptTags : Tag → List Tag
 keptTags t = pick (isPlain (role t)) (t ∷ []) []
@@ -79,12 +91,11 @@ pairsBytes i gaps = encodeAll encodeTag (gapTags i gaps)
 abbrev pub pairsLength : ℕ → ℕ
 pairsLength n = 18 * n + 2 * (n - 10)
 
--- The numbers of a new file.
-pub record SizesOf (s : List ℕ) (part : code.PartMet) (range : Items) (g : GapRecord) (r : Sizes) : Type 0 where
-  pub at : r .at ≡ length (headOf (partMetIn s part))
-  pub count : r .count ≡ length (regapped (gapsOf g) (tagsIn s (tagsPlace part)))
-  pub list : r .list ≡ 4 + length (plainBytes (tagsIn s (tagsPlace part))) + length (pairsBytes 0 (gapsOf g))
-  pub within : r .within ≡ length (plainBytes (tagsIn s range))
-  pub after : r .after ≡ length (headOf (partMetIn s part)) + length (encodeTags (tagsIn s (tagsPlace part)))
-  pub rest : r .length ≡ r .at + r .list + length (tailOf (partMetIn s part))
-  pub length : r .length ≡ length (encodePartMet (withGaps (gapsOf g) (partMetIn s part)))
+-- The numbers of a new file: all but the tag list is from one file, and the tags that are no gap tags from another or the same.
+pub record SizesOf (s : List ℕ) (form : code.PartMet) (t : List ℕ) (part : code.PartMet) (found : PartGaps) (gaps : List Gap) (r : Sizes) : Type 0 where
+  pub at : r .at ≡ length (headOf (partMetIn s form))
+  pub count : r .count ≡ length (regapped gaps (tagsIn t (tagsPlace part)))
+  pub list : r .list ≡ 4 + length (plainBytes (tagsIn t (tagsPlace part))) + length (pairsBytes 0 gaps)
+  pub within : r .within ≡ length (plainBytes (tagsIn t (found .range)))
+  pub after : r .after ≡ length (headOf (partMetIn s form)) + length (encodeTags (tagsIn s (tagsPlace form)))
+  pub length : r .length ≡ r .at + r .list + length (tailOf (partMetIn s form))

@@ -25,13 +25,14 @@ ghost use Rattle.met.specs.MetAnswers.{partMetIn, tagsPlace};
 ghost use Rattle.output.specs.WriteAnswers.{answered};
 ghost use Rattle.part_tags.specs.Survey.{GapTagsIn};
 ghost use Rattle.put_gaps.specs.PutAnswers.{putRecord};
-ghost use Rattle.put_gaps.specs.Pieces.{WasRead, LawfulNumbers, HasGaps, SizesOf};
-ghost use Rattle.put_gaps.specs.Pieces.{tagsAt, keptTags, keptBytes, plainBytes, pairBytes, pairsBytes, pairsLength};
+ghost use Rattle.put_gaps.specs.Pieces.{Accepts, WasRead, LawfulNumbers, HasGaps, SizesOf};
+ghost use Rattle.put_gaps.specs.Pieces.{headOf, tagsAt, keptTags, keptBytes, plainBytes, pairBytes, pairsBytes, pairsLength};
 use gap_numbers::GAP_NUMBERS;
 use gap_numbers::judge_numbers;
 use gap_numbers::put_record;
 use gaps::GapRecord;
 use met::MET_CEILING;
+use met::PartGaps;
 use met::PartMet;
 use met::PartRead;
 use met::read_part;
@@ -52,7 +53,7 @@ use wire::Items;
 use wire::bytes_at;
 
 // Where the tag list begins: after E0, date, hash, WORD count and the part hashes; or after E1, 02, date and hash.
-fn tags_at(part: PartMet) -> usize
+pub fn tags_at(part: PartMet) -> usize
     ensures { λ r. ⌜ r ≡ tagsAt part ⌝ }
 {
     match part {
@@ -64,12 +65,22 @@ fn tags_at(part: PartMet) -> usize
     }
 }
 
+// Where the bytes after the tag list begin, in the file that the part.met was read from.
+pub fn tail_at(file: &[u8], part: PartMet) -> usize
+    requires { ⌜ WasRead (now file) part ⌝ }
+    ensures { λ r. ⌜ r ≡ length (headOf (partMetIn (now (file .entry)) part)) + length (encodeTags (tagsIn (now (file .entry)) (tagsPlace part))) ⌝ }
+{
+    let tags = part.tags();
+    let at = tags_at(part);
+    at + 4 + (tags.end - tags.at)
+}
+
 // The first byte of the name of a gap's start tag and of its end tag, by which a gap tag is known.
 const START: u8 = 0x09;
 
 const END: u8 = 0x0A;
 
-fn is_plain(s: &[u8], tag: Tag) -> bool
+pub fn is_plain(s: &[u8], tag: Tag) -> bool
     ensures { λ r. ⌜ r ≡ isPlain (role (tagOf (now (s .entry)) tag)) ⌝ }
 {
     let name = bytes_at(s, tag.name_at, tag.name_len);
@@ -103,9 +114,9 @@ fn kept_count(s: &[u8], tag: Tag) -> u32
 }
 
 // How many tags stay, and how many bytes they have.
-struct Plain {
-    count: u32,
-    bytes: usize,
+pub struct Plain {
+    pub count: u32,
+    pub bytes: usize,
 }
 
 // The list was read before, so that every tag is there: the refusal in this loop and in the next is never met.
@@ -134,7 +145,7 @@ fn measure_plain(s: &[u8], tags: Items) -> Plain
 }
 
 // The same of the byte range of the gap tags: most often it has the two tags of each gap and no other, and then none is read.
-fn measure_within(s: &[u8], range: Items, gaps: usize) -> Plain
+pub fn measure_within(s: &[u8], range: Items, gaps: usize) -> Plain
     requires { ⌜ ItemsPlaced decodeTag (now s) range × (gaps ≤ 64) × (2 * gaps + length (plainTags (tagsIn (now s) range)) ≤ range .count) ⌝ }
     ensures count { λ r. ⌜ r .count ≡ length (plainTags (tagsIn (now (s .entry)) range)) ⌝ }
     ensures bytes { λ r. ⌜ r .bytes ≡ length (plainBytes (tagsIn (now (s .entry)) range)) ⌝ }
@@ -302,7 +313,7 @@ fn pairs_length(pairs: usize) -> usize
 }
 
 // A tag list of `count` tags: those that stay, and the pairs.
-fn put_tag_list(
+pub fn put_tag_list(
     out: &mut [u8],
     s: &[u8],
     tags: Items,
@@ -325,27 +336,25 @@ fn put_tag_list(
     at + put_pairs(&mut out[at..], gaps)
 }
 
-// The numbers of a new file: where the tag list begins, as in the old file; how many tags and how many bytes it has, and of these the bytes
-// of the tags in the range of the gap tags that stay; where the old list ended; and the length of the new file.
-struct Sizes {
-    at: usize,
-    count: u32,
-    list: usize,
-    within: usize,
-    after: usize,
-    length: usize,
+// The numbers of a new file: where the tag list begins; how many tags and how many bytes it has, and of these the bytes of the tags in the
+// range of the gap tags that stay; where the list ended in the file that all but the list is from; and the length of the new file.
+pub struct Sizes {
+    pub at: usize,
+    pub count: u32,
+    pub list: usize,
+    pub within: usize,
+    pub after: usize,
+    pub length: usize,
 }
 
-// From the length of the old file, where its tag list begins, how many bytes its tags have, those of them that stay, and the
-// number of pairs.
-fn sizes_of(file: usize, at: usize, old: usize, kept: Measured, pairs: usize) -> Sizes
-    requires { ⌜ (file ≤ 1048576) × (at + 4 + old ≤ file) × (kept .count ≤ old) × (kept .bytes ≤ old) × (pairs ≤ 64) ⌝ }
+// From the length of the file that all but the tag list is from, where its list begins and ends, the tags that stay, and the number of pairs.
+fn sizes_of(file: usize, at: usize, after: usize, kept: Measured, pairs: usize) -> Sizes
+    requires { ⌜ (at ≤ after) × (after ≤ file) × (file ≤ 1048576) × (kept .count ≤ 1048576) × (kept .bytes ≤ 1048576) × (pairs ≤ 64) ⌝ }
     ensures { λ r. ⌜ (r .at ≡ at) × (r .count ≡ kept .count + 2 * pairs) × (r .list ≡ 4 + kept .bytes + pairsLength pairs)
-        × (r .within ≡ kept .within) × (r .after ≡ at + 4 + old) × (r .length ≡ at + r .list + (file - r .after)) ⌝ }
+        × (r .within ≡ kept .within) × (r .after ≡ after) × (r .length ≡ at + r .list + (file - after)) ⌝ }
 {
     let count = kept.count + 2 * (pairs as u32);
     let list = 4 + kept.bytes + pairs_length(pairs);
-    let after = at + 4 + old;
     let length = at + list + (file - after);
     Sizes {
         at,
@@ -357,34 +366,39 @@ fn sizes_of(file: usize, at: usize, old: usize, kept: Measured, pairs: usize) ->
     }
 }
 
-// The numbers of the file with the gaps of the record; the part.met was read from it.
-fn measure_file(file: &[u8], part: PartMet, range: Items, old: usize, gaps: &[u64]) -> Sizes
-    requires { ⌜ WasRead (now file) part × GapTagsIn (now file) (tagsPlace part) range × LawfulNumbers (now gaps)
-        × HasGaps (now file) (tagsPlace part) old ⌝ }
-    ensures { λ r. ⌜ SizesOf (now (file .entry)) part range (held (now (gaps .entry))) r ⌝ }
+// The numbers of the file that has all but the tag list from `form_file`, and the tags of `file`, which may be the same, with the gaps of
+// the record.
+pub fn measure_file(
+    form_file: &[u8],
+    form: PartMet,
+    file: &[u8],
+    part: PartMet,
+    found: PartGaps,
+    gaps: &[u64],
+) -> Sizes
+    requires { ⌜ WasRead (now «form_file») form × Accepts (now file) part found × LawfulNumbers (now gaps) ⌝ }
+    ensures { λ r. ⌜ SizesOf (now («form_file» .entry)) form (now (file .entry)) part found (gapsOf (held (now (gaps .entry)))) r ⌝ }
 {
     let tags = part.tags();
-    let kept = measure_kept(file, tags, range, old);
-    let at = tags_at(part);
-    sizes_of(file.len(), at, tags.end - tags.at, kept, gaps[1] as usize)
+    let kept = measure_kept(file, tags, found.range, found.count);
+    let at = tags_at(form);
+    let after = tail_at(form_file, form);
+    sizes_of(form_file.len(), at, after, kept, gaps[1] as usize)
 }
 
-// The new file, if it is not too long for a part.met (6) and for the output (10). The part.met was read from the old one, and its gap tags
-// lie in the range.
+// The new file, if it is not too long for a part.met (6) and for the output (10). The part.met was read from the old one.
 fn put_file(
     out: &mut [u8],
     file: &[u8],
     part: PartMet,
-    range: Items,
-    old: usize,
+    found: PartGaps,
     gaps: &[u64],
 ) -> WriteAnswer
-    requires { ⌜ WasRead (now file) part × GapTagsIn (now file) (tagsPlace part) range × LawfulNumbers (now gaps)
-        × HasGaps (now file) (tagsPlace part) old ⌝ }
+    requires { ⌜ Accepts (now file) part found × LawfulNumbers (now gaps) ⌝ }
     ensures { λ r. ⌜ answered r (now (out .exit))
         ≡ withinCeiling (encodePartMet (withGaps (gapsOf (held (now (gaps .entry)))) (partMetIn (now (file .entry)) part))) (now (out .entry)) ⌝ }
 {
-    let sizes = measure_file(file, part, range, old, gaps);
+    let sizes = measure_file(file, part, file, part, found, gaps);
     let length = sizes.length;
     if MET_CEILING < length {
         return refused(LIMIT);
@@ -398,7 +412,7 @@ fn put_file(
         &mut out[at..],
         file,
         part.tags(),
-        range,
+        found.range,
         sizes.within,
         sizes.count,
         gaps,
@@ -425,7 +439,7 @@ pub fn put_gap_numbers(file: &[u8], gaps: &[u64], out: &mut [u8]) -> WriteAnswer
             if gaps[0] != found.size as u64 {
                 return refused(RANGE);
             }
-            put_file(out, file, part, found.range, found.count, gaps)
+            put_file(out, file, part, found, gaps)
         }
     }
 }

@@ -114,6 +114,15 @@ static void saves(void)
     TRY(ED2K_REFUSED_SHORT, ed2k_save(NONE, NONE, NONE, NO_OUTPUT));
 }
 
+static void merges(void)
+{
+    TRY(ED2K_REFUSED_SHORT, ed2k_merge(NONE, BYTES(part), BYTES(part), OUTPUT));
+    TRY(ED2K_REFUSED_SHORT, ed2k_merge(BYTES(part), NONE, BYTES(part), OUTPUT));
+    TRY(ED2K_REFUSED_SHORT, ed2k_merge(BYTES(part), BYTES(part), NONE, OUTPUT));
+    TRY(ED2K_REFUSED_ROOM, ed2k_merge(BYTES(part), BYTES(part), BYTES(part), NO_OUTPUT));
+    TRY(ED2K_REFUSED_SHORT, ed2k_merge(NONE, NONE, NONE, NO_OUTPUT));
+}
+
 static void queries(void)
 {
     TRY(ED2K_REFUSED_SHORT, ed2k_truth(NONE, BYTES(tags), &lent.truth));
@@ -185,6 +194,7 @@ int main(void)
     readers();
     gap_records();
     saves();
+    merges();
     queries();
     tag_writers();
     whole_writers();

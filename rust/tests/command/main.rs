@@ -8,6 +8,7 @@ mod packets;
 mod installing;
 mod manual;
 mod marking;
+mod merging;
 mod readme;
 mod saving;
 mod scripting;

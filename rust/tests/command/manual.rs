@@ -6,7 +6,7 @@ use std::process::Command;
 
 use crate::studio::{Studio, samples};
 
-const SUBCOMMANDS: [&str; 6] = ["read", "show", "gaps", "mark", "search", "save"];
+const SUBCOMMANDS: [&str; 7] = ["read", "show", "gaps", "mark", "search", "save", "merge"];
 
 fn repository(path: &str) -> PathBuf {
     samples().join("..").join(path)

@@ -5,7 +5,6 @@ use std::os::unix::fs::symlink;
 use std::path::Path;
 use std::process::Command;
 
-use crate::packets;
 use crate::studio::{COMMAND, Studio, sample_lines, samples};
 
 /// The lines that a text types after `$`, and what it shows below each.
@@ -30,13 +29,10 @@ fn document(path: &str) -> String {
     fs::read_to_string(samples().join("..").join(path)).unwrap_or_else(|error| panic!("{path}: {error}"))
 }
 
-/// The folder that README works in: the samples, and a part.met that another window has saved since it was opened.
-fn readme_folder() -> Studio {
+/// The folder that the texts work in: it has the samples.
+fn folder_with_samples() -> Studio {
     let studio = Studio::new();
     symlink(fs::canonicalize(samples()).unwrap(), studio.path("samples")).unwrap();
-    for (name, date) in [("opened.copy", 1), ("001.part.met", 2), ("w2", 3)] {
-        studio.file(name, &packets::part_met(date, 0, 100, &[]));
-    }
     studio
 }
 
@@ -59,10 +55,10 @@ fn what_readme_shows_is_what_is_printed() {
     let section =
         readme.split("\n## ").find(|section| section.starts_with("The command\n")).expect("the section");
     let shown = shown(section);
-    assert_printed(&readme_folder(), &shown);
+    assert_printed(&folder_with_samples(), &shown);
     let subcommand = |typed: &str| typed.strip_prefix("ed2k ")?.split(' ').next().map(String::from);
     let seen: Vec<String> = shown.iter().filter_map(|(typed, _)| subcommand(typed)).collect();
-    assert_eq!(seen, ["gaps", "show", "search", "save"]);
+    assert_eq!(seen, ["gaps", "show", "search", "mark", "mark", "save", "save", "merge"]);
 }
 
 /// Every sample of the client stands in the text, by its name or in a line that types it.
@@ -70,7 +66,7 @@ fn what_readme_shows_is_what_is_printed() {
 fn what_interop_shows_is_what_is_printed() {
     let text = document("docs/INTEROP.md");
     let shown = shown(&text);
-    assert_printed(&readme_folder(), &shown);
+    assert_printed(&folder_with_samples(), &shown);
     assert_eq!(shown.len(), 21);
     let typed: String = shown.iter().map(|(typed, _)| format!("{typed}\n")).collect();
     for (_, path, _) in sample_lines() {

@@ -267,11 +267,17 @@ fn the_manual_page_has_every_key() {
     for (kind, bytes) in others {
         shown(&studio, kind, &bytes).all_keys(&mut keys);
     }
-    studio.file("part", &packets::part_met(0, 0, 9, &[(0, 4)]));
-    for words in [&["gaps", "--json", "part"][..], &["show", "--json", "k", "part"]] {
+    for name in ["part", "first", "second"] {
+        studio.file(name, &packets::part_met(0, 0, 9, &[(0, 4)]));
+    }
+    for words in [
+        &["gaps", "--json", "part"][..],
+        &["show", "--json", "k", "part"],
+        &["merge", "--json", "--opened", "part", "first", "second", "out"],
+    ] {
         object(&studio.run(words).stdout).all_keys(&mut keys);
     }
-    assert_eq!(keys.len(), 57, "{keys:?}");
+    assert_eq!(keys.len(), 65, "{keys:?}");
     let missing: Vec<&String> = keys.iter().filter(|key| !manual.contains(&format!("\"{key}\""))).collect();
     assert!(missing.is_empty(), "{missing:?}");
 }

@@ -123,7 +123,7 @@ fn wrong_usage_gives_2_and_says_where_help_is() {
     assert_eq!(studio.names(), ["file"]);
 }
 
-const SUBCOMMANDS: [&str; 6] = ["read", "show", "gaps", "mark", "search", "save"];
+const SUBCOMMANDS: [&str; 7] = ["read", "show", "gaps", "mark", "search", "save", "merge"];
 
 /// The first line that is too long.
 fn long_line(printed: &str) -> Option<&str> {

@@ -16,7 +16,7 @@ const SHOWN: usize = 2_000;
 pub struct Comparison {
     seed: u64,
     turn: u64,
-    seen: BTreeMap<&'static str, [u64; 12]>,
+    seen: BTreeMap<&'static str, [u64; 13]>,
 }
 
 impl Comparison {
@@ -81,14 +81,24 @@ impl Comparison {
         (number == 0).then_some(fields)
     }
 
-    /// A call that writes, with room to spare, with just enough room, and with too little: what it writes if it accepts. One that refuses
-    /// does so with no room too.
+    /// What a call that writes writes, if it accepts.
     pub fn writing(
         &mut self,
         call: &'static str,
         input: &[&[u8]],
         run: impl Fn(&Calls, &mut [u8], &mut usize) -> u8,
     ) -> Option<Vec<u8>> {
+        self.written(call, input, run).ok()
+    }
+
+    /// A call that writes, with room to spare, with just enough room, and with too little: what it writes, or its number. One that
+    /// refuses does so with no room too.
+    pub fn written(
+        &mut self,
+        call: &'static str,
+        input: &[&[u8]],
+        run: impl Fn(&Calls, &mut [u8], &mut usize) -> u8,
+    ) -> Result<Vec<u8>, u8> {
         let lent = |room| {
             let run = &run;
             move |calls: &Calls| {
@@ -102,7 +112,7 @@ impl Comparison {
         if number != 0 {
             let (again, _) = self.same(call, input, lent(0));
             assert_eq!(again, number, "seed {}, {call}: room is asked for last", self.seed);
-            return None;
+            return Err(number);
         }
         let (_, (_, output)) = self.same(call, input, lent(length));
         self.turn += 1;
@@ -110,7 +120,7 @@ impl Comparison {
             self.same(call, input, lent(length.saturating_sub(1)));
             self.same(call, input, lent(0));
         }
-        Some(output)
+        Ok(output)
     }
 
     /// The call answered each of these numbers, and no other.

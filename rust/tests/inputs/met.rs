@@ -111,7 +111,7 @@ fn some_gaps(random: &mut Random, size: u64) -> Gaps {
 
 /// How the gaps of a file are numbered. The last two are not valid.
 #[derive(Clone, Copy)]
-enum Numbering {
+pub(super) enum Numbering {
     Shortest,
     Padded,
     Long,
@@ -119,7 +119,7 @@ enum Numbering {
     Twice,
 }
 
-fn gap_number(random: &mut Random, numbering: Numbering, index: usize) -> String {
+pub(super) fn gap_number(random: &mut Random, numbering: Numbering, index: usize) -> String {
     match numbering {
         Numbering::Shortest => index.to_string(),
         Numbering::Padded => format!("{index:0width$}", width = random.within(3, 10)),
@@ -145,7 +145,7 @@ fn dword_tag(name: &[u8], number: u32, out: &mut Vec<u8>) {
     out.extend(number.to_le_bytes());
 }
 
-fn gap_tag(first: u8, number: &str, value: u64, out: &mut Vec<u8>) {
+pub(super) fn gap_tag(first: u8, number: &str, value: u64, out: &mut Vec<u8>) {
     let name: Vec<u8> = [&[first], number.as_bytes()].concat();
     dword_tag(&name, value as u32, out);
 }
@@ -204,14 +204,14 @@ fn part_pair(random: &mut Random, index: usize, groups: &mut [TagGroup]) {
     groups[index].0 = 3;
 }
 
-fn size_tag(size: u32) -> TagGroup {
+pub(super) fn size_tag(size: u32) -> TagGroup {
     let mut tag = Vec::new();
     dword_tag(&[2], size, &mut tag);
     (1, tag)
 }
 
 /// A tag that is neither the size nor a gap.
-fn other_tag(random: &mut Random) -> TagGroup {
+pub(super) fn other_tag(random: &mut Random) -> TagGroup {
     let mut other = Vec::new();
     let name = random.pick::<&[u8]>(&[&[1], &[3], &[0x13], b"abc", b"\x02x", &[8], &[0x0B, b'1']]);
     let kind = random.within(1, 4) as u8;
@@ -251,7 +251,7 @@ pub fn lawful_part_tags(size: u32, gaps: &Gaps, out: &mut Vec<u8>) {
     }
 }
 
-fn text_tag_named_size(random: &mut Random) -> Vec<u8> {
+pub(super) fn text_tag_named_size(random: &mut Random) -> Vec<u8> {
     let mut tag = Vec::new();
     tag_of(2, &[2], random, &mut tag);
     tag

@@ -6,12 +6,14 @@ mod grown;
 mod made;
 mod messages;
 mod met;
+mod saves;
 
 pub use damage::damaged;
 pub use grown::{LONG_PART_SIZE, client_known_met, grown, long_part_met};
 pub use made::*;
 pub use messages::*;
 pub use met::*;
+pub use saves::*;
 
 /// SplitMix64.
 pub struct Random(u64);

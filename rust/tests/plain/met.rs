@@ -6,7 +6,7 @@ use super::tags::{Tag, Tags, Value, tag, tag_list};
 use super::{Answer, Fields, GAP_CEILING, List, MET_CEILING, Refusal, within};
 
 const MET_OPENING: u8 = 0x0E;
-const PART_OPENING: u8 = 0xE0;
+pub(super) const PART_OPENING: u8 = 0xE0;
 const BLOCKS_OPENING: u8 = 0xE1;
 const PART_BYTES: u32 = 9_728_000;
 const BLOCK_BYTES: u32 = 486_400;
@@ -88,16 +88,16 @@ struct Hashes {
 
 const NO_LIST: List = List { at: 0, end: 0, count: 0 };
 
-struct Part {
-    opening: u8,
-    date: u32,
-    hash: u64,
-    tags: List,
-    gaps: GapNumbers,
+pub(super) struct Part {
+    pub opening: u8,
+    pub date: u32,
+    pub hash: u64,
+    pub tags: List,
+    pub gaps: GapNumbers,
     hashes: Hashes,
 }
 
-fn part(cursor: &mut Cursor) -> Answer<Part> {
+pub(super) fn part(cursor: &mut Cursor) -> Answer<Part> {
     match cursor.byte()? {
         PART_OPENING => counted_part(cursor),
         BLOCKS_OPENING => blocks_part(cursor),
@@ -168,12 +168,12 @@ fn size(tags: Tags) -> Answer<u32> {
     }
 }
 
-fn is_gap_tag(tag: &Tag) -> bool {
+pub(super) fn is_gap_tag(tag: &Tag) -> bool {
     matches!(tag.name.bytes[0], START | END)
 }
 
-const START: u8 = 0x09;
-const END: u8 = 0x0A;
+pub(super) const START: u8 = 0x09;
+pub(super) const END: u8 = 0x0A;
 
 fn gaps(mut tags: Tags, size: u32) -> Answer<GapNumbers> {
     let mut record = [0; GAP_NUMBERS];
@@ -283,7 +283,7 @@ fn write_part(file: &[u8], part: &Part, gaps: &[Gap], output: &mut [u8]) {
     write(&file[part.tags.end..]);
 }
 
-fn write_gap_tag(write: &mut impl FnMut(&[u8]), kind: u8, number: usize, value: u32) {
+pub(super) fn write_gap_tag(write: &mut impl FnMut(&[u8]), kind: u8, number: usize, value: u32) {
     let (tens, ones) = (b'0' + (number / 10) as u8, b'0' + (number % 10) as u8);
     match digits(number) {
         1 => write(&[3, 2, 0, kind, ones]),

@@ -1,4 +1,4 @@
-//! A second reading of document 01 in plain Rust, written from it alone and kept apart from the proved code. The tests hold
+//! A second reading of documents 01 and 02 (No. 3) in plain Rust, written from them alone and kept apart from the proved code. The tests hold
 //! the archive to it. Answers have the form that `ed2k.h` gives them.
 #![allow(dead_code, unused_imports)]
 
@@ -6,6 +6,7 @@ mod bodies;
 mod calls;
 mod cursor;
 mod gaps;
+mod merging;
 mod messages;
 mod met;
 mod packets;
@@ -15,6 +16,7 @@ mod writers;
 
 pub use calls::{Calls, PLAIN};
 pub use gaps::{GAP_NUMBERS, GapNumbers, all_missing, count_missing, mark};
+pub use merging::merge;
 pub use messages::{write_address, write_file_entry, write_message, write_record, write_server_entry};
 pub use met::{block_count, part_count, put_gaps, read_gaps, save};
 pub use query::truth;
@@ -37,7 +39,7 @@ pub const PART_MET: u8 = 5;
 pub const LONE_QUERY: u8 = 6;
 pub const LONE_TAGS: u8 = 7;
 
-/// The numbers of 01 other than 0.
+/// The numbers of 01 and 02 other than 0.
 #[derive(Clone, Copy, Debug, PartialEq, Eq)]
 #[repr(u8)]
 pub enum Refusal {
@@ -52,6 +54,7 @@ pub enum Refusal {
     Size,
     Room,
     Conflict,
+    Strangers,
 }
 
 pub type Answer<T> = Result<T, Refusal>;

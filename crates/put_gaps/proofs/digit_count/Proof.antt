@@ -1,4 +1,4 @@
-use Rattle.put_gaps.proofs.Decimals.{decimal-one, decimal-two}
+use Rattle.format.proofs.Decimals.{decimal-one, decimal-two}
 use lib.ListN.{length}
 use mathlib.Core.Path.{sym, ap}
 use Rattle.put_gaps.proofs.digit_count.Statement.{statement}

@@ -1,4 +1,4 @@
-use Rattle.put_gaps.proofs.Decimals.{decimal-one, decimal-two}
+use Rattle.format.proofs.Decimals.{decimal-one, decimal-two}
 use Rattle.output.proofs.Laws.{stores}
 use native.Mathlib.Omega.{arith}
 use lib.ListN.{length, length-set}

@@ -1,6 +1,7 @@
 -- The file was accepted (`accepted`) and the record was found lawful (`lawful`); each answer follows by a law of Puts from these two.
-use Rattle.put_gaps.proofs.Puts.{Accepts, reads, put-refused, put-unlawful, put-other-size, put-fitting}
+use Rattle.put_gaps.proofs.Puts.{reads, put-refused, put-unlawful, put-other-size, put-fitting}
 use Rattle.put_gaps.specs.PutAnswers.{putRecord}
+use Rattle.put_gaps.specs.Pieces.{Accepts}
 use Rattle.gap_numbers.specs.Numbers.{held, recordIn}
 use Rattle.gap_numbers.proofs.Records.{lawful-numbers}
 use Rattle.gaps.specs.GapRecords.{lawfulRecord}
@@ -95,7 +96,7 @@ put-file-requires : tie.Need-put-file-requires
 put-file-requires c κs =
     let e = c .before .before .before .before in
     let a = accepted (e .before .before) in
-    (a .read, a .ranged, (there e .0, lawful-record-exactly sizeLimit (held (tried e)) .0 (lawful e)), a .counted)
+    (a, (there e .0, lawful-record-exactly sizeLimit (held (tried e)) .0 (lawful e)))
 
 returns-3 : tie.Need-returns-3
 returns-3 c =

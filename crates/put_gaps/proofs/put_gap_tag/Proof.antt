@@ -1,6 +1,6 @@
 -- Type, length of the name, name and number are written one after the other (`tag-pieces` of Pairs).
 use Rattle.put_gaps.proofs.Pairs.{tag-pieces}
-use Rattle.put_gaps.proofs.Decimals.{decimal-length}
+use Rattle.format.proofs.Decimals.{decimal-length}
 use Rattle.output.proofs.Laws.{after}
 use Rattle.format.proofs.Codec.{length-littleEndian}
 use Rattle.format.specs.PutGaps.{decimalOf}

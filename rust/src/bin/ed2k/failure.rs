@@ -8,8 +8,9 @@ use ed2k::Refusal;
 
 /// Why a subcommand did not do its work.
 pub enum Failure {
-    /// The proved code refuses. What is refused, and more lines on what to do about it, if any.
-    Refused(String, Refusal, String),
+    /// The proved code refuses. What is refused, the number, what it means here, and more lines on what to do about it, if
+    /// any.
+    Refused { what: String, number: u8, meaning: &'static str, more: String },
     /// The words after the command are wrong. What is wrong, and where help is.
     Usage(String, &'static str),
     /// A file cannot be read or written. What was tried, what the system says, and more lines, if any.
@@ -23,7 +24,10 @@ pub enum Failure {
 impl Failure {
     /// The refusal of the thing named, with nothing to add.
     pub fn refused(what: impl Into<String>) -> impl FnOnce(Refusal) -> Failure {
-        |refusal| Failure::Refused(what.into(), refusal, String::new())
+        |refusal| {
+            let (number, meaning) = (refusal.number(), refusal.meaning());
+            Failure::Refused { what: what.into(), number, meaning, more: String::new() }
+        }
     }
 
     /// The system's error at the thing tried.
@@ -34,7 +38,7 @@ impl Failure {
     /// The same failure with a line more, on what has become of the files or on what to do.
     pub fn and_say(mut self, line: String) -> Failure {
         match &mut self {
-            Failure::Refused(_, _, more) | Failure::File(_, _, more) | Failure::Output(_, more) => {
+            Failure::Refused { more, .. } | Failure::File(_, _, more) | Failure::Output(_, more) => {
                 more.extend([&line, "\n"]);
             }
             Failure::Unfit(problem) => problem.extend(["\n", &line]),
@@ -46,7 +50,7 @@ impl Failure {
     /// 1 for a refusal, 2 for all else.
     pub fn status(&self) -> ExitCode {
         match self {
-            Failure::Refused(..) => ExitCode::from(1),
+            Failure::Refused { .. } => ExitCode::from(1),
             _ => ExitCode::from(2),
         }
     }
@@ -61,7 +65,9 @@ impl From<io::Error> for Failure {
 impl fmt::Display for Failure {
     fn fmt(&self, f: &mut fmt::Formatter<'_>) -> fmt::Result {
         match self {
-            Failure::Refused(what, refusal, more) => write!(f, "ed2k: {what} is {refusal}\n{more}"),
+            Failure::Refused { what, number, meaning, more } => {
+                write!(f, "ed2k: {what} is refused {number}: {meaning}\n{more}")
+            }
             Failure::Usage(problem, help) => writeln!(f, "ed2k: {problem}\nFor help: {help}"),
             Failure::File(tried, error, more) => write!(f, "ed2k: cannot {tried}: {error}\n{more}"),
             Failure::Unfit(problem) => writeln!(f, "ed2k: {problem}"),

@@ -37,24 +37,32 @@ pub fn run(words: Vec<OsString>, output: &mut dyn Write) -> Outcome {
     match read {
         Ok((met, record)) if arguments.flag("--json") => Ok(Json::print(members(&met, &record), output)?),
         Ok((met, record)) => show(&met, &record, output),
-        Err(refusal) if arguments.flag("--json") => Json::refused(text::input_name(&name), refusal, output),
-        Err(refusal) => Err(Failure::refused(text::input_name(&name))(refusal)),
+        Err(refusal) => {
+            let failure = Failure::refused(text::input_name(&name))(refusal);
+            if arguments.flag("--json") { Json::refused(failure, output) } else { Err(failure) }
+        }
     }
 }
 
 fn show(met: &PartMet<'_>, record: &GapRecord, output: &mut dyn Write) -> Outcome {
-    summary(met, record, output)?;
-    if record.size() > 0 {
-        bar(record, Cells::of_output(), output)?;
-    }
+    overview(met, record, output)?;
     if record.missing() > 0 {
         ranges(met, record, output)?;
     }
     Ok(())
 }
 
+/// How much of the model is there, in numbers and as a bar.
+pub fn overview(met: &PartMet<'_>, record: &GapRecord, output: &mut dyn Write) -> Outcome {
+    summary(met, record, output)?;
+    if record.size() > 0 {
+        bar(record, Cells::of_output(), output)?;
+    }
+    Ok(())
+}
+
 /// The keys are those of the manual page.
-fn members(met: &PartMet<'_>, record: &GapRecord) -> [(&'static str, Json); 7] {
+pub fn members(met: &PartMet<'_>, record: &GapRecord) -> [(&'static str, Json); 7] {
     let gap =
         |gap: Gap| Json::Object(vec![("start", Json::number(gap.start)), ("end", Json::number(gap.end))]);
     [
@@ -147,6 +155,11 @@ fn common(one: Gap, other: Gap) -> Option<Gap> {
 
 fn missing_in(record: &GapRecord, range: Gap) -> u64 {
     record.gaps().filter_map(|gap| common(gap, range)).map(Gap::byte_count).sum()
+}
+
+/// How many bytes both records miss.
+pub fn missing_in_both(one: &GapRecord, other: &GapRecord) -> u64 {
+    one.gaps().map(|gap| missing_in(other, gap)).sum()
 }
 
 /// A missing range within one part, or over several parts that are missing whole.

@@ -3,8 +3,6 @@
 use std::fmt::{self, Write as _};
 use std::io::{self, Write};
 
-use ed2k::Refusal;
-
 use crate::failure::Failure;
 use crate::{Outcome, text};
 
@@ -57,13 +55,14 @@ impl Json {
         writeln!(output, "{}", Json::Object(members.collect()))
     }
 
-    /// Prints the object of a refusal, and fails as without JSON.
-    pub fn refused(what: String, refusal: Refusal, output: &mut dyn Write) -> Outcome {
-        let members =
-            vec![("number", Json::number(refusal.number())), ("meaning", Json::word(refusal.meaning()))];
-        writeln!(output, "{}", Json::Object(members))?;
-        output.flush()?;
-        Err(Failure::refused(what)(refusal))
+    /// Prints the object of a refusal, and fails as without JSON. Other failures have no object.
+    pub fn refused(failure: Failure, output: &mut dyn Write) -> Outcome {
+        if let Failure::Refused { number, meaning, .. } = &failure {
+            let members = vec![("number", Json::number(*number)), ("meaning", Json::word(meaning))];
+            writeln!(output, "{}", Json::Object(members))?;
+            output.flush()?;
+        }
+        Err(failure)
     }
 }
 

@@ -1,4 +1,4 @@
-//! The command `ed2k`: reads, shows, marks, searches and saves packets and met files.
+//! The command `ed2k`: reads, shows, marks, searches, saves and merges packets and met files.
 
 #![forbid(unsafe_code)]
 
@@ -8,6 +8,7 @@ mod files;
 mod gaps;
 mod json;
 mod mark;
+mod merge;
 mod output;
 mod read;
 mod save;
@@ -33,13 +34,14 @@ struct Subcommand {
     run: fn(Vec<OsString>, &mut dyn Write) -> Outcome,
 }
 
-static SUBCOMMANDS: [Subcommand; 6] = [
+static SUBCOMMANDS: [Subcommand; 7] = [
     Subcommand { name: "read", help: read::HELP, run: read::run },
     Subcommand { name: "show", help: show::HELP, run: show::run },
     Subcommand { name: "gaps", help: gaps::HELP, run: gaps::run },
     Subcommand { name: "mark", help: mark::HELP, run: mark::run },
     Subcommand { name: "search", help: search::HELP, run: search::run },
     Subcommand { name: "save", help: save::HELP, run: save::run },
+    Subcommand { name: "merge", help: merge::HELP, run: merge::run },
 ];
 
 const HELP: &str = "\
@@ -51,6 +53,7 @@ ed2k: packets and met files of the eDonkey protocol, by proved code
   ed2k mark FILE START END                   mark bytes of a model as arrived
   ed2k search --name TEXT KNOWN-MET          the models that are looked for
   ed2k save --opened OLD --new NEW STORED    save, but never over another's save
+  ed2k merge --opened OLD FIRST SECOND OUT   make one file of two saves
 
   ed2k help SUBCOMMAND                       more about one of them
   ed2k --version

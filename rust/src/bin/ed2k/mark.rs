@@ -34,7 +34,7 @@ pub fn run(words: Vec<OsString>, output: &mut dyn Write) -> Outcome {
     let arguments = Arguments::sort(words, &["--wait"], &["--dry-run"], "ed2k mark --help")?;
     let [name, start, end] = arguments.operands("FILE, START and END")?;
     let (start, end) = (arguments.number("START", &start)?, arguments.number("END", &end)?);
-    let store = Store { name: &name, wait: store::wait(&arguments)?, work: None };
+    let store = Store { name: &name, wait: store::wait(&arguments)?, work: vec![] };
     let mark = Mark { name: &name, start, end };
     if arguments.flag("--dry-run") {
         let marked = mark.on(&files::read(Kind::PartMet, &name)?)?;
@@ -77,12 +77,12 @@ impl Mark<'_> {
         let what = format!("the mark from {start} up to {end} in {}", text::file_name(self.name));
         let size = text::bytes(record.size());
         let more = match refusal {
-            Refusal::Limit => "A part.met has at most 64 gaps. Nothing was changed.\n".into(),
+            Refusal::Limit => "A part.met has at most 64 gaps. Nothing was changed.".into(),
             _ => format!(
-                "START must be below END, and END at most the model's size, {size}.\nNothing was changed.\n"
+                "START must be below END, and END at most the model's size, {size}.\nNothing was changed."
             ),
         };
-        Failure::Refused(what, refusal, more)
+        Failure::refused(what)(refusal).and_say(more)
     }
 
     /// Marks under the lock, from reading to renaming. Where that changes nothing, nothing is saved: another window's save

@@ -54,7 +54,8 @@ pub fn run(words: Vec<OsString>, output: &mut dyn Write) -> Outcome {
     if new != "-" && files::are_one(new, &stored) {
         return Err(arguments.wrong(NEW_IS_STORED.into()));
     }
-    let store = Store { name: &stored, wait: store::wait(&arguments)?, work: (new != "-").then_some(new) };
+    let work = if new == "-" { vec![] } else { vec![new] };
+    let store = Store { name: &stored, wait: store::wait(&arguments)?, work };
     let save = Save { opened, new, store };
     save.print(save.run()?, output).map_err(|failure| {
         let line = format!("{} is saved.", text::file_name(&stored));
@@ -111,17 +112,21 @@ impl Save<'_> {
     fn refused(&self, refusal: Refusal, stored_is_there: bool) -> Failure {
         let (new, kept) = (text::input_name(self.new), text::file_name(self.store.name));
         if refusal != Refusal::Conflict {
-            return Failure::Refused(new, refusal, format!("Nothing was saved: {kept} is as it was.\n"));
+            return Failure::refused(new)(refusal)
+                .and_say(format!("Nothing was saved: {kept} is as it was."));
         }
-        Failure::Refused(format!("the save of {new}"), refusal, self.conflict(stored_is_there))
+        let (what, number) = (format!("the save of {new}"), refusal.number());
+        let meaning = "the stored file differs from the one opened";
+        Failure::Refused { what, number, meaning, more: String::new() }
+            .and_say(self.conflict(stored_is_there))
     }
 
     /// Where the person's work is. What came by standard input is nowhere else that we know of.
     fn work(&self) -> String {
-        match self.store.work {
-            Some(new) => format!("your work is still in {}", text::file_name(new)),
-            None => "your work is still with who sent it to standard input".into(),
+        if self.new == "-" {
+            return "your work is still with who sent it to standard input".into();
         }
+        format!("your work is still in {}", text::file_name(self.new))
     }
 
     /// A conflict in plain words.
@@ -132,7 +137,7 @@ impl Save<'_> {
             return format!(
                 "{kept} is not there, but {opened}, the copy of what was opened, is not empty.\n\
                  Nothing was lost: nothing was written, and {work}.\n\
-                 For a first save, --opened names a file that is empty or not there.\n"
+                 For a first save, --opened names a file that is empty or not there."
             );
         }
         let happened = if fs::exists(self.opened).unwrap_or(true) {
@@ -140,10 +145,17 @@ impl Save<'_> {
         } else {
             format!("{kept} is there, but {opened}, the copy of what was opened, is not.")
         };
-        format!(
-            "{happened}\n\
-             Nothing was lost: {kept} is untouched, and {work}.\n\
-             To keep both, open {kept} again, make your change there, and save that.\n"
-        )
+        format!("{happened}\nNothing was lost: {kept} is untouched, and {work}.\n{}", self.advice())
+    }
+
+    /// How to keep both: by a merge, if there are three files for it.
+    fn advice(&self) -> String {
+        let kept = text::file_name(self.store.name);
+        let copy_is_there = fs::metadata(self.opened).is_ok_and(|opened| opened.len() > 0);
+        if self.new == "-" || !copy_is_there {
+            return format!("To keep both, open {kept} again, make your change there, and save that.");
+        }
+        let (opened, new) = (text::file_name(self.opened), text::file_name(self.new));
+        format!("To keep both, merge them:\n  ed2k merge --opened {opened} {kept} {new} {kept}")
     }
 }

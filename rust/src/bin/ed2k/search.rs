@@ -134,7 +134,7 @@ impl Search {
         };
         let unsearched = text::count(self.unsearched.len(), "entry was", "entries were");
         let what = format!("the tag list of entry {number} of {met_name}");
-        Err(Failure::Refused(what, *refusal, format!("{unsearched} not searched; all others were.\n")))
+        Err(Failure::refused(what)(*refusal).and_say(format!("{unsearched} not searched; all others were.")))
     }
 }
 

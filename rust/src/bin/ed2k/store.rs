@@ -1,4 +1,4 @@
-//! What `save` and `mark` do alike with a stored file: waiting for its lock, and what to say where the disk says no.
+//! What `save`, `mark` and `merge` do alike with a stored file: waiting for its lock, and what to say where the disk says no.
 
 use std::ffi::OsStr;
 use std::io::{self, Write};
@@ -20,8 +20,8 @@ pub struct Store<'a> {
     pub name: &'a OsStr,
     /// How long to wait for others' saves.
     pub wait: Duration,
-    /// The file that has the person's work, if that is another one.
-    pub work: Option<&'a OsStr>,
+    /// The files that have people's work, if those are others.
+    pub work: Vec<&'a OsStr>,
 }
 
 /// How long to wait for others' saves: as long as --wait says, or as a person would.
@@ -61,10 +61,10 @@ impl Store<'_> {
     /// What has become of the files where nothing was saved, in a line each.
     pub fn nothing_lost(&self) -> String {
         let kept = format!("Nothing was lost: {} is as it was.", text::file_name(self.name));
-        match self.work {
-            Some(work) => format!("{kept}\nYour work is still in {}.", text::file_name(work)),
-            None => kept,
+        if self.work.is_empty() {
+            return kept;
         }
+        format!("{kept}\nYour work is still in {}.", text::file_names(&self.work))
     }
 
     /// Says whose the file is, if it is another's than before.

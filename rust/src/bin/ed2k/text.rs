@@ -101,7 +101,13 @@ pub fn file_name(name: &OsStr) -> String {
     format!("'{}'", plain(name.as_encoded_bytes()))
 }
 
-/// The same where `-` is standard input.
+/// The names of files, each in quotes.
+pub fn file_names(names: &[&OsStr]) -> String {
+    let names: Vec<String> = names.iter().map(|name| file_name(name)).collect();
+    names.join(" and ")
+}
+
+/// A file's name, in quotes, where `-` is standard input.
 pub fn input_name(name: &OsStr) -> String {
     if name == "-" { "standard input".into() } else { file_name(name) }
 }

@@ -5,7 +5,7 @@ mod met;
 mod packet;
 mod query;
 mod sheet;
-mod tags;
+pub mod tags;
 
 use std::ffi::OsString;
 use std::io::{self, Write};
@@ -48,8 +48,10 @@ pub fn run(words: Vec<OsString>, output: &mut dyn Write) -> Outcome {
             Ok(Json::print(head.into_iter().chain(json::members(&message)), output)?)
         }
         Ok(message) => Ok(show(kind, &message, bytes.len(), output)?),
-        Err(refusal) if arguments.flag("--json") => Json::refused(text::input_name(&name), refusal, output),
-        Err(refusal) => Err(Failure::refused(text::input_name(&name))(refusal)),
+        Err(refusal) => {
+            let failure = Failure::refused(text::input_name(&name))(refusal);
+            if arguments.flag("--json") { Json::refused(failure, output) } else { Err(failure) }
+        }
     }
 }
 

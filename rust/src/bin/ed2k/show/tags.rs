@@ -54,7 +54,8 @@ pub fn name(name: &[u8]) -> String {
     }
 }
 
-fn value(tag: &Tag<'_>, before: Option<Tag<'_>>) -> String {
+/// A tag's type and value in words. `before` is the tag before it, with which it may make a gap.
+pub fn value(tag: &Tag<'_>, before: Option<Tag<'_>>) -> String {
     let value = typed_value(tag, before);
     match meaning(tag.name) {
         Some(meaning) => format!("{value}, {meaning}"),

@@ -5,18 +5,21 @@ use mathlib.Core.Bool.{true, false}
 use mathlib.Core.Option.{Option, none, some}
 use mathlib.Core.List.{List, [], _∷_, _++_, map, append-assoc, append-nil}
 use native.Mathlib.Omega.{arith}
-use lib.ListN.{length}
+use lib.ListN.{length, length-append}
 use lib.Dec.{eqb}
 use borrow.Author.Tests.{eqb-true}
 use Rattle.format.specs.Tables.{pick, same}
 use Rattle.format.specs.Gaps.{Gap, Ordered, Lawful}
-use Rattle.format.specs.Messages.{Tag}
-use Rattle.format.specs.Rules.{All, Apart, Digits, Distinct, GapPair, Paired, SizeIs, ValidPartTags, done, gapOf, other, pair}
+use Rattle.format.specs.Messages.{PartMet, Tag, e0, e1}
+use Rattle.format.specs.Layout.{encodeAll, encodeFileEntry, encodePartE1, encodePartMet, encodeTag, encodeTags, littleEndian}
+use Rattle.format.specs.Rules.{All, Apart, Bytes, Digits, Distinct, Dword, GapPair, Paired, SizeIs, done, dwordTag, gapOf, metCeiling, other, pair}
+use Rattle.format.specs.Rules.{ValidHash, ValidHashBlocks, ValidPartMet, ValidPartTags, ValidTag, ValidTags}
 use Rattle.format.specs.GapTags.{Role, plain, odd, start, end, role, roleIn, gapsOf, numberOf}
 use Rattle.format.specs.PartTagOrder.{sizeIn, sizes}
-use Rattle.format.specs.PutGaps.{isPlain, plainTags, decimalOf, gapTags, regapped}
+use Rattle.format.specs.PutGaps.{isPlain, plainTags, decimalOf, gapTags, regapped, tagsOf}
+use Rattle.format.specs.Merging.{dateOf, formOf, hashOf, partOf}
 use Rattle.format.proofs.PartTags.{Means, either-test, gaps-of, no-true, role-means, size-sizes, sizes-means}
-use Rattle.put_gaps.proofs.Decimals.{decimal-digits, same-decimal}
+use Rattle.format.proofs.Decimals.{decimal-digits, same-decimal}
 
 -- The tags that are no gap tags
 
@@ -163,3 +166,98 @@ valid-regapped limit size gaps tags h k = record {
     order = subst (Ordered size 0) (sym (gaps-pairs 0 gaps)) (h .ordered);
   };
 }
+
+-- The tags of the gaps are valid tags.
+
+digits-bytes : (d : List ℕ) → All (λ b. (0x30 ≤ b) × (b ≤ 0x39)) d → Bytes d
+digits-bytes [] h = tt
+digits-bytes (b ∷ d) h = (omega arith, digits-bytes d (h .1))
+
+valid-gapTag : (b : ℕ) (d : List ℕ) (n : ℕ) → b < 256 → Digits d → n < 4294967296 → ValidTag (dwordTag (b ∷ d) n)
+valid-gapTag b d n h k few = record {
+  name = record { some = omega arith; few = omega (arith, k .few); bytes = (h, digits-bytes d (k .decimal)) };
+  value = few;
+}
+
+valid-gapTags : (size low i : ℕ) (gaps : List Gap) → size ≤ 4294967295 → i + length gaps ≤ 100 → Ordered size low gaps → All ValidTag (gapTags i gaps)
+unfolding gapTags Ordered
+valid-gapTags size low i [] few h o = tt
+valid-gapTags size low i (g ∷ gaps) few h o =
+    let d = decimal-digits i (omega arith) in (
+      valid-gapTag 0x09 _ (g .start) (omega arith) d (omega (arith, o .1, o .2)),
+      (valid-gapTag 0x0A _ (g .end) (omega arith) d (omega (arith, o .2)), valid-gapTags size (suc (g .end)) (suc i) gaps few (omega arith) (o .3)),
+    )
+
+all-append : {A : Type 0} (P : A → Type 0) (k l : List A) → All P k → All P l → All P (k ++ l)
+all-append P [] l h j = j
+all-append P (a ∷ k) l h j = (h .0, all-append P k l (h .1) j)
+
+-- A tag has at least one byte, so that a list has at most as many tags as bytes.
+tag-some : (t : Tag) → 1 ≤ length (encodeTag t)
+unfolding encodeTag littleEndian
+tag-some t = omega arith
+
+pub tags-few : (l : List Tag) → length l ≤ length (encodeAll encodeTag l)
+tags-few [] = omega arith
+tags-few (t ∷ l) = omega (arith, tag-some t, tags-few l, length-append (encodeTag t) (encodeAll encodeTag l))
+
+pub tags-short : (m : PartMet) → length (encodeAll encodeTag (tagsOf m)) ≤ length (encodePartMet m)
+unfolding encodePartMet encodeFileEntry encodePartE1 encodeTags tagsOf
+tags-short (e0 e) = simp length-append (omega arith)
+tags-short (e1 m) = simp length-append (omega arith)
+
+pub same-size : (n m : ℕ) (tags : List Tag) → SizeIs n tags → SizeIs m tags → n ≡ m
+same-size n m tags h k = let a = size-sizes n tags h in let b = size-sizes m tags k in cc
+
+-- A part.met with the form of a valid one, and the tags of another of its size with other gaps.
+module _ (limit size : ℕ) (gaps : List Gap) (limited : limit ≤ 4294967295) (lawful : Lawful limit size gaps) (tags : List Tag) (sized : SizeIs size tags) where
+  tags-valid : ValidTags tags → length (encodeAll encodeTag (regapped gaps tags)) ≤ metCeiling → ValidTags (regapped gaps tags)
+  tags-valid h few = (
+    omega (arith, tags-few (regapped gaps tags)),
+    all-append ValidTag (plainTags tags) (gapTags 0 gaps) (all-plain ValidTag tags (h .1))
+        (valid-gapTags size 0 0 gaps (omega (arith, lawful .fits)) (omega (arith, lawful .few)) (lawful .ordered)),
+  )
+
+  pub part-valid : (m : PartMet) → ValidPartMet m → SizeIs size (tagsOf m) → (date : ℕ) → Dword date → (hash : List ℕ) → ValidHash hash → ValidTags tags →
+      length (encodePartMet (partOf (formOf m) date hash (regapped gaps tags))) ≤ metCeiling → ValidPartMet (partOf (formOf m) date hash (regapped gaps tags))
+  unfolding ValidPartMet tagsOf
+  part-valid (e0 e) h k date date-fits hash hash-valid v few = record {
+    entry = record {
+      date = date-fits;
+      hash = hash-valid;
+      parts = h .entry .parts;
+      tags = tags-valid v (omega (arith, tags-short (partOf (formOf (e0 e)) date hash (regapped gaps tags))));
+    };
+    size = size;
+    sized = valid-regapped limit size gaps tags lawful sized;
+  }
+  part-valid (e1 m) h k date date-fits hash hash-valid v few = record {
+    date = date-fits;
+    hash = hash-valid;
+    tags = tags-valid v (omega (arith, tags-short (partOf (formOf (e1 m)) date hash (regapped gaps tags))));
+    size = size;
+    sized = valid-regapped limit size gaps tags lawful sized;
+    blocks = subst (λ n. ValidHashBlocks n (m .blocks)) (same-size (h .size) size (m .tags) (h .sized .one) k) (h .blocks);
+  }
+
+-- What the rules say of each part by itself.
+
+pub valid-date : (m : PartMet) → ValidPartMet m → Dword (dateOf m)
+unfolding ValidPartMet
+valid-date (e0 e) h = h .entry .date
+valid-date (e1 m) h = h .date
+
+pub valid-hash : (m : PartMet) → ValidPartMet m → ValidHash (hashOf m)
+unfolding ValidPartMet
+valid-hash (e0 e) h = h .entry .hash
+valid-hash (e1 m) h = h .hash
+
+pub valid-tags : (m : PartMet) → ValidPartMet m → ValidTags (tagsOf m)
+unfolding ValidPartMet tagsOf
+valid-tags (e0 e) h = h .entry .tags
+valid-tags (e1 m) h = h .tags
+
+pub valid-sized : (m : PartMet) → ValidPartMet m → (size : ℕ) × ValidPartTags size (tagsOf m)
+unfolding ValidPartMet tagsOf
+valid-sized (e0 e) h = (h .size, h .sized)
+valid-sized (e1 m) h = (h .size, h .sized)

@@ -1,0 +1,5 @@
+pub mod Numbers
+pub mod Choosing
+pub mod Models
+pub mod Outcomes
+pub mod Answers
