@@ -1,10 +1,11 @@
-/* Saves a part.met to the disk over the calls of ed2k.h, in the steps of the Rust crate (its module disk): lock, read, ed2k_save, write,
- * fsync, rename, fsync of the folder. It shares the lock with the crate and the command.
+/* Saves a part.met to the disk over the calls of ed2k.h, in the steps of the Rust crate (its module disk): lock, read, ed2k_save or
+ * ed2k_save_strict, write, fsync, rename, fsync of the folder. It shares the lock with the crate and the command.
  *
- *     saving OPENED NEW STORED
+ *     saving [--strict] OPENED NEW STORED
  *
- * OPENED is the copy of what was opened; a file that is not there counts as empty. However this is interrupted, STORED is the old or the
- * new file, whole. Ends with 0 if it saved, 1 if the save was refused, 2 if the system did not allow it; then STORED is as it was.
+ * OPENED is the copy of what was opened; a file that is not there counts as empty. If STORED is no longer that, NEW is merged with it; with
+ * --strict, as the archive job and a model's first save ask, that is a conflict instead. However this is interrupted, STORED is the old or
+ * the new file, whole. Ends with 0 if it saved, 1 if the save was refused, 2 if the system did not allow it; then STORED is as it was.
  * Unlike the crate it keeps no extended attributes, and saves nothing where the group cannot be kept. */
 #define _DEFAULT_SOURCE
 #include <errno.h>
@@ -20,7 +21,7 @@
 
 #include "ed2k.h"
 
-/* A part.met has at most 1,048,576 bytes. */
+/* A part.met has at most 1,048,576 bytes, and so has a merge of two. */
 #define ROOM (1048576 + 1)
 
 /* How often to look whether another save has let go of the lock, and the pause between two looks: 10 seconds in all. */
@@ -178,23 +179,28 @@ static int failed(const char *what)
     return 2;
 }
 
+/* ed2k_save, which merges, or ed2k_save_strict. */
+typedef uint8_t save_call(const uint8_t *stored, size_t stored_length, const uint8_t *opened, size_t opened_length, const uint8_t *saved,
+                          size_t saved_length, uint8_t *output, size_t room, size_t *written);
+
 /* Under the lock. */
-static int save(const struct paths *paths, const uint8_t *opened, size_t opened_length, const uint8_t *new, size_t new_length)
+static int save(save_call *call, const struct paths *paths, const uint8_t *opened, size_t opened_length, const uint8_t *new,
+                size_t new_length)
 {
     static uint8_t stored[ROOM], output[ROOM];
     ssize_t stored_length = read_file(paths->stored, stored);
     if (stored_length < 0)
         return failed("read the stored file");
     size_t length;
-    uint8_t number =
-        ed2k_save(stored, (size_t)stored_length, opened, opened_length, new, new_length, output, sizeof output, &length);
+    uint8_t number = call(stored, (size_t)stored_length, opened, opened_length, new, new_length, output, sizeof output, &length);
     if (number != 0) {
         printf("refused %u: nothing was written\n", number);
         return 1;
     }
     if (replace(paths, output, length) != 0)
         return failed("save the new file");
-    printf("saved %zu bytes\n", length);
+    int merged = (size_t)stored_length != opened_length || memcmp(stored, opened, opened_length) != 0;
+    printf(merged ? "merged, %zu bytes\n" : "saved %zu bytes\n", length);
     return 0;
 }
 
@@ -202,8 +208,10 @@ int main(int count, char **words)
 {
     static uint8_t opened[ROOM], new[ROOM];
     struct paths paths;
-    if (count != 4) {
-        fprintf(stderr, "usage: saving OPENED NEW STORED\n");
+    int strict = count > 1 && strcmp(words[1], "--strict") == 0;
+    words += strict;
+    if (count - strict != 4) {
+        fprintf(stderr, "usage: saving [--strict] OPENED NEW STORED\n");
         return 2;
     }
     /* They may be pipes: who is waited for must not hold up others, so they are read before the lock is taken. */
@@ -216,7 +224,8 @@ int main(int count, char **words)
     int lock = take_lock(paths.lock);
     if (lock < 0)
         return failed("take the lock");
-    int ended = save(&paths, opened, (size_t)opened_length, new, (size_t)new_length);
+    save_call *call = strict ? ed2k_save_strict : ed2k_save;
+    int ended = save(call, &paths, opened, (size_t)opened_length, new, (size_t)new_length);
     unlink(paths.lock); /* the lock is let go as the file is closed */
     close(lock);
     return ended;

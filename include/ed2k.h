@@ -340,10 +340,29 @@ uint8_t ed2k_mark(uint64_t *gaps, size_t gap_numbers, uint64_t start, uint64_t e
 uint8_t ed2k_put_gaps(const uint8_t *file, size_t length, const uint64_t *gaps, size_t gap_numbers, uint8_t *output,
                       size_t room, size_t *written);
 
-/* Saves a part.met: the reader's number for `saved`; 11 if `stored` is not, byte for byte, the `opened` file; 10.
- * No file is touched: examples/saving.c does this with one on the disk, from the lock to the renaming. */
+/*
+ * Saves a part.met: `saved`, if `stored` is still, byte for byte, the `opened` file; else the merge of both, as ed2k_merge makes it with
+ * `stored` as the first save and `saved` as the second. In this order, all but the first and the last only where it merges:
+ *   ..  the reader's number for `saved`
+ *   ..  the own number of `opened`, that of `stored`
+ *   12  the file hash or the size differs in any two
+ *   11  the form with its hash lists, or the other tags, were changed in two different ways
+ *   6   more than 64 gaps, or more than 1,048,576 bytes
+ *   10
+ * An outcome has at most stored_length + saved_length + 1,280 bytes. No file is touched: examples/saving.c does this with one on the disk,
+ * from the lock to the renaming.
+ *
+ * This call refused every changed file (11) until it merged. Callers that relied on that, such as the archive job, call ed2k_save_strict
+ * now.
+ */
 uint8_t ed2k_save(const uint8_t *stored, size_t stored_length, const uint8_t *opened, size_t opened_length, const uint8_t *saved,
                   size_t saved_length, uint8_t *output, size_t room, size_t *written);
+
+/* Saves a part.met and never merges: the reader's number for `saved`; 11 if `stored` is not, byte for byte, the `opened` file; 10.
+ * Two empty ones are equal: a model's first save, which asks for this call, as does the archive job, which must never store a file that
+ * no window wrote. */
+uint8_t ed2k_save_strict(const uint8_t *stored, size_t stored_length, const uint8_t *opened, size_t opened_length,
+                         const uint8_t *saved, size_t saved_length, uint8_t *output, size_t room, size_t *written);
 
 /*
  * Merges two saves of one part.met: `opened` is the file that both windows opened, `first` and `second` are what they want to save. A

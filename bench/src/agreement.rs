@@ -85,13 +85,18 @@ fn compare_parts(comparison: &mut Comparison, random: &mut Random) {
     comparison.writing("put", &[file], |calls, output, written| {
         (calls.put_gaps)(file, &put, output, written)
     });
-    let opened = &perhaps_damaged(random, PART_MET, file.clone());
-    comparison.writing("save", &[file, opened], |calls, output, written| {
-        (calls.save)(file, opened, file, output, written)
-    });
+    let opened = perhaps_damaged(random, PART_MET, file.clone());
+    let new = perhaps_damaged(random, PART_MET, file.clone());
+    compare_saves(comparison, &[file.clone(), opened, new]);
 }
 
-/// Saves of a small model, whose forms, tags and gaps are changed, or those of a line.
+fn compare_saves(comparison: &mut Comparison, files: &[Vec<u8>; 3]) {
+    let _ = comparison.of_three("save", files, |calls| calls.save);
+    let _ = comparison.of_three("strict save", files, |calls| calls.save_strict);
+}
+
+/// Saves of a small model, whose forms, tags and gaps are changed, or those of a line: merged, and
+/// one saved over the other.
 fn compare_merge(comparison: &mut Comparison, random: &mut Random) {
     let files = if random.once_in(2) {
         inputs::some_saves(random)
@@ -100,10 +105,9 @@ fn compare_merge(comparison: &mut Comparison, random: &mut Random) {
         let part = files::long_part(random, 3_000, gaps);
         files::two_saves(random, &part).map(|file| perhaps_damaged(random, PART_MET, file))
     };
-    let [opened, first, second] = &files;
-    comparison.writing("merge", &[opened, first, second], |calls, output, written| {
-        (calls.merge)(opened, first, second, output, written)
-    });
+    let _ = comparison.of_three("merge", &files, |calls| calls.merge);
+    let [opened, first, second] = files;
+    compare_saves(comparison, &[first, opened, second]);
 }
 
 /// A query and a tag list that have little to do with each other, or those of a search.

@@ -47,7 +47,7 @@ _ed2k() {
         show | gaps) offered+=' --json' ;;
         mark) offered+=' --dry-run --wait' ;;
         search) offered+=' --name --type --min --max' ;;
-        save) offered+=' --wait --opened --new' ;;
+        save) offered+=' --strict --wait --opened --new' ;;
         merge) offered+=' --json --wait --opened' ;;
         esac
         COMPREPLY=($(compgen -W "$offered" -- "$current"))

@@ -1,11 +1,12 @@
-//! Saving a part.met to the disk: never over another's save, and whole or not at all.
+//! Saving a part.met to the disk: what others saved since is kept, and the file is whole at any moment.
 //!
 //! An editor keeps the bytes that it opened. When its work is to be stored, [`save`] does all of this:
 //!
 //! 1. It takes the lock of the file, an empty file `.NAME.lock` beside it that is there during the save. Every user who may
 //!    write the folder can take it. Whoever holds it too long is named ([`SaveError::Locked`]).
-//! 2. It reads the stored file and has the proved code check the save ([`crate::save`]): the new bytes must be a part.met, and
-//!    the stored ones those that were opened, else it is a conflict. A file that is not there counts as empty.
+//! 2. It reads the stored file and has the proved code make the save that the [`Mode`] names ([`crate::save`] or
+//!    [`crate::save_strict`]). If the stored bytes are those that were opened, the new ones are stored. If not, they are merged
+//!    with what is stored, or it is a conflict. A file that is not there counts as empty.
 //! 3. It makes a new file `.NAME.saving` beside it, and gives it the owner, group, permissions and extended attributes of the
 //!    old one, before a byte is written. Where the owner cannot be kept, the group is, so that the owner is not locked out;
 //!    where that would not do, nothing is saved ([`SaveError::Unkept`]).
@@ -16,25 +17,37 @@
 //! file keep the old one.
 //!
 //! ```
-//! use ed2k::{Refusal, disk};
+//! use ed2k::disk::{self, Mode, SaveError, WAIT};
+//! use ed2k::{GapRecord, Refusal, put_gaps};
 //! # let folder = std::env::temp_dir().join(format!("ed2k disk {}", std::process::id()));
 //! # std::fs::create_dir(&folder)?;
 //! # let path = folder.join("001.part.met");
-//! # let part_met = |date: u8| {
-//! #     [&[0xE0, date, 0, 0, 0][..], &[7; 16], &[0, 0], &[1, 0, 0, 0, 3, 1, 0, 2, 100, 0, 0, 0]].concat()
+//! # let file = [&[0xE0, 0, 0, 0, 0][..], &[7; 16], &[0, 0], &[1, 0, 0, 0, 3, 1, 0, 2, 100, 0, 0, 0]].concat();
+//! # let model = put_gaps(&file, &GapRecord::all_missing(100)?)?;
+//! # let marked = |opened: &[u8], start, end| {
+//! #     let mut record = GapRecord::read(opened)?;
+//! #     record.mark(start, end)?;
+//! #     put_gaps(opened, &record)
 //! # };
-//! # let [old, mine, theirs] = [1, 2, 3].map(part_met);
-//! # std::fs::write(&path, &old)?;
 //!
-//! // Two windows opened one file. The first one saves:
-//! let opened = std::fs::read(&path)?;
-//! disk::save(&path, &opened, &theirs, disk::WAIT)?;
+//! // The model's first save: nothing was opened.
+//! let opened = disk::save(&path, Mode::Strict, b"", &model, WAIT)?.bytes;
 //!
-//! // The second one is told, and nothing is lost:
-//! match disk::save(&path, &opened, &mine, disk::WAIT) {
-//!     Err(disk::SaveError::Refused(Refusal::Conflict)) => assert_eq!(std::fs::read(&path)?, theirs),
+//! // Two windows opened the file, and each marks what arrived in it. The first one saves:
+//! disk::save(&path, Mode::Merge, &opened, &marked(&opened, 0, 30)?, WAIT)?;
+//!
+//! // The archive job would be told, and nothing would be lost:
+//! match disk::save(&path, Mode::Strict, &opened, &marked(&opened, 60, 100)?, WAIT) {
+//!     Err(SaveError::Refused(Refusal::Conflict)) => (),
 //!     other => panic!("{other:?}"),
 //! }
+//!
+//! // What the second window saves is merged. It goes on from the bytes that are stored now:
+//! let saved = disk::save(&path, Mode::Merge, &opened, &marked(&opened, 60, 100)?, WAIT)?;
+//! assert!(saved.merged_with.is_some());
+//! assert_eq!(GapRecord::read(&saved.bytes)?.missing(), 30);
+//! disk::save(&path, Mode::Merge, &saved.bytes, &marked(&saved.bytes, 30, 60)?, WAIT)?;
+//! assert_eq!(GapRecord::read(&std::fs::read(&path)?)?.missing(), 0);
 //! # std::fs::remove_dir_all(&folder)?;
 //! # Ok::<(), Box<dyn std::error::Error>>(())
 //! ```
@@ -57,6 +70,7 @@ use std::path::{Path, PathBuf};
 use std::time::Duration;
 
 use crate::kind::MET_CEILING;
+use crate::refusal::Refusal;
 
 pub use error::{SaveError, Step};
 pub use keeping::Unkept;
@@ -69,19 +83,56 @@ use lock::{Lock, NotTaken};
 /// How long to wait for another's save where a person waits too. A save takes some thousandths of a second.
 pub const WAIT: Duration = Duration::from_secs(10);
 
-/// Saves the new bytes over the stored file, if that is still the one that was opened; waits at most so long for saves of
-/// others. A file that is not there counts as empty, so that nothing opened makes a first save.
+/// Which save is made.
+#[derive(Clone, Copy, Debug, PartialEq, Eq)]
+pub enum Mode {
+    /// [`crate::save`]: what was saved since the file was opened is merged with the new bytes.
+    Merge,
+    /// [`crate::save_strict`]: it is a conflict if anything was saved since the file was opened. The archive job, which must never
+    /// store a file that no window wrote, and a model's first save ask for this one.
+    Strict,
+}
+
+impl Mode {
+    /// What is to be stored from now on, by the call that the mode names.
+    pub fn save(self, stored: &[u8], opened: &[u8], new: &[u8]) -> Result<Vec<u8>, Refusal> {
+        match self {
+            Mode::Merge => crate::save(stored, opened, new),
+            Mode::Strict => crate::save_strict(stored, opened, new),
+        }
+    }
+
+    /// How much of the stored file that call needs. A byte more than was opened is enough to see that they differ; a merge needs
+    /// all, and of a file above the ceiling a byte more than that, for which it is refused whatever follows.
+    fn needed(self, opened: &[u8]) -> usize {
+        match self {
+            Mode::Merge => opened.len().max(MET_CEILING) + 1,
+            Mode::Strict => opened.len() + 1,
+        }
+    }
+}
+
+/// Saves the new bytes over the stored file, in the way that the mode says; waits at most so long for saves of others. A file
+/// that is not there counts as empty, so that nothing opened makes a first save.
 ///
 /// All that [`Stored::lock`] and [`Stored::save`] do and refuse.
-pub fn save(path: impl AsRef<Path>, opened: &[u8], new: &[u8], wait: Duration) -> Result<Saved, SaveError> {
-    Stored::lock(path, wait)?.save(opened, new)
+pub fn save(
+    path: impl AsRef<Path>,
+    mode: Mode,
+    opened: &[u8],
+    new: &[u8],
+    wait: Duration,
+) -> Result<Saved, SaveError> {
+    Stored::lock(path, wait)?.save(mode, opened, new)
 }
 
 /// What has been saved.
-#[derive(Clone, Copy, Debug, PartialEq, Eq)]
+#[derive(Clone, Debug, PartialEq, Eq)]
 pub struct Saved {
-    /// How many bytes the stored file has now.
-    pub length: usize,
+    /// The bytes that the stored file has now. A window goes on from them, and keeps them as what it opened, for its next save.
+    pub bytes: Vec<u8>,
+    /// What was stored before, if that was not what was opened. Then `bytes` is its merge with the new bytes.
+    pub merged_with: Option<Vec<u8>>,
     /// Whether its owner is the same as before. If not, it is the user who saved; group and permissions are the same.
     pub owner_kept: bool,
 }
@@ -89,7 +140,7 @@ pub struct Saved {
 /// A stored file, and its lock, which no other save has as long as this value lives.
 ///
 /// ```
-/// use ed2k::disk::{Stored, WAIT};
+/// use ed2k::disk::{Mode, Stored, WAIT};
 /// use ed2k::{GapRecord, put_gaps};
 /// # let folder = std::env::temp_dir().join(format!("ed2k stored {}", std::process::id()));
 /// # std::fs::create_dir(&folder)?;
@@ -101,7 +152,7 @@ pub struct Saved {
 /// let opened = stored.read()?;
 /// let mut record = GapRecord::read(&opened)?;
 /// record.mark(40, 60)?;
-/// stored.save(&opened, &put_gaps(&opened, &record)?)?;
+/// stored.save(Mode::Strict, &opened, &put_gaps(&opened, &record)?)?;
 /// drop(stored);
 ///
 /// assert_eq!(GapRecord::read(&std::fs::read(&path)?)?.missing(), 80);
@@ -159,24 +210,26 @@ impl Stored {
         Step::Read.failed(&self.path, error)
     }
 
-    /// Saves the new bytes, if the stored ones are those that were opened.
+    /// Saves the new bytes, in the way that the mode says.
     ///
-    /// [`SaveError::Refused`] as [`crate::save`] refuses; [`SaveError::ReadOnly`] for a file that may not be written;
-    /// [`SaveError::Unkept`] where somebody would be locked out. After these, and after all others but
+    /// [`SaveError::Refused`] as [`crate::save`] or [`crate::save_strict`] refuses; [`SaveError::ReadOnly`] for a file that may
+    /// not be written; [`SaveError::Unkept`] where somebody would be locked out. After these, and after all others but
     /// [`SaveError::Unsynced`], the stored file is as it was.
-    pub fn save(&self, opened: &[u8], new: &[u8]) -> Result<Saved, SaveError> {
-        // A byte more than was opened is enough to see that they differ.
+    pub fn save(&self, mode: Mode, opened: &[u8], new: &[u8]) -> Result<Saved, SaveError> {
         let stored = match File::open(&self.path) {
-            Ok(file) => beginning(file, opened.len() + 1),
+            Ok(file) => beginning(file, mode.needed(opened)),
             Err(error) if error.kind() == ErrorKind::NotFound => Ok(vec![]),
             Err(error) => Err(error),
         };
         let stored = stored.map_err(|error| self.unreadable(error))?;
-        self.replace(&crate::save(&stored, opened, new)?)
+        let bytes = mode.save(&stored, opened, new)?;
+        let owner_kept = self.replace(&bytes)?;
+        Ok(Saved { bytes, merged_with: (stored != opened).then_some(stored), owner_kept })
     }
 
-    /// Makes the bytes the file's contents: until the renaming the file is the old one, from then on the new one.
-    fn replace(&self, bytes: &[u8]) -> Result<Saved, SaveError> {
+    /// Makes the bytes the file's contents: until the renaming the file is the old one, from then on the new one. Whether it has the
+    /// old one's owner.
+    fn replace(&self, bytes: &[u8]) -> Result<bool, SaveError> {
         let old = self.replaceable()?;
         let renamed = self.write_new(bytes, old.as_ref()).and_then(|owner_kept| {
             let renamed = fs::rename(&self.new_path, &self.path);
@@ -187,7 +240,7 @@ impl Stored {
             let _ = fs::remove_file(&self.new_path);
         })?;
         let synced = File::open(&self.folder).and_then(|folder| folder.sync_all());
-        synced.map_err(SaveError::Unsynced).map(|()| Saved { length: bytes.len(), owner_kept })
+        synced.map_err(SaveError::Unsynced).map(|()| owner_kept)
     }
 
     /// The old file, if it is there and may be written. Renaming would replace a file that may not be written too, but who

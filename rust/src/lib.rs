@@ -7,8 +7,8 @@
 //! - [`read_packet`], [`read_known_met`], [`read_server_met`], [`read_part_met`], [`read_query`], [`read_tags`], or [`read`] for a
 //!   [`Kind`] that is known only when the program runs;
 //! - [`GapRecord`]: what is missing of a file, and marking what arrived; [`put_gaps`];
-//! - [`save`]: the new file, unless the stored one is not the one that was opened; [`disk::save`]: the same with a file on the
-//!   disk, from the lock to the renaming;
+//! - [`save`]: the new file, merged with what was saved since it was opened; [`save_strict`]: the new file, unless something was;
+//!   [`disk::save`]: either with a file on the disk, from the lock to the renaming;
 //! - [`merge`]: one file of two saves and the file that both windows opened;
 //! - [`truth`]: whether a query holds on a tag list;
 //! - [`mod@write`]: writers of packets, met files, queries and tag lists.
@@ -62,4 +62,4 @@ pub use names::{opcode_name, special_tag_name};
 pub use packet::{Body, Packet, PartStatus, read_packet};
 pub use query::{Bound, Node, Nodes, Operator, QUERY_DEPTH, Query, Step, read_query, truth};
 pub use refusal::Refusal;
-pub use saving::{save, save_into};
+pub use saving::{save, save_into, save_strict, save_strict_into};

@@ -37,9 +37,12 @@ use crate::refusal::Refusal;
 /// # Ok::<(), Refusal>(())
 /// ```
 pub fn merge(opened: &[u8], first: &[u8], second: &[u8]) -> Result<Vec<u8>, Refusal> {
-    // The form may be of one save and the tags of the other.
-    let room = MET_CEILING.min(first.len() + second.len() + GAP_TAGS_BYTES);
-    owned(room, |output| merge_into(opened, first, second, output))
+    owned(room(first, second), |output| merge_into(opened, first, second, output))
+}
+
+/// How many bytes the merge of two saves has at most. The form may be of one save and the tags of the other.
+pub(crate) fn room(first: &[u8], second: &[u8]) -> usize {
+    MET_CEILING.min(first.len() + second.len() + GAP_TAGS_BYTES)
 }
 
 /// [`merge`] into a lent output; how many bytes were written at its front. [`Refusal::Room`] comes last.

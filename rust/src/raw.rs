@@ -42,6 +42,7 @@ unsafe extern "C" {
 
     fn ed2k_put_gaps(file: *const u8, length: usize, gaps: *const u64, gap_numbers: usize, output: *mut u8, room: usize, written: *mut usize) -> u8;
     fn ed2k_save(stored: *const u8, stored_length: usize, opened: *const u8, opened_length: usize, saved: *const u8, saved_length: usize, output: *mut u8, room: usize, written: *mut usize) -> u8;
+    fn ed2k_save_strict(stored: *const u8, stored_length: usize, opened: *const u8, opened_length: usize, saved: *const u8, saved_length: usize, output: *mut u8, room: usize, written: *mut usize) -> u8;
     fn ed2k_merge(opened: *const u8, opened_length: usize, first: *const u8, first_length: usize, second: *const u8, second_length: usize, output: *mut u8, room: usize, written: *mut usize) -> u8;
 
     fn ed2k_truth(query: *const u8, query_length: usize, tags: *const u8, tags_length: usize, truth: *mut u8) -> u8;
@@ -174,6 +175,15 @@ pub(crate) fn put_gaps(file: &[u8], gaps: &GapNumbers, output: &mut [u8]) -> Res
 
 pub(crate) fn save(stored: &[u8], opened: &[u8], saved: &[u8], output: &mut [u8]) -> Result<usize, Refusal> {
     written!(ed2k_save(stored.as_ptr(), stored.len(), opened.as_ptr(), opened.len(), saved.as_ptr(), saved.len()) -> output)
+}
+
+pub(crate) fn save_strict(
+    stored: &[u8],
+    opened: &[u8],
+    saved: &[u8],
+    output: &mut [u8],
+) -> Result<usize, Refusal> {
+    written!(ed2k_save_strict(stored.as_ptr(), stored.len(), opened.as_ptr(), opened.len(), saved.as_ptr(), saved.len()) -> output)
 }
 
 pub(crate) fn merge(opened: &[u8], first: &[u8], second: &[u8], output: &mut [u8]) -> Result<usize, Refusal> {

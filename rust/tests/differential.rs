@@ -405,16 +405,14 @@ fn compare_put(comparison: &mut Comparison, file: &[u8], record: &[u64]) {
 }
 
 #[test]
-fn saving() {
+fn strict_saving() {
     let mut comparison = Comparison::new(29_000_000);
     comparison.rounds(ROUNDS, |comparison, random| {
         let saved = input(random, plain::PART_MET);
         let (stored, opened) = stored_and_opened(random);
-        comparison.writing("save", &[&stored, &opened, &saved], |calls, output, written| {
-            (calls.save)(&stored, &opened, &saved, output, written)
-        });
+        let _ = comparison.of_three("strict save", &[stored, opened, saved], |calls| calls.save_strict);
     });
-    comparison.assert_seen("save", &[0, 1, 2, 5, 6, 7, 8, 9, 10, 11]);
+    comparison.assert_seen("strict save", &[0, 1, 2, 5, 6, 7, 8, 9, 10, 11]);
 }
 
 /// The same bytes, or bytes that differ in one byte or in length.

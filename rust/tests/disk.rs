@@ -13,8 +13,8 @@ use std::sync::atomic::{AtomicU32, Ordering};
 use std::time::{Duration, Instant};
 use std::{env, thread};
 
-use ed2k::disk::{self, Holder, SaveError, Step, Stored, WAIT};
-use ed2k::{GapRecord, Refusal, put_gaps};
+use ed2k::disk::{self, Holder, Mode, SaveError, Saved, Step, Stored, WAIT};
+use ed2k::{GapRecord, MET_CEILING, Refusal, put_gaps};
 
 /// Where many saves meet on a machine that may be busy.
 const PATIENT: Duration = Duration::from_secs(300);
@@ -67,21 +67,105 @@ fn part_met(date: u32) -> Vec<u8> {
     packets::part_met(date, 0, 100, &[(0, 50)])
 }
 
+/// The same file with these gaps.
+fn with_gaps(gaps: &[(u32, u32)]) -> Vec<u8> {
+    packets::part_met(1, 0, 100, gaps)
+}
+
+fn assert_refused(refused: Result<Saved, SaveError>, refusal: Refusal) {
+    match refused {
+        Err(SaveError::Refused(number)) => assert_eq!(number, refusal),
+        other => panic!("{other:?}"),
+    }
+}
+
 #[test]
 fn a_first_save_a_second_one_and_a_conflict() {
     let folder = Folder::new();
     let path = folder.path("stored");
     let [old, mine, theirs] = [1, 2, 3].map(part_met);
-    let saved = disk::save(&path, b"", &old, WAIT).unwrap();
-    assert_eq!((saved.length, saved.owner_kept), (old.len(), true));
-    assert_eq!(disk::save(&path, &old, &theirs, WAIT).unwrap().length, theirs.len());
+    let saved = disk::save(&path, Mode::Strict, b"", &old, WAIT).unwrap();
+    assert_eq!(saved, Saved { bytes: old.clone(), merged_with: None, owner_kept: true });
+    let saved = disk::save(&path, Mode::Strict, &saved.bytes, &theirs, WAIT).unwrap();
+    assert_eq!(saved, Saved { bytes: theirs.clone(), merged_with: None, owner_kept: true });
     for opened in [&old[..], b"", &theirs[1..], &[&theirs[..], b"1"].concat()] {
-        let refused = disk::save(&path, opened, &mine, WAIT).unwrap_err();
-        assert!(matches!(refused, SaveError::Refused(Refusal::Conflict)), "{refused}");
+        assert_refused(disk::save(&path, Mode::Strict, opened, &mine, WAIT), Refusal::Conflict);
     }
-    let refused = disk::save(&path, &old, b"no part.met", WAIT).unwrap_err();
-    assert!(matches!(refused, SaveError::Refused(Refusal::Opening)), "{refused}");
+    assert_refused(disk::save(&path, Mode::Strict, &old, b"no part.met", WAIT), Refusal::Opening);
     assert_eq!((fs::read(&path).unwrap(), folder.names()), (theirs, vec!["stored".to_string()]));
+}
+
+/// A window that was merged with another goes on from the bytes that are stored.
+#[test]
+fn saves_of_two_windows_are_merged() {
+    let folder = Folder::new();
+    let path = folder.path("stored");
+    let save = |opened: &[u8], new: &[u8]| disk::save(&path, Mode::Merge, opened, new, WAIT).unwrap();
+    let (opened, first, second) = (with_gaps(&[(0, 100)]), with_gaps(&[(30, 100)]), with_gaps(&[(0, 60)]));
+    let both = with_gaps(&[(30, 60)]);
+    let saved = save(b"", &opened);
+    assert_eq!(saved, Saved { bytes: opened.clone(), merged_with: None, owner_kept: true });
+    let saved = save(&opened, &first);
+    assert_eq!(saved, Saved { bytes: first.clone(), merged_with: None, owner_kept: true });
+    let saved = save(&opened, &second);
+    assert_eq!(saved, Saved { bytes: both.clone(), merged_with: Some(first.clone()), owner_kept: true });
+    assert_eq!(fs::read(&path).unwrap(), both);
+    let saved = save(&saved.bytes, &with_gaps(&[(50, 60)]));
+    assert_eq!(saved.merged_with, None);
+    // The first window has not heard of that yet.
+    let saved = save(&first, &with_gaps(&[(40, 100)]));
+    assert_eq!((saved.bytes, saved.merged_with), (with_gaps(&[(50, 60)]), Some(with_gaps(&[(50, 60)]))));
+    assert_eq!((fs::read(&path).unwrap(), folder.names()), (with_gaps(&[(50, 60)]), vec!["stored".into()]));
+}
+
+/// After each the stored file is as it was.
+#[test]
+fn a_save_that_cannot_be_merged_is_refused() {
+    let folder = Folder::new();
+    let path = folder.path("stored");
+    let opened = with_gaps(&[(0, 100)]);
+    let two_hashes = packets::part_met(1, 2, 100, &[]);
+    let another_size = packets::part_met(1, 0, 101, &[]);
+    let (stored, new) = (packets::part_met(1, 3, 100, &[]), with_gaps(&[]));
+    let refused = |stored: &[u8], opened: &[u8], new: &[u8], refusal| {
+        fs::write(&path, stored).unwrap();
+        assert_refused(disk::save(&path, Mode::Merge, opened, new, WAIT), refusal);
+        assert_eq!((fs::read(&path).unwrap(), folder.names()), (stored.to_vec(), vec!["stored".into()]));
+    };
+    refused(&stored, &opened, &two_hashes, Refusal::Conflict);
+    refused(&stored, &opened, &another_size, Refusal::Strangers);
+    refused(&stored, &another_size, &new, Refusal::Strangers);
+    refused(b"", &opened, &new, Refusal::Short);
+    refused(&stored, b"", &new, Refusal::Short);
+    refused(b"no part.met", &stored[..9], &new, Refusal::Short);
+    refused(b"no part.met", &opened, &new[1..], Refusal::Opening);
+    refused(b"no part.met", &opened, &new, Refusal::Opening);
+    fs::remove_file(&path).unwrap();
+    assert_refused(disk::save(&path, Mode::Merge, &opened, &new, WAIT), Refusal::Short);
+    assert!(folder.names().is_empty());
+}
+
+/// Files above the ceiling are compared, and not merged.
+#[test]
+fn stored_files_of_any_length_are_read_as_far_as_the_save_needs() {
+    let folder = Folder::new();
+    let path = folder.path("stored");
+    let (opened, new) = (with_gaps(&[(0, 100)]), with_gaps(&[]));
+    for length in [MET_CEILING, MET_CEILING + 1, 2 * MET_CEILING] {
+        let own = if length > MET_CEILING { Refusal::Limit } else { Refusal::Opening };
+        let stored = vec![7; length];
+        fs::write(&path, &stored).unwrap();
+        assert_refused(disk::save(&path, Mode::Merge, &opened, &new, WAIT), own);
+        assert_refused(disk::save(&path, Mode::Strict, &opened, &new, WAIT), Refusal::Conflict);
+        for mode in [Mode::Merge, Mode::Strict] {
+            fs::write(&path, &stored).unwrap();
+            let longer = [&stored[..], &[7]].concat();
+            let refusal = if mode == Mode::Merge { Refusal::Limit } else { Refusal::Conflict };
+            assert_refused(disk::save(&path, mode, &longer, &new, WAIT), refusal);
+            let saved = disk::save(&path, mode, &stored, &new, WAIT).unwrap();
+            assert_eq!((saved.bytes, saved.merged_with), (new.clone(), None));
+        }
+    }
 }
 
 #[test]
@@ -92,7 +176,8 @@ fn a_lock_is_there_as_long_as_it_is_held_and_names_its_holder() {
     let stored = Stored::lock(&path, WAIT).unwrap();
     assert_eq!(stored.path(), fs::canonicalize(&path).unwrap());
     assert_eq!(folder.names(), [".stored.lock", "stored"]);
-    let refused = disk::save(&path, &part_met(1), &part_met(2), Duration::from_millis(200)).unwrap_err();
+    let refused =
+        disk::save(&path, Mode::Merge, &part_met(1), &part_met(2), Duration::from_millis(200)).unwrap_err();
     let SaveError::Locked { holder } = refused else { panic!("{refused}") };
     let user = fs::metadata("/proc/self").unwrap().uid();
     assert_eq!(holder, Some(Holder { process: process::id(), user: Some(user) }));
@@ -101,11 +186,11 @@ fn a_lock_is_there_as_long_as_it_is_held_and_names_its_holder() {
         words.starts_with(&format!("the file is being saved by process {} of user ", process::id())),
         "{words}"
     );
-    stored.save(&part_met(1), &part_met(2)).unwrap();
+    stored.save(Mode::Strict, &part_met(1), &part_met(2)).unwrap();
     assert_eq!(stored.read().unwrap(), part_met(2));
     drop(stored);
     assert_eq!(folder.names(), ["stored"]);
-    disk::save(&path, &part_met(2), &part_met(3), Duration::ZERO).unwrap();
+    disk::save(&path, Mode::Strict, &part_met(2), &part_met(3), Duration::ZERO).unwrap();
 }
 
 #[test]
@@ -114,7 +199,7 @@ fn who_waits_gets_the_lock_when_it_is_let_go() {
     let path = folder.path("stored");
     let stored = Stored::lock(&path, WAIT).unwrap();
     thread::scope(|scope| {
-        let waiting = scope.spawn(|| disk::save(&path, b"", &part_met(1), PATIENT));
+        let waiting = scope.spawn(|| disk::save(&path, Mode::Strict, b"", &part_met(1), PATIENT));
         thread::sleep(Duration::from_millis(300));
         assert!(!waiting.is_finished() && !stored.is_there());
         drop(stored);
@@ -127,11 +212,11 @@ fn who_waits_gets_the_lock_when_it_is_let_go() {
 fn what_the_system_does_not_allow_is_reported_by_its_step() {
     let folder = Folder::new();
     let path = folder.path("stored");
-    let step = |refused: Result<_, SaveError>| match refused.map(|_: disk::Saved| ()) {
+    let step = |refused: Result<_, SaveError>| match refused.map(|_: Saved| ()) {
         Err(SaveError::System { step, .. }) => step,
         other => panic!("{other:?}"),
     };
-    let save = |path: &Path| disk::save(path, b"", &part_met(1), Duration::ZERO);
+    let save = |path: &Path| disk::save(path, Mode::Merge, b"", &part_met(1), Duration::ZERO);
     assert_eq!(step(save(&folder.path("no folder/stored"))), Step::Find);
     fs::create_dir(folder.path(".stored.saving")).unwrap();
     assert_eq!(step(save(&path)), Step::CleanUp);
@@ -161,7 +246,7 @@ fn marks_of_many_threads_all_count() {
         let opened = stored.read()?;
         let mut record = GapRecord::read(&opened)?;
         record.mark(2 * n, 2 * n + 1)?;
-        stored.save(&opened, &put_gaps(&opened, &record)?)?;
+        stored.save(Mode::Strict, &opened, &put_gaps(&opened, &record)?)?;
         Ok(())
     };
     thread::scope(|scope| {
@@ -170,6 +255,34 @@ fn marks_of_many_threads_all_count() {
         }
     });
     assert_eq!(GapRecord::read(&fs::read(&path).unwrap()).unwrap().missing(), THREADS);
+    assert_eq!(folder.names(), ["stored"]);
+}
+
+/// Each thread is a window that opened the file once, and goes on from what it has stored.
+#[test]
+fn saves_of_many_threads_are_all_there() {
+    const THREADS: u64 = 8;
+    const SAVES: u64 = 12;
+    let folder = Folder::new();
+    let path = folder.path("stored");
+    let size = (THREADS * SAVES) as u32;
+    let opened = packets::part_met(1, 0, size, &[(0, size)]);
+    fs::write(&path, &opened).unwrap();
+    let window = |thread: u64| {
+        let mut copy = opened.clone();
+        for byte in thread * SAVES..(thread + 1) * SAVES {
+            let mut record = GapRecord::read(&copy).unwrap();
+            record.mark(byte, byte + 1).unwrap();
+            let new = put_gaps(&copy, &record).unwrap();
+            copy = disk::save(&path, Mode::Merge, &copy, &new, PATIENT).unwrap().bytes;
+        }
+    };
+    thread::scope(|scope| {
+        for thread in 0..THREADS {
+            scope.spawn(move || window(thread));
+        }
+    });
+    assert_eq!(GapRecord::read(&fs::read(&path).unwrap()).unwrap().missing(), 0);
     assert_eq!(folder.names(), ["stored"]);
 }
 
@@ -236,7 +349,7 @@ fn a_lock_is_open_to_every_user() {
 fn save_unsynced() {
     let path = PathBuf::from(env::var_os("SAVED").expect("SAVED names a file"));
     for (opened, new) in [(vec![], part_met(1)), (part_met(1), part_met(2))] {
-        let unsynced = disk::save(&path, &opened, &new, WAIT).unwrap_err();
+        let unsynced = disk::save(&path, Mode::Strict, &opened, &new, WAIT).unwrap_err();
         let SaveError::Unsynced(error) = &unsynced else { panic!("{unsynced}") };
         assert_eq!(error.kind(), ErrorKind::PermissionDenied);
         let words = format!("the file is saved, but a power cut might undo it: its folder: {error}");

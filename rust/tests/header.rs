@@ -200,7 +200,7 @@ fn values_stand_in_the_slots_that_the_header_names() {
 fn a_slice_of_no_elements_may_be_null() {
     let folder = Folder::new("nothing");
     let program = folder.compiled(&repository("rust/tests/c/nothing.c"));
-    assert_eq!(printed(&program, &[], b""), "236 calls answered\n");
+    assert_eq!(printed(&program, &[], b""), "252 calls answered\n");
     let tried = fs::read_to_string(repository("rust/tests/c/nothing.c")).expect("the program");
     let header = fs::read_to_string(repository("include/ed2k.h")).expect("the header");
     let calls: Vec<&str> = header
@@ -208,7 +208,7 @@ fn a_slice_of_no_elements_may_be_null() {
         .filter_map(|line| line.strip_prefix("uint8_t "))
         .filter_map(|line| line.split('(').next())
         .collect();
-    assert_eq!(calls.len(), 30);
+    assert_eq!(calls.len(), 31);
     let untried: Vec<&&str> = calls.iter().filter(|call| !tried.contains(&format!("{call}("))).collect();
     assert!(untried.is_empty(), "{untried:?}");
 }

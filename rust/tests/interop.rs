@@ -195,6 +195,7 @@ fn parts_are_sent_marked_and_saved() {
     let body = Body::SendingPart { hash, start: 0, end: longer.len() as u32, data: &longer };
     assert_eq!(write::packet(Link::Client, &Packet::new(0x46, body)), Err(Refusal::Limit));
     let new = ed2k::put_gaps(&opened, &record).unwrap();
+    assert_eq!(ed2k::save_strict(b"", b"", &opened).as_ref(), Ok(&opened));
     assert_eq!(ed2k::save(&opened, &opened, &new).as_ref(), Ok(&new));
     assert_eq!(GapRecord::read(&new).unwrap(), record);
 }

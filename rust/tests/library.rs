@@ -450,17 +450,64 @@ fn a_record_with_the_most_and_longest_gap_tags_fits_into_its_file() {
     assert_eq!(GapRecord::read(&changed).unwrap(), record);
 }
 
+/// Stored, opened and new files, the answer of the strict save and that of the other one.
 #[test]
 fn a_save_is_refused_by_its_own_bytes_then_by_the_stored_ones() {
-    let new = packets::part_met(9, 0, 100, &[]);
-    assert_eq!(ed2k::save(b"a", b"b", &new[1..]), Err(Refusal::Opening));
-    assert_eq!(ed2k::save(b"a", b"b", &new), Err(Refusal::Conflict));
-    assert_eq!(ed2k::save(b"ab", b"a", &new), Err(Refusal::Conflict));
-    assert_eq!(ed2k::save(b"", b"a", &new), Err(Refusal::Conflict));
-    assert_eq!(ed2k::save(b"a", b"a", &new).unwrap(), new);
-    let mut small = vec![7; new.len() - 1];
-    assert_eq!(ed2k::save_into(b"a", b"a", &new, &mut small), Err(Refusal::Room));
-    assert!(small.iter().all(|byte| *byte == 7));
+    let file = |date, hashes, size, gaps: &[_]| packets::part_met(date, hashes, size, gaps);
+    let opened = &file(9, 0, 100, &[(0, 100)])[..];
+    let (stored, new) = (&file(9, 0, 100, &[(30, 100)])[..], &file(8, 0, 100, &[(0, 60)])[..]);
+    let merged = &file(9, 0, 100, &[(30, 60)])[..];
+    let stranger = &file(9, 0, 101, &[])[..];
+    let [stored_hashes, new_hashes] = [2, 3].map(|hashes| file(9, hashes, 100, &[]));
+    let every_fourth = |from: u32, to: u32| (from..to).map(|gap| (4 * gap, 4 * gap + 1)).collect::<Vec<_>>();
+    let [whole, most_gaps, other_gap] =
+        [vec![], every_fourth(0, 64), every_fourth(64, 65)].map(|gaps| file(9, 0, 300, &gaps));
+    let conflict = Err(Refusal::Conflict);
+    for (stored, opened, new, strict, answer) in [
+        (&b""[..], &b""[..], new, Ok(new), Ok(new)),
+        (opened, opened, new, Ok(new), Ok(new)),
+        (b"a", b"a", new, Ok(new), Ok(new)),
+        (b"a", b"b", &new[1..], Err(Refusal::Opening), Err(Refusal::Opening)),
+        (stored, opened, new, conflict, Ok(merged)),
+        (new, opened, new, conflict, Ok(new)),
+        (opened, stored, stored, conflict, Ok(opened)),
+        (b"", opened, new, conflict, Err(Refusal::Short)),
+        (stored, b"", new, conflict, Err(Refusal::Short)),
+        (b"a", b"", new, conflict, Err(Refusal::Short)),
+        (b"a", opened, new, conflict, Err(Refusal::Opening)),
+        (stored, b"ab", stranger, conflict, Err(Refusal::Opening)),
+        (stored, opened, stranger, conflict, Err(Refusal::Strangers)),
+        (&stored_hashes, opened, stranger, conflict, Err(Refusal::Strangers)),
+        (&stored_hashes, opened, &new_hashes, conflict, conflict),
+        (&most_gaps, &whole, &other_gap, conflict, Err(Refusal::Limit)),
+    ] {
+        assert_eq!(ed2k::save_strict(stored, opened, new).as_deref(), strict.as_ref().copied());
+        assert_eq!(ed2k::save(stored, opened, new).as_deref(), answer.as_ref().copied());
+    }
+}
+
+/// Room for what is written is enough, and one byte less leaves the output as it was.
+#[test]
+fn a_save_asks_for_room_last() {
+    let file = |gaps: &[_]| packets::part_met(9, 0, 100, gaps);
+    let opened = file(&[(0, 100)]);
+    let (stored, new, merged) = (file(&[(0, 40), (50, 100)]), file(&[(0, 90)]), file(&[(0, 40), (50, 90)]));
+    assert!(merged.len() > new.len());
+    type Save = fn(&[u8], &[u8], &[u8], &mut [u8]) -> Result<usize, Refusal>;
+    let saves: [(Save, &[u8], &[u8]); 3] = [
+        (ed2k::save_into, &stored, &merged),
+        (ed2k::save_into, &opened, &new),
+        (ed2k::save_strict_into, &opened, &new),
+    ];
+    for (save, stored, written) in saves {
+        let mut output = vec![7; written.len() + 1];
+        let (small, enough) = (written.len() - 1, written.len());
+        assert_eq!(save(stored, &opened, &new, &mut output[..small]), Err(Refusal::Room));
+        assert!(output.iter().all(|byte| *byte == 7));
+        assert_eq!(save(stored, &opened, &new, &mut output[..enough]), Ok(enough));
+        assert_eq!(output, [written, &[7]].concat());
+        assert_eq!(save(&[], &opened, &new[1..], &mut []), Err(Refusal::Opening));
+    }
 }
 
 #[test]
@@ -497,6 +544,7 @@ fn a_merge_that_is_longer_than_both_saves_fits_into_its_own_room() {
     let merged = ed2k::merge(&opened, &first, &second).unwrap();
     assert!(merged.len() > first.len().max(second.len()));
     assert_eq!(GapRecord::read(&merged).unwrap().gaps().len(), 64);
+    assert_eq!(ed2k::save(&first, &opened, &second), Ok(merged));
 }
 
 #[test]

@@ -8,19 +8,18 @@ mod inputs;
 mod plain;
 
 use archive::ARCHIVE;
-use comparison::Comparison;
+use comparison::{Comparison, Tally, written_into};
 use ed2k::{GapRecord, Refusal};
-use inputs::{Gaps, HashForm, PartPlan, Random, lawful_saves, saves_of_size, some_saves};
+use inputs::{
+    Fault, HashForm, PartPlan, Random, cases, comb, faulty_saves, lawful_saves, plain_files, saves_of_size,
+    some_saves, tags_of_length, text_tag, three_alike,
+};
 use plain::{Item, MET_CEILING, PART_MET, PLAIN};
-
-const FILL: u8 = 0xC3;
 
 /// What the call writes, or its number: the same on both sides, and as the crate has it.
 fn compare(comparison: &mut Comparison, files: &[Vec<u8>; 3]) -> Result<Vec<u8>, u8> {
     let [opened, first, second] = files;
-    let merged = comparison.written("merge", &[opened, first, second], |calls, output, written| {
-        (calls.merge)(opened, first, second, output, written)
-    });
+    let merged = comparison.of_three("merge", files, |calls| calls.merge);
     assert_eq!(ed2k::merge(opened, first, second).map_err(Refusal::number), merged);
     merged
 }
@@ -41,21 +40,6 @@ fn compare_both_orders(comparison: &mut Comparison, files: &[Vec<u8>; 3]) -> Res
     merged
 }
 
-/// How many triples have which answer.
-#[derive(Default)]
-struct Tally([u64; 13]);
-
-impl Tally {
-    fn count(&mut self, answer: &Result<Vec<u8>, u8>) {
-        self.0[usize::from(answer.as_ref().err().copied().unwrap_or(0))] += 1;
-    }
-
-    /// At least as many with this answer.
-    fn assert_at_least(&self, least: u64, number: usize) {
-        assert!(self.0[number] >= least, "number {number}: {:?}", self.0);
-    }
-}
-
 const TRIPLES: u64 = 100_000;
 
 #[test]
@@ -68,13 +52,17 @@ fn made_saves() {
         tally.count(&compare_both_orders(comparison, &files));
     });
     println!("triples by number: {:?}, with a file that is refused by itself {:?}", accepted.0, refused.0);
-    assert_eq!(accepted.0.iter().chain(&refused.0).sum::<u64>(), TRIPLES);
-    for (number, least) in [(0, 50_000), (6, 300), (11, 10_000), (12, 10_000)] {
-        accepted.assert_at_least(least, number);
-    }
-    for (number, least) in [(1, 4_000), (2, 200), (5, 7_000), (6, 3_000), (7, 2_000), (8, 2_000), (9, 200)] {
-        refused.assert_at_least(least, number);
-    }
+    assert_eq!(accepted.total() + refused.total(), TRIPLES);
+    accepted.assert_at_least(&[(0, 50_000), (6, 300), (11, 10_000), (12, 10_000)]);
+    refused.assert_at_least(&[
+        (1, 4_000),
+        (2, 200),
+        (5, 7_000),
+        (6, 3_000),
+        (7, 2_000),
+        (8, 2_000),
+        (9, 200),
+    ]);
     comparison.assert_seen("merge", &[0, 1, 2, 5, 6, 7, 8, 9, 10, 11, 12]);
 }
 
@@ -89,8 +77,7 @@ fn saves_of_larger_models() {
             tally.count(&compare_both_orders(comparison, &files));
         });
     }
-    tally.assert_at_least(40, 0);
-    tally.assert_at_least(5, 11);
+    tally.assert_at_least(&[(0, 40), (11, 5)]);
 }
 
 /// The file with its size and the bounds of its gaps so many times as large.
@@ -140,139 +127,36 @@ fn saves_of_the_largest_models() {
         assert_eq!(ed2k::merge(&opened, &first, &second).map_err(Refusal::number), expected);
     });
     println!("triples by number: {:?}", tally.0);
-    for (number, least) in [(0, 3_000), (6, 20), (11, 300), (12, 300)] {
-        tally.assert_at_least(least, number);
-    }
+    tally.assert_at_least(&[(0, 3_000), (6, 20), (11, 300), (12, 300)]);
 }
 
-/// The archive's number and what it writes into so much room. Its length is that of what it wrote, and it leaves alone what is after
-/// that, or all if it refuses.
-fn merged_into(room: usize, files: &[Vec<u8>; 3]) -> (u8, Vec<u8>) {
-    let [opened, first, second] = files;
-    let (mut output, mut written) = (vec![FILL; room], usize::MAX);
-    let number = (ARCHIVE.merge)(opened, first, second, &mut output, &mut written);
-    assert!(number == 0 || written == 0, "number {number}, length {written}");
-    assert!(output[written..].iter().all(|byte| *byte == FILL), "number {number}: what is after the outcome");
-    output.truncate(written);
-    (number, output)
-}
-
-/// A line is the number, the room, the three files and the output, in hex; `-` is nothing.
 #[test]
 fn answers_of_an_independent_reading() {
-    let lines = include_str!("inputs/merge-cases.txt");
-    let bytes = |hex: &str| -> Vec<u8> {
-        let digits = hex.trim_matches('-').as_bytes().chunks(2);
-        digits.map(|byte| u8::from_str_radix(str::from_utf8(byte).unwrap(), 16).expect("hex")).collect()
-    };
     let mut comparison = Comparison::new(43_000_000);
-    let mut tally = Tally::default();
-    for (index, line) in lines.lines().enumerate() {
-        let [number, room, opened, first, second, output] =
-            line.split(' ').collect::<Vec<_>>().try_into().expect("six columns");
-        let files = [opened, first, second].map(bytes);
-        let expected = (number.parse().expect("a number"), bytes(output));
-        assert_eq!(merged_into(room.parse().expect("a room"), &files), expected, "line {}", index + 1);
-        let merged = compare(&mut comparison, &files);
-        assert!(expected.0 == 10 || merged.err().unwrap_or(0) == expected.0, "line {}", index + 1);
-        tally.count(&if expected.0 == 0 { Ok(expected.1) } else { Err(expected.0) });
+    for case in cases(include_str!("../../crates/test_merge/data/merges.txt")) {
+        comparison.case("case", &case, |calls| calls.merge);
+        let merged = compare(&mut comparison, &case.files);
+        assert!(case.number == 10 || merged.err().unwrap_or(0) == case.number, "line {}", case.line);
     }
-    assert_eq!(tally.0, [120, 7, 2, 0, 0, 16, 40, 0, 23, 13, 120, 65, 120]);
-}
-
-/// A model of 400 bytes that both windows opened, and what they want to save.
-fn three_alike() -> [PartPlan; 3] {
-    [PartPlan::new(400), PartPlan::new(400), PartPlan::new(400)]
-}
-
-/// The files, with the gap tags last and numbered in order.
-fn files(plans: &[PartPlan; 3]) -> [Vec<u8>; 3] {
-    plans.each_ref().map(PartPlan::plain_file)
-}
-
-/// As many gaps of one byte, one byte in four, beginning at this one.
-fn comb(start: u64, count: u64) -> Gaps {
-    (0..count).map(|gap| (start + 4 * gap, start + 4 * gap + 1)).collect()
-}
-
-fn text_tag(name: u8, text: &[u8]) -> Vec<u8> {
-    [&[2, 1, 0, name][..], &(text.len() as u16).to_le_bytes(), text].concat()
-}
-
-/// Tags that have so many bytes together.
-fn tags_of_length(mut length: usize) -> Vec<Vec<u8>> {
-    let mut tags = Vec::new();
-    while length > 0 {
-        let next = if length > 60_000 { 50_000 } else { length };
-        tags.push(text_tag(1, &vec![b'x'; next - 6]));
-        length -= next;
-    }
-    tags
-}
-
-/// What can be wrong, in the order in which it is refused.
-const FAULTS: [(u8, &str); 8] = [
-    (2, "another opening byte of the opened file"),
-    (7, "a byte too many in the first save"),
-    (1, "a byte too few in the second save"),
-    (12, "another hash of the second save"),
-    (11, "a tag of two values"),
-    (6, "too many gaps"),
-    (6, "too many bytes"),
-    (10, "no room"),
-];
-
-/// Files and room with the faults whose bits are set.
-fn faulty(faults: u32) -> ([Vec<u8>; 3], usize) {
-    let has = |fault: usize| faults & 1 << fault != 0;
-    let mut plans = three_alike();
-    let [_, first, second] = &mut plans;
-    if has(6) {
-        first.form = HashForm::Counted(vec![7; 16 * 40_000]);
-        second.others.extend(tags_of_length(500_000));
-    }
-    if has(5) {
-        first.gaps = comb(0, 64);
-        second.gaps = comb(2, 1);
-    }
-    if has(4) {
-        first.others.push(text_tag(1, b"left"));
-        second.others.push(text_tag(1, b"right"));
-    }
-    if has(3) {
-        second.hash[15] ^= 1;
-    }
-    let [mut opened, mut first, mut second] = files(&plans);
-    if has(0) {
-        opened[0] = 0xE2;
-    }
-    if has(1) {
-        first.push(0);
-    }
-    if has(2) {
-        second.pop();
-    }
-    ([opened, first, second], if has(7) { 0 } else { 2 * MET_CEILING })
+    assert_eq!(comparison.counts("case"), [120, 7, 2, 0, 0, 16, 40, 0, 23, 13, 120, 65, 120]);
 }
 
 #[test]
 fn every_refusal_before_all_later_ones() {
-    for faults in 0..1 << FAULTS.len() {
-        let (files, room) = faulty(faults);
-        let expected = FAULTS.get(faults.trailing_zeros() as usize).map_or(0, |(number, _)| *number);
-        let present: Vec<_> =
-            (0..FAULTS.len()).filter(|fault| faults & 1 << fault != 0).map(|fault| FAULTS[fault].1).collect();
-        assert_eq!(merged_into(room, &files).0, expected, "{present:?}");
-        let [opened, first, second] = &files;
-        let (mut output, mut written) = (vec![FILL; room], 0);
-        assert_eq!((PLAIN.merge)(opened, first, second, &mut output, &mut written), expected, "{present:?}");
+    for faults in Fault::combinations() {
+        let (files, room) = faulty_saves(&faults);
+        let expected = Fault::first_number(&Fault::ALL, &faults);
+        for merge in [ARCHIVE.merge, PLAIN.merge] {
+            let (number, _) = written_into(merge, room, files.each_ref().map(Vec::as_slice));
+            assert_eq!(number, expected, "{faults:?}");
+        }
     }
 }
 
 /// The number for these plans, on both sides and in both orders.
 fn number_of(plans: &[PartPlan; 3]) -> u8 {
     let mut comparison = Comparison::new(44_000_000);
-    compare_both_orders(&mut comparison, &files(plans)).err().unwrap_or(0)
+    compare_both_orders(&mut comparison, &plain_files(plans)).err().unwrap_or(0)
 }
 
 #[test]
@@ -366,7 +250,7 @@ fn each_part_is_of_the_save_that_changed_it() {
         gaps: vec![(50, 100), (350, 400)],
         ..plans[0].clone()
     };
-    let [opened, first, second] = files(&plans);
+    let [opened, first, second] = plain_files(&plans);
     assert_eq!(ed2k::merge(&opened, &first, &second), Ok(expected.plain_file()));
     assert_eq!(ed2k::merge(&opened, &second, &first), Ok(expected.plain_file()));
 }
@@ -377,7 +261,7 @@ fn gap_tags_may_stand_anywhere() {
     let mut random = Random::new(45_000_000);
     for _ in 0..2_000 {
         let plans = saves_of_size(&mut random, 300);
-        let [opened, first, second] = files(&plans);
+        let [opened, first, second] = plain_files(&plans);
         let expected = ed2k::merge(&opened, &first, &second);
         let [opened, first, second] = plans.map(|plan| plan.file(&mut random));
         assert_eq!(ed2k::merge(&opened, &first, &second), expected);
@@ -424,17 +308,18 @@ fn an_outcome_at_the_byte_ceiling() {
     let mut plans = three_alike();
     plans[1].form = HashForm::Counted(vec![7; 16 * 40_000]);
     plans[2].gaps = comb(0, 64);
-    let [_, first, second] = files(&plans);
+    let [_, first, second] = plain_files(&plans);
     // The form and the tags that are there: the hash list of the first save is not in the second.
-    let left = MET_CEILING - (first.len() + second.len() - files(&three_alike())[0].len());
+    let left = MET_CEILING - (first.len() + second.len() - plain_files(&three_alike())[0].len());
     for (length, expected) in [(left - 1, 0), (left, 0), (left + 1, 6)] {
         plans[2].others.truncate(1);
         plans[2].others.extend(tags_of_length(length));
-        let files = files(&plans);
+        let [opened, first, second] = &plain_files(&plans);
+        let merged_into = |room| written_into(ARCHIVE.merge, room, [opened, first, second]);
         assert_eq!(number_of(&plans), expected);
         let most = if expected == 0 { MET_CEILING - left + length } else { 0 };
-        assert_eq!(merged_into(2 * MET_CEILING, &files).1.len(), most);
-        assert_eq!(merged_into(MET_CEILING, &files).0, expected);
-        assert_eq!(merged_into(MET_CEILING - 1, &files).0, if length == left { 10 } else { expected });
+        assert_eq!(merged_into(2 * MET_CEILING).1.len(), most);
+        assert_eq!(merged_into(MET_CEILING).0, expected);
+        assert_eq!(merged_into(MET_CEILING - 1).0, if length == left { 10 } else { expected });
     }
 }

@@ -178,28 +178,35 @@ fn writes(name: &str, call: impl FnOnce(&mut [u8], &mut usize) -> u8 + Send) {
 
 #[test]
 fn files_written() {
-    let (file, record) = (part_met_with_gaps(), full_record());
+    let (file, longest, record) = (part_met_with_gaps(), made(plain::PART_MET, MET_CEILING), full_record());
     writes("put gaps", |output, written| (ARCHIVE.put_gaps)(&file, &record, output, written));
-    let saved = made(plain::PART_MET, MET_CEILING);
-    writes("save", |output, written| (ARCHIVE.save)(&file, &file, &saved, output, written));
+    for (old, new) in [(&file, &longest), (&longest, &file), (&longest, &longest)] {
+        writes("save", |output, written| (ARCHIVE.save)(old, old, new, output, written));
+        writes("strict save", |output, written| (ARCHIVE.save_strict)(old, old, new, output, written));
+    }
 }
 
-/// The file with its gap tags after the others.
-fn with_gaps_last(file: &[u8]) -> Vec<u8> {
+/// The file with another date and with its gap tags after the others.
+fn changed(file: &[u8]) -> Vec<u8> {
     let (mut record, mut output) = (vec![0; plain::GAP_NUMBERS], vec![0; MET_CEILING]);
     plain::read_gaps(file, &mut record).expect("a file");
     let length = plain::put_gaps(file, &record, &mut output).expect("the same gaps");
     output.truncate(length);
+    output[DATE_BYTE] ^= 1;
     output
 }
 
-/// Files with 64 gaps and with 1 MiB of tags, whose gap tags stand at the same place and at another.
+/// A byte of the date, in an E0 and in an E1.
+const DATE_BYTE: usize = 2;
+
+/// Files with 64 gaps and with 1 MiB of tags, changed by one window and by both. A save over a changed file merges.
 #[test]
 fn saves_merged() {
     for opened in [part_met_with_gaps(), made(plain::PART_MET, MET_CEILING)] {
-        let moved = with_gaps_last(&opened);
-        for (first, second) in [(&opened, &opened), (&moved, &opened), (&moved, &moved)] {
+        let changed = changed(&opened);
+        for (first, second) in [(&opened, &opened), (&changed, &opened), (&changed, &changed)] {
             writes("merge", |output, written| (ARCHIVE.merge)(&opened, first, second, output, written));
+            writes("save", |output, written| (ARCHIVE.save)(first, &opened, second, output, written));
         }
     }
 }

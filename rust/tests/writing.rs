@@ -510,8 +510,8 @@ fn the_first_offset_of_an_entry_at_fault_decides() {
         let mut random = comparison.next_input();
         compare_entries(&mut comparison, &mut random, &source, hash, (0, hashes), (tags, 1));
     }
-    comparison.assert_seen("file entry", &[0, 1, 5, 6]);
-    comparison.assert_seen("record", &[0, 1, 5, 6]);
+    comparison.assert_seen("file entry", &[0, 1, 5, 6, 10]);
+    comparison.assert_seen("record", &[0, 1, 5, 6, 10]);
 }
 
 /// A 96 of each form with numbers of each form.

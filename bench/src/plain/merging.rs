@@ -5,7 +5,7 @@ use super::part::{COUNTED_OPENING, Output, Pair, Part, pairs_bytes, read};
 use super::{Answer, GAP_CEILING, MET_CEILING, Refusal};
 
 /// A file that was read, and its gaps with the byte ranges of their tags.
-struct Read<'a> {
+pub(super) struct Read<'a> {
     file: &'a [u8],
     part: Part,
     pairs: [Pair; GAP_CEILING],
@@ -16,7 +16,7 @@ struct Read<'a> {
 
 impl<'a> Read<'a> {
     #[inline]
-    fn new(file: &'a [u8]) -> Answer<Self> {
+    pub fn new(file: &'a [u8]) -> Answer<Self> {
         let mut pairs = [Pair::default(); GAP_CEILING];
         let (mut count, mut gap_bytes) = (0, 0);
         let part = read(file, |index, pair| {
@@ -193,9 +193,20 @@ fn merged_gaps(opened: &Read, first: &Read, second: &Read) -> Answer<Merged> {
 }
 
 pub fn merge(opened: &[u8], first: &[u8], second: &[u8], output: &mut [u8]) -> Answer<usize> {
-    let opened = &Read::new(opened)?;
-    let first = &Read::new(first)?;
-    let second = &Read::new(second)?;
+    let opened = Read::new(opened)?;
+    let first = Read::new(first)?;
+    let second = Read::new(second)?;
+    merge_read(&opened, &first, &second, output)
+}
+
+/// The merge of files that are accepted by themselves.
+#[inline]
+pub(super) fn merge_read(
+    opened: &Read,
+    first: &Read,
+    second: &Read,
+    output: &mut [u8],
+) -> Answer<usize> {
     let of_one_model =
         |save: &Read| save.part.size == opened.part.size && save.hash() == opened.hash();
     if !of_one_model(first) || !of_one_model(second) {

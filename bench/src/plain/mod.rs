@@ -10,11 +10,12 @@ mod met;
 mod packets;
 mod part;
 mod query;
+mod saving;
 mod tags;
 
 pub use crate::reference::{
     Answer, Calls, FIELDS, GAP_CEILING, GAP_NUMBERS, Item, KNOWN_MET, LONE_QUERY, LONE_TAGS,
-    MET_CEILING, PACKET_CEILING, PART_MET, QUERY_DEPTH, Refusal, SERVER_MET, UDP_LINK,
+    MET_CEILING, OfThree, PACKET_CEILING, PART_MET, QUERY_DEPTH, Refusal, SERVER_MET, UDP_LINK,
 };
 
 use crate::reference::{self, CLIENT_LINK, SERVER_LINK};
@@ -26,7 +27,10 @@ pub const PLAIN: Calls = Calls {
     mark: |record, start, end, missing| leave(gaps::mark(record, start, end), missing),
     put_gaps: |file, record, output, written| leave(part::put_gaps(file, record, output), written),
     save: |stored, opened, saved, output, written| {
-        leave(part::save(stored, opened, saved, output), written)
+        leave(saving::save(stored, opened, saved, output), written)
+    },
+    save_strict: |stored, opened, saved, output, written| {
+        leave(saving::save_strict(stored, opened, saved, output), written)
     },
     merge: |opened, first, second, output, written| {
         leave(merging::merge(opened, first, second, output), written)

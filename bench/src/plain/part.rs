@@ -1,4 +1,4 @@
-//! part.met: its tags in one pass, its gaps, putting them, and saving.
+//! part.met: its tags in one pass, its gaps, and putting them.
 
 use super::cursor::{Cursor, List};
 use super::gaps::{Lawful, lawful};
@@ -327,14 +327,4 @@ impl Output<'_> {
         }
         self.put(&value.to_le_bytes());
     }
-}
-
-/// The saved file, if it is one and the stored file is the one opened.
-pub fn save(stored: &[u8], opened: &[u8], saved: &[u8], output: &mut [u8]) -> Answer<usize> {
-    read(saved, |_, _| ())?;
-    if stored != opened {
-        return Err(Refusal::Conflict);
-    }
-    output.get_mut(..saved.len()).ok_or(Refusal::Room)?.copy_from_slice(saved);
-    Ok(saved.len())
 }

@@ -4,7 +4,7 @@ use super::reading::reading;
 use super::{Messages, Work, made};
 use crate::files::{self, PartFile};
 use crate::inputs::{self, Gaps, Random};
-use crate::plain::{GAP_NUMBERS, MET_CEILING, PART_MET, PLAIN};
+use crate::plain::{Calls, GAP_NUMBERS, MET_CEILING, OfThree, PART_MET, PLAIN};
 
 const MARKS: usize = 192;
 /// Room for a short file with more gaps than it has.
@@ -20,9 +20,13 @@ pub const LINES: &[fn() -> Work] = &[
     marking,
     arrived_parts,
     puts,
-    || saves("save of 4 KiB", 4_096, |random| files::long_part(random, 4_096, 8)),
+    || saves("save of 4 KiB", 4_096, short_part, |calls| calls.save),
     longest_save,
-    || merges("merge of 4 KiB, 64 gaps", 4_096, |random| files::long_part(random, 4_096, 64)),
+    || saves("strict save of 4 KiB", 4_096, short_part, |calls| calls.save_strict),
+    || saves("strict save of 1 MiB", 1 << 20, files::longest_part, |calls| calls.save_strict),
+    || merging_saves("save that merges, 4 KiB, 64 gaps", 4_096, short_part_of_many_gaps),
+    || merging_saves("save that merges, 1 MiB", 1 << 20, files::longest_part),
+    || merges("merge of 4 KiB, 64 gaps", 4_096, short_part_of_many_gaps),
     || merges("merge of 1 MiB", 1 << 20, files::longest_part),
 ];
 
@@ -36,6 +40,14 @@ fn parts_of_many_gaps() -> impl Iterator<Item = PartFile> {
 
 fn longest_parts() -> impl Iterator<Item = PartFile> {
     made(1 << 20, files::longest_part)
+}
+
+fn short_part(random: &mut Random) -> PartFile {
+    files::long_part(random, 4_096, 8)
+}
+
+fn short_part_of_many_gaps(random: &mut Random) -> PartFile {
+    files::long_part(random, 4_096, 64)
 }
 
 fn bytes_of(parts: impl Iterator<Item = PartFile>) -> Messages {
@@ -92,7 +104,7 @@ fn ranges_to_mark(record: &Record) -> Vec<(u64, u64)> {
 }
 
 /// The way of one arrived part: it is marked, the gaps are put into the file, and that is saved
-/// over the one opened.
+/// over the one opened and no other.
 fn arrived_parts() -> Work {
     let parts: Vec<_> = common_parts().take(4_096).collect();
     let record = |part: &PartFile| record_of(part.size.into(), &part.gaps);
@@ -107,7 +119,7 @@ fn arrived_parts() -> Work {
         let marked = (calls.mark)(&mut lent.gaps, start, (start + end) / 2, &mut lent.missing);
         let put = (calls.put_gaps)(file, &lent.gaps, &mut lent.output, &mut lent.written);
         let new = &lent.output[..lent.written];
-        marked + put + (calls.save)(file, opened, new, &mut lent.saved, &mut lent.written)
+        marked + put + (calls.save_strict)(file, opened, new, &mut lent.saved, &mut lent.written)
     });
     work.with_room(SHORT_ROOM)
 }
@@ -125,24 +137,47 @@ fn puts() -> Work {
 }
 
 /// Each file, of which the stored one and the one opened are copies, is replaced by the next.
-fn saves(name: &str, length: usize, make: impl Fn(&mut Random) -> PartFile) -> Work {
+fn saves(
+    name: &str,
+    length: usize,
+    make: fn(&mut Random) -> PartFile,
+    choose: impl Fn(&Calls) -> OfThree + 'static,
+) -> Work {
     let stored = bytes_of(made(length, make));
     let opened = stored.clone();
     let (count, amount) = (stored.count(), stored.bytes.len());
     let work = Work::new(name, count, move |calls, index, lent| {
         let (old, opened, new) =
             (stored.at(index), opened.at(index), stored.at((index + 1) % count));
-        (calls.save)(old, opened, new, &mut lent.saved, &mut lent.written)
+        choose(calls)(old, opened, new, &mut lent.saved, &mut lent.written)
     });
     work.of_bytes(amount).with_room(length)
 }
 
 pub fn longest_save() -> Work {
-    saves("save of 1 MiB", 1 << 20, files::longest_part)
+    saves("save of 1 MiB", 1 << 20, files::longest_part, |calls| calls.save)
 }
 
-/// The bytes of all three files count.
-fn merges(name: &str, length: usize, make: impl Fn(&mut Random) -> PartFile) -> Work {
+fn merges(name: &str, length: usize, make: fn(&mut Random) -> PartFile) -> Work {
+    of_two_saves(name, length, make, |calls, [opened, first, second], output, written| {
+        (calls.merge)(opened, first, second, output, written)
+    })
+}
+
+/// The second save, over the first one.
+fn merging_saves(name: &str, length: usize, make: fn(&mut Random) -> PartFile) -> Work {
+    of_two_saves(name, length, make, |calls, [opened, stored, new], output, written| {
+        (calls.save)(stored, opened, new, output, written)
+    })
+}
+
+/// A call on a file and two saves of it. The bytes of all three files count.
+fn of_two_saves(
+    name: &str,
+    length: usize,
+    make: fn(&mut Random) -> PartFile,
+    call: impl Fn(&Calls, [&[u8]; 3], &mut [u8], &mut usize) -> u8 + 'static,
+) -> Work {
     let three = |random: &mut Random| {
         let opened = make(random);
         files::two_saves(random, &opened)
@@ -150,8 +185,8 @@ fn merges(name: &str, length: usize, make: impl Fn(&mut Random) -> PartFile) -> 
     let files: Messages = made(3 * length, three).flatten().collect();
     let (count, amount) = (files.count() / 3, files.bytes.len());
     let work = Work::new(name, count, move |calls, index, lent| {
-        let [opened, first, second] = [0, 1, 2].map(|file| files.at(3 * index + file));
-        (calls.merge)(opened, first, second, &mut lent.output, &mut lent.written)
+        let files = [0, 1, 2].map(|file| files.at(3 * index + file));
+        call(calls, files, &mut lent.output, &mut lent.written)
     });
     work.of_bytes(amount).with_room(length + SHORT_ROOM)
 }

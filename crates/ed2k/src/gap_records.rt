@@ -4,7 +4,7 @@ ghost use Rattle.format.specs.Messages.{partMet};
 ghost use Rattle.format.specs.Decoding.{reply};
 ghost use Rattle.format.specs.MetOrder.{decode};
 ghost use Rattle.format.specs.Gaps.{sizeLimit};
-ghost use Rattle.format.specs.Saving.{save};
+ghost use Rattle.format.specs.Saving.{Saves, saveStrict};
 ghost use Rattle.format.specs.Merging.{Merges};
 ghost use Rattle.gaps.specs.Marking.{marked};
 ghost use Rattle.met.specs.MetAnswers.{gapsAnswer};
@@ -97,9 +97,24 @@ pub extern "C" fn ed2k_save(
     output: &mut [u8],
     written: &mut usize,
 ) -> u8
-    ensures { λ r. ⌜ leaves r (now (written .exit)) (now (output .exit)) ≡ save (now (stored .entry)) (now (opened .entry)) (now (saved .entry)) (now (output .entry)) ⌝ }
+    ensures { λ r. ⌜ Saves (now (stored .entry)) (now (opened .entry)) (now (saved .entry)) (now (output .entry)) (leaves r (now (written .exit)) (now (output .exit))) ⌝ }
 {
     let answer = save::save(stored, opened, saved, output);
+    *written = answer.length;
+    answer.number
+}
+
+#[no_mangle]
+pub extern "C" fn ed2k_save_strict(
+    stored: &[u8],
+    opened: &[u8],
+    saved: &[u8],
+    output: &mut [u8],
+    written: &mut usize,
+) -> u8
+    ensures { λ r. ⌜ leaves r (now (written .exit)) (now (output .exit)) ≡ saveStrict (now (stored .entry)) (now (opened .entry)) (now (saved .entry)) (now (output .entry)) ⌝ }
+{
+    let answer = save::save_strict(stored, opened, saved, output);
     *written = answer.length;
     answer.number
 }

@@ -38,6 +38,7 @@ pub use gap_records::ed2k_merge;
 pub use gap_records::ed2k_put_gaps;
 pub use gap_records::ed2k_read_gaps;
 pub use gap_records::ed2k_save;
+pub use gap_records::ed2k_save_strict;
 pub use read::ed2k_block_count;
 pub use read::ed2k_part_count;
 pub use read::ed2k_read;

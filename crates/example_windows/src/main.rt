@@ -1,18 +1,18 @@
-// Two windows of an editor open one part.met, mark different ranges and save: the first save is accepted, the second is refused
-// as a conflict (11), and the stored bytes are the first's. Then the second window merges its save with what is stored and saves that, over
-// what it merged with: both ranges have arrived. Each step prints one line.
+// A model's first save is the strict one. Two windows of an editor open its part.met, mark different ranges and save: the first save is accepted,
+// and the second one is merged with it, so that both ranges have arrived. Had the second asked for the strict save, it would have been refused
+// as a conflict (11). Two windows that set the priority in two ways are in conflict by either save. Each step prints one line.
 use gaps::count_missing;
 use gaps::mark;
-use merge::merge;
 use met::read_gaps;
 use output::WriteAnswer;
 use output::same;
 use put_gaps::put_gaps;
 use save::save;
+use save::save_strict;
 use wire::bytes_at;
 
-// A part.met of 100 bytes, all missing.
-const OPENED: [u8; 53] = [
+// The part.met of a model of 100 bytes, all missing, with a tag for its priority.
+const OPENED: [u8; 61] = [
     0xE0,
     0x10,
     0x20,
@@ -36,7 +36,7 @@ const OPENED: [u8; 53] = [
     0x50,
     0x00,
     0x00,
-    0x03,
+    0x04,
     0x00,
     0x00,
     0x00,
@@ -45,6 +45,14 @@ const OPENED: [u8; 53] = [
     0x00,
     0x02,
     0x64,
+    0x00,
+    0x00,
+    0x00,
+    0x03,
+    0x01,
+    0x00,
+    0x13,
+    0x00,
     0x00,
     0x00,
     0x00,
@@ -68,6 +76,9 @@ const OPENED: [u8; 53] = [
     0x00,
 ];
 
+// The offset of the priority in it.
+const PRIORITY: usize = 39;
+
 fn say(words: &[u8], n: u64) {
     io::write_all(1, words);
     io::print_decimal(1, n);
@@ -86,17 +97,16 @@ fn edit(opened: &[u8], start: u64, end: u64, out: &mut [u8]) -> usize {
     wrote.length
 }
 
-// Saves the first n bytes of what a window made, over what is stored.
-fn save_window(
-    stored: &[u8],
-    opened: &[u8],
-    made: &[u8],
-    length: usize,
-    out: &mut [u8],
-) -> WriteAnswer {
-    let new = bytes_at(made, 0, length);
-    let saved = save(stored, opened, new, out);
+// Both saves of what a window made say what they answer.
+fn save_window(stored: &[u8], opened: &[u8], made: &[u8], out: &mut [u8]) -> WriteAnswer {
+    let saved = save(stored, opened, made, out);
     say(b"save: answer ", saved.number as u64);
+    saved
+}
+
+fn save_window_strictly(stored: &[u8], opened: &[u8], made: &[u8], out: &mut [u8]) -> WriteAnswer {
+    let saved = save_strict(stored, opened, made, out);
+    say(b"strict save: answer ", saved.number as u64);
     saved
 }
 
@@ -108,14 +118,6 @@ fn show_same(a: &[u8], b: &[u8]) {
     }
 }
 
-// Merges what a window made with what is stored, and saves the outcome over that.
-fn merge_window(opened: &[u8], stored: &[u8], made: &[u8], out: &mut [u8]) -> WriteAnswer {
-    let mut merged = [0; 128];
-    let answer = merge(opened, stored, made, &mut merged);
-    say(b"merge: answer ", answer.number as u64);
-    save_window(stored, stored, &merged, answer.length, out)
-}
-
 fn show_missing(file: &[u8]) {
     let read = read_gaps(file);
     say(
@@ -124,22 +126,40 @@ fn show_missing(file: &[u8]) {
     );
 }
 
-fn main() {
+// Two windows mark different ranges of the model that is stored.
+fn mark_in_two_windows(stored: &[u8]) {
     let mut first = [0; 128];
     let mut second = [0; 128];
+    let first_length = edit(stored, 0, 40, &mut first);
+    let second_length = edit(stored, 60, 100, &mut second);
+    let mine = bytes_at(&first, 0, first_length);
+    let yours = bytes_at(&second, 0, second_length);
+    let mut after_first = [0; 128];
+    let saved = save_window(stored, stored, mine, &mut after_first);
+    let now = bytes_at(&after_first, 0, saved.length);
+    show_same(now, mine);
+    let mut after_second = [0; 128];
+    let refused = save_window_strictly(now, stored, yours, &mut after_second);
+    say(b"bytes written by it: ", refused.length as u64);
+    let merged = save_window(now, stored, yours, &mut after_second);
+    show_missing(bytes_at(&after_second, 0, merged.length));
+}
+
+// Two windows set its priority in two ways.
+fn set_in_two_windows() {
+    let mut first = OPENED;
+    let mut second = OPENED;
+    first[PRIORITY] = 1;
+    second[PRIORITY] = 2;
+    let mut out = [0; 128];
+    let refused = save_window(&first, &OPENED, &second, &mut out);
+    say(b"bytes written by it: ", refused.length as u64);
+}
+
+fn main() {
+    let nothing: [u8; 0] = [];
     let mut stored = [0; 128];
-    let mut unused = [0; 128];
-    let first_length = edit(&OPENED, 0, 40, &mut first);
-    let second_length = edit(&OPENED, 60, 100, &mut second);
-    let first_save = save_window(&OPENED, &OPENED, &first, first_length, &mut stored);
-    let now = bytes_at(&stored, 0, first_save.length);
-    let second_save = save_window(now, &OPENED, &second, second_length, &mut unused);
-    say(
-        b"bytes written by the second save: ",
-        second_save.length as u64,
-    );
-    show_same(now, bytes_at(&first, 0, first_length));
-    let mut both = [0; 128];
-    let merged = merge_window(&OPENED, now, bytes_at(&second, 0, second_length), &mut both);
-    show_missing(bytes_at(&both, 0, merged.length));
+    let saved = save_window_strictly(&nothing, &nothing, &OPENED, &mut stored);
+    mark_in_two_windows(bytes_at(&stored, 0, saved.length));
+    set_in_two_windows();
 }

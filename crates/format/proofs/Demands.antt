@@ -1,34 +1,31 @@
--- The demands hold (specs/Demands): each by the laws of the files that are cited, and saving and putting by cases on what is read.
+-- The demands hold (specs/Demands): each by the laws of the files that are cited, and putting by cases on what is read.
 use mathlib.Core.Path.{_≡_, refl, sym, ap, subst, _∙_}
 use mathlib.Core.Bool.{Bool, true, false, _&&_, not, cond, and-true}
-use mathlib.Core.Logic.{_↔_}
 use mathlib.Core.List.{List, [], _∷_}
-use Prim.Native.Nat.{ℕ, _≤_, _<_}
-use native.Mathlib.Omega.{arith}
+use Prim.Native.Nat.{ℕ, _≤_}
 use lib.ListN.{length}
 use lib.Dec.{leb, ltb}
-use borrow.Author.Tests.{le-leb, leb-true, lt-leb, ltb-true}
-use Rattle.format.specs.Tables.{pick, same}
+use borrow.Author.Tests.{leb-true, lt-leb, ltb-true}
+use Rattle.format.specs.Tables.{pick}
 use Rattle.format.specs.Messages.{PartMet, partMet}
 use Rattle.format.specs.Layout.{encode, encodePartMet}
 use Rattle.format.specs.Rules.{ceiling, metCeiling}
 use Rattle.format.specs.Decoding.{Answer, accepted, number, refusal}
 use Rattle.format.specs.MetOrder.{decode}
 use Rattle.format.specs.Gaps.{Gap, Lawful, Marking, count, gapLimit, inside, lawful, leaves, marking, missing, rejected, subtract, within}
-use Rattle.format.specs.Writing.{Written, overwritten, refuses, tries, unwritten, writtenInto}
-use Rattle.format.specs.Saving.{save, savedAfter}
+use Rattle.format.specs.Writing.{refuses, tries, unwritten, writtenInto}
 use Rattle.format.specs.PutGaps.{fitting, putAfter, putGaps, withGaps}
-use Rattle.format.specs.Demands.{Accepted, CeilingFirst, Demands, MissingAtEnd, RefusedPut, RefusedWrite}
+use Rattle.format.specs.Demands.{CeilingFirst, Demands, MissingAtEnd, RefusedPut, RefusedWrite}
 use Rattle.format.specs.Demands.{TrueCount, Untouched, WriteExact, WrittenBack, acceptedIn, acceptedRanges, gapsAfter, gapsAtEnd, oneMarking}
 use Rattle.format.proofs.Acceptance.{accepts, unambiguous}
 use Rattle.format.proofs.Differ.{differ}
-use Rattle.format.proofs.Gaps.{both-true, lawful-exactly, missing-subtract, never, outside-both, subtract-lawful}
+use Rattle.format.proofs.Gaps.{both-true, lawful-exactly, missing-subtract, outside-both, subtract-lawful}
 use Rattle.format.proofs.Merging.{conflict-exactly, merge-once, merge-read-back, refused-merge, strangers-exactly}
 use Rattle.format.proofs.PartRefusals.{nine}
-use Rattle.format.proofs.PartTags.{same-not, same-refl, same-true}
 use Rattle.format.proofs.RoundTrip.{accepted-valid, valid-accepted}
+use Rattle.format.proofs.Saving.{refused-save, refused-strict-save, save-accepts, save-conflict, save-new-first, save-once, save-read-back, save-two-ways, strict-conflict, strict-saved}
 use Rattle.format.proofs.Truth.{holds-exactly}
-use Rattle.format.proofs.Writing.{judged-once, number-below, number-some, read-judged, reads-writes, writes-once, writes-reads}
+use Rattle.format.proofs.Writing.{judged-once, read-judged, reads-writes, untouched-room, writes-once, writes-reads}
 
 -- Demand 1
 
@@ -36,81 +33,9 @@ ceiling-first : CeilingFirst
 unfolding decode
 ceiling-first k s h = rw (lt-leb (length s) (ceiling k) h) refl
 
-untouched-room : (bytes output : List ℕ) → Untouched output (writtenInto bytes output)
-untouched-room bytes output = go (leb (length bytes) (length output))
-  where
-    go : (t : Bool) → Untouched output (pick t (record { number = 0; length = length bytes; output = overwritten bytes output }) (unwritten 10 output))
-    go true h = absurd (h refl)
-    go false h = (refl, refl)
-
 refused-write : RefusedWrite
 refused-write k m output w (refuses n j f) h = (refl, refl)
 refused-write k m output w (tries j) h = untouched-room (encode k m) output h
-
--- What a save comes to, by what the reader says of the new bytes and whether the files are equal.
-module _ (stored opened new output : List ℕ) where
-  abbrev Outcome : Answer PartMet → Bool → Written
-  Outcome (refusal f) t = unwritten (number (f .rule)) output
-  Outcome (accepted m) t = pick t (writtenInto new output) (unwritten 11 output)
-
-  save-is : save stored opened new output ≡ Outcome (decode partMet new) (same stored opened)
-  unfolding save
-  save-is = go (decode partMet new)
-    where
-      go : (a : Answer PartMet) → savedAfter a stored opened new output ≡ Outcome a (same stored opened)
-      go (refusal f) = refl
-      go (accepted m) = refl
-
-  room-number : (t : Bool) → pick t (record { number = 0; length = length new; output = overwritten new output }) (unwritten 10 output) .number < 11
-  room-number true = omega arith
-  room-number false = omega arith
-
-  conflicts : (a : Answer PartMet) (t : Bool) → (Outcome a t .number ≡ 11) → ((m : PartMet) × (a ≡ accepted m)) × (t ≡ false)
-  conflicts (refusal f) t e = absurd (omega (arith, number-below (f .rule)))
-  conflicts (accepted m) true e = absurd (omega (arith, room-number (leb (length new) (length output))))
-  conflicts (accepted m) false e = ((m, refl), refl)
-
-  conflict : (save stored opened new output .number ≡ 11) ↔ (Accepted partMet new × (stored ≡ opened → ⊥))
-  conflict = (there, back)
-    where
-      there : save stored opened new output .number ≡ 11 → Accepted partMet new × (stored ≡ opened → ⊥)
-      there e =
-          let c = conflicts (decode partMet new) (same stored opened) (sym (ap (λ w. w .number) save-is) ∙ e) in
-          (c .0, λ q. let t : same stored opened ≡ true = rw q (same-refl opened) in never (same stored opened) t (c .1))
-
-      back : Accepted partMet new × (stored ≡ opened → ⊥) → save stored opened new output .number ≡ 11
-      back h = rw (save-is, h .0 .1, same-not stored opened (h .1)) refl
-
-  saves : (a : Answer PartMet) (t : Bool) → Outcome a t .number ≡ 0 → ((m : PartMet) × (a ≡ accepted m)) × ((t ≡ true) × (length new ≤ length output))
-  saves (refusal f) t e = absurd (number-some (f .rule) e)
-  saves (accepted m) true e = ((m, refl), (refl, leb-true _ _ (go (leb (length new) (length output)) e)))
-    where
-      go : (t : Bool) → pick t (record { number = 0; length = length new; output = overwritten new output }) (unwritten 10 output) .number ≡ 0 → t ≡ true
-      go true e = refl
-      go false e = absurd (omega arith)
-  saves (accepted m) false e = absurd (omega arith)
-
-  saved : (save stored opened new output ≡ record { number = 0; length = length new; output = overwritten new output })
-      ↔ (Accepted partMet new × ((stored ≡ opened) × (length new ≤ length output)))
-  saved = (there, back)
-    where
-      there : save stored opened new output ≡ record { number = 0; length = length new; output = overwritten new output } →
-          Accepted partMet new × ((stored ≡ opened) × (length new ≤ length output))
-      there e =
-          let c = saves (decode partMet new) (same stored opened) (ap (λ w. w .number) (sym save-is ∙ e)) in
-          (c .0, (same-true stored opened (c .1 .0), c .1 .1))
-
-      back : Accepted partMet new × ((stored ≡ opened) × (length new ≤ length output)) →
-          save stored opened new output ≡ record { number = 0; length = length new; output = overwritten new output }
-      back h = save-is ∙ rw (h .0 .1, h .1 .0, same-refl opened, le-leb _ _ (h .1 .1)) refl
-
-  refused-outcome : (a : Answer PartMet) (t : Bool) → Untouched output (Outcome a t)
-  refused-outcome (refusal f) t h = (refl, refl)
-  refused-outcome (accepted m) true h = untouched-room new output h
-  refused-outcome (accepted m) false h = (refl, refl)
-
-  refused-save : Untouched output (save stored opened new output)
-  refused-save = rw save-is (refused-outcome (decode partMet new) (same stored opened))
 
 refused-put : RefusedPut
 unfolding putGaps
@@ -186,14 +111,20 @@ demands = record {
   ceilingFirst = ceiling-first;
   oneSize = nine;
   refusedWrite = refused-write;
+  refusedStrictSave = refused-strict-save;
   refusedSave = refused-save;
   refusedPut = refused-put;
   refusedMerge = refused-merge;
   mergeOnce = merge-once;
   strangers = strangers-exactly;
   mergeConflict = conflict-exactly;
-  conflict = conflict;
-  saved = saved;
+  strictConflict = strict-conflict;
+  strictSaved = strict-saved;
+  saveOnce = save-once;
+  saveNewFirst = save-new-first;
+  saveConflict = save-conflict;
+  saveTwoWays = save-two-ways;
+  saveAccepts = save-accepts;
   writeOnce = λ k m output v w. writes-once k m output;
   writeExact = write-exact;
   writtenBack = written-back;
@@ -201,6 +132,7 @@ demands = record {
   missingAtEnd = missing-at-end;
   trueCount = true-count;
   mergeReadBack = merge-read-back;
+  saveReadBack = save-read-back;
   trueSearch = holds-exactly;
   acceptsExactly = accepts;
   unambiguous = unambiguous;

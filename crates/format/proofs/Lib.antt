@@ -19,5 +19,6 @@ pub mod Truth
 pub mod Writing
 pub mod Regapped
 pub mod Merging
+pub mod Saving
 pub mod RoundTrip
 pub mod Demands

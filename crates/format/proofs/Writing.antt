@@ -19,6 +19,7 @@ use Rattle.format.specs.Decoding.{Answer, Decoder, Fault, Rule, accepted
 use Rattle.format.specs.Order.{decodeAddress, decodeByte, decodeCode, decodeDword, decodeHash, decodeQuery, decodeQueryIn, decodeRecord, decodeTag, decodeType, queryCases, tagTypes}
 use Rattle.format.specs.MetOrder.{decode, decodeFileEntry, decodeServerEntry}
 use Rattle.format.specs.Writing.{CountsFit, ValueFits, TagFits, TagsFit, RecordFits, QueryFits, ValuesFit, FileEntryFits, ServerEntryFits, PartMetFits}
+use Rattle.format.specs.Demands.{Untouched}
 use Rattle.format.specs.Writing.{Judged, overflows, another, refusedFor, fine, Written, overwritten, unwritten, writtenInto, Writes, refuses, tries}
 use Rattle.format.proofs.Differ.{differ}
 use Rattle.format.proofs.Codec.{anywhere, atEnd, Codec, Found, codec-many, moved, never, went}
@@ -27,13 +28,13 @@ use Rattle.format.proofs.Packets.{length-tcp}
 use Rattle.format.proofs.Acceptance.{codec, accepts}
 
 module _ {A : Type 0} where
-  not-both : {f : Fault} {a : A} → refusal f ≡ accepted a → ⊥
+  pub not-both : {f : Fault} {a : A} → refusal f ≡ accepted a → ⊥
   not-both e = differ cc
 
-  same-message : {a b : A} → accepted a ≡ accepted b → a ≡ b
+  pub same-message : {a b : A} → accepted a ≡ accepted b → a ≡ b
   same-message e = cc
 
-  same-fault : {f g : Fault} → _≡_ {A = Answer A} (refusal f) (refusal g) → f ≡ g
+  pub same-fault : {f g : Fault} → _≡_ {A = Answer A} (refusal f) (refusal g) → f ≡ g
   same-fault e = cc
 
 -- The number of a broken rule is one of 1 to 9.
@@ -311,3 +312,11 @@ module _ {A : Type 0} {r : Decoder A} {encode : A → List ℕ} {Valid : A → T
       let w = went s (r s at) e in
       let i = needed s at (w .first) (w .mid) (w .was) in
       found-lies i (codec-many {p = anywhere} (suc n) L .sound s hb at i _ _ e tt)
+
+-- What has no room leaves the output as it was.
+pub untouched-room : (bytes output : List ℕ) → Untouched output (writtenInto bytes output)
+untouched-room bytes output = go (leb (length bytes) (length output))
+  where
+    go : (t : Bool) → Untouched output (pick t (record { number = 0; length = length bytes; output = overwritten bytes output }) (unwritten 10 output))
+    go true h = absurd (h refl)
+    go false h = (refl, refl)

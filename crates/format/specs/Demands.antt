@@ -2,8 +2,9 @@
 -- give their answers by the definitions that are used here, so each statement is one about the calls.
 --
 -- Demand 1. Whatever a peer or a disk hands over gets document 01's answer. A refusal comes exactly where 01 says, with its number and
---   length 0, and every lent buffer is as it was. A save over a file that is no longer the one opened is refused as a conflict.
---   Here and below 01 reads with what a change request of 02 adds: the merge (No. 3).
+--   length 0, and every lent buffer is as it was. A strict save over a file that is no longer the one opened is refused as a conflict; a
+--   save, which merges there, exactly when the merge is a conflict.
+--   Here and below 01 reads with what the change requests of 02 add: the merge (No. 3) and the save that merges (No. 8).
 -- Demand 2. Each accepted packet, tag list, query and met file means what the layouts say; writing it gives the same bytes, and reading
 --   what was written gives the meaning. After markings a byte is missing exactly if it was and no accepted range holds it, and the
 --   reported number of missing bytes is true.
@@ -20,14 +21,14 @@ use lib.ListN.{length, take}
 use Rattle.format.specs.Messages.{Kind, Message, PartMet, Query, Tag, partMet}
 use Rattle.format.specs.Layout.{encode}
 use Rattle.format.specs.Rules.{Bytes, SizeIs, Valid, ceiling}
-use Rattle.format.specs.Decoding.{accepted, refusedWith, reply, violates}
+use Rattle.format.specs.Decoding.{Fault, accepted, number, refusal, refusedWith, reply, violates}
 use Rattle.format.specs.Decoding as decoding
 use Rattle.format.specs.MetOrder.{decode}
 use Rattle.format.specs.PartTagOrder.{checkPartTags}
 use Rattle.format.specs.Gaps.{Gap, Lawful, Marking, count, inside, lawful, leaves, marking, missing, rejected}
 use Rattle.format.specs.Truth.{Holds, holds}
-use Rattle.format.specs.Writing.{Written, Writes, overwritten, writtenInto}
-use Rattle.format.specs.Saving.{save}
+use Rattle.format.specs.Writing.{Written, Writes, overwritten, unwritten, writtenInto}
+use Rattle.format.specs.Saving.{Saves, saveStrict}
 use Rattle.format.specs.GapTags.{gapsOf}
 use Rattle.format.specs.PutGaps.{gapTags, plainTags, putGaps, tagsOf}
 use Rattle.format.specs.Merging.{Merges, OneModel, dateOf, formOf, hashOf}
@@ -53,8 +54,11 @@ Untouched output w = (w .number ≡ 0 → ⊥) → (w .length ≡ 0) × (w .outp
 abbrev pub RefusedWrite : Type 0
 RefusedWrite = (k : Kind) (m : Message k) (output : List ℕ) (w : Written) → Writes k m output w → Untouched output w
 
+abbrev pub RefusedStrictSave : Type 0
+RefusedStrictSave = (stored opened new output : List ℕ) → Untouched output (saveStrict stored opened new output)
+
 abbrev pub RefusedSave : Type 0
-RefusedSave = (stored opened new output : List ℕ) → Untouched output (save stored opened new output)
+RefusedSave = (stored opened new output : List ℕ) (w : Written) → Saves stored opened new output w → Untouched output w
 
 abbrev pub RefusedPut : Type 0
 RefusedPut = (file : List ℕ) (limit size : ℕ) (gaps : List Gap) (output : List ℕ) → Untouched output (putGaps file limit size gaps output)
@@ -62,17 +66,17 @@ RefusedPut = (file : List ℕ) (limit size : ℕ) (gaps : List Gap) (output : Li
 abbrev pub RefusedMerge : Type 0
 RefusedMerge = (opened first second output : List ℕ) (w : Written) → Merges opened first second output w → Untouched output w
 
--- The conflict: 11 exactly where the new bytes are a part.met and the stored file is not the one opened.
-abbrev pub Conflict : Type 0
-Conflict =
+-- The strict save's conflict: 11 exactly where the new bytes are a part.met and the stored file is not the one opened.
+abbrev pub StrictConflict : Type 0
+StrictConflict =
     (stored opened new output : List ℕ) →
-    (save stored opened new output .number ≡ 11) ↔ (Accepted partMet new × (stored ≡ opened → ⊥))
+    (saveStrict stored opened new output .number ≡ 11) ↔ (Accepted partMet new × (stored ≡ opened → ⊥))
 
--- A save is accepted exactly over the file that was opened, and then it has written the new bytes.
-abbrev pub Saved : Type 0
-Saved =
+-- A strict save is accepted exactly over the file that was opened, and then it has written the new bytes.
+abbrev pub StrictSaved : Type 0
+StrictSaved =
     (stored opened new output : List ℕ) →
-    (save stored opened new output ≡ record { number = 0; length = length new; output = overwritten new output })
+    (saveStrict stored opened new output ≡ record { number = 0; length = length new; output = overwritten new output })
     ↔ (Accepted partMet new × ((stored ≡ opened) × (length new ≤ length output)))
 
 -- A merge has one answer. It is 12 exactly where three files that are accepted are not of one model, and 11 exactly where they are, and the
@@ -96,11 +100,47 @@ pub record TwoWays (opened first second : PartMet) : Type 0 where
   pub changed : AllDiffer (formOf opened) (formOf first) (formOf second)
       ⊎ AllDiffer (plainTags (tagsOf opened)) (plainTags (tagsOf first)) (plainTags (tagsOf second))
 
+-- The same of three files: each is accepted.
+abbrev pub ChangedInTwoWays : (opened first second : List ℕ) → Type 0
+ChangedInTwoWays opened first second =
+    (o : Accepted partMet opened) × ((a : Accepted partMet first) × ((b : Accepted partMet second) × TwoWays (o .0) (a .0) (b .0)))
+
 abbrev pub MergeConflict : Type 0
 MergeConflict =
-    (opened first second output : List ℕ) (w : Written) → Merges opened first second output w →
-    (w .number ≡ 11) ↔ ((o : Accepted partMet opened) × ((a : Accepted partMet first) × ((b : Accepted partMet second) ×
-    TwoWays (o .0) (a .0) (b .0))))
+    (opened first second output : List ℕ) (w : Written) → Merges opened first second output w → (w .number ≡ 11) ↔ ChangedInTwoWays opened first second
+
+-- A save has one answer.
+abbrev pub SaveOnce : Type 0
+SaveOnce = (stored opened new output : List ℕ) (v w : Written) → Saves stored opened new output v → Saves stored opened new output w → v ≡ w
+
+-- The own number of new bytes that are refused comes before all else, whatever is stored and was opened.
+abbrev pub SaveNewFirst : Type 0
+SaveNewFirst =
+    (stored opened new output : List ℕ) (w : Written) → Saves stored opened new output w →
+    (f : Fault) → decode partMet new ≡ refusal f → w ≡ unwritten (number (f .rule)) output
+
+-- The merge of two saves is answered with this number.
+abbrev pub MergeGives : (number : ℕ) → (opened first second output : List ℕ) → Type 0
+MergeGives number opened first second output = (w : Written) × (Merges opened first second output w × (w .number ≡ number))
+
+-- A save's conflict: 11 exactly where the stored file is not the one opened, the new bytes are a part.met, and their merge is a conflict.
+abbrev pub SaveConflict : Type 0
+SaveConflict =
+    (stored opened new output : List ℕ) (w : Written) → Saves stored opened new output w →
+    (w .number ≡ 11) ↔ ((stored ≡ opened → ⊥) × (Accepted partMet new × MergeGives 11 opened stored new output))
+
+-- The same in plain words: what was saved since and the new bytes changed something in two different ways.
+abbrev pub SaveTwoWays : Type 0
+SaveTwoWays =
+    (stored opened new output : List ℕ) (w : Written) → Saves stored opened new output w → (w .number ≡ 11) ↔ ChangedInTwoWays opened stored new
+
+-- A save is accepted exactly where the new bytes are a part.met and, over the file that was opened, there is room for them; over another,
+-- the merge is accepted.
+abbrev pub SaveAccepts : Type 0
+SaveAccepts =
+    (stored opened new output : List ℕ) (w : Written) → Saves stored opened new output w →
+    (w .number ≡ 0) ↔ (Accepted partMet new × ((stored ≡ opened → length new ≤ length output) ×
+    ((stored ≡ opened → ⊥) → MergeGives 0 opened stored new output)))
 
 -- Demand 2
 
@@ -193,6 +233,18 @@ MergeReadBack =
     (opened first second output : List ℕ) (w : Written) → Bytes opened → Bytes first → Bytes second →
     Merges opened first second output w → w .number ≡ 0 → MergedBack opened first second (take (w .length) (w .output))
 
+-- What an accepted save wrote is a part.met: the new bytes, over the file that was opened; over another, the merge of what was saved since
+-- and the new bytes.
+pub record SavedBack (stored opened new wrote : List ℕ) : Type 0 where
+  pub file : Accepted partMet wrote
+  pub theNew : stored ≡ opened → wrote ≡ new
+  pub theMerge : (stored ≡ opened → ⊥) → MergedBack opened stored new wrote
+
+abbrev pub SaveReadBack : Type 0
+SaveReadBack =
+    (stored opened new output : List ℕ) (w : Written) → Bytes stored → Bytes opened → Bytes new →
+    Saves stored opened new output w → w .number ≡ 0 → SavedBack stored opened new (take (w .length) (w .output))
+
 -- A query holds on a tag list exactly where it does in plain words.
 abbrev pub TrueSearch : Type 0
 TrueSearch = (q : Query) (tags : List Tag) → (holds q tags ≡ true) ↔ Holds q tags
@@ -210,14 +262,20 @@ pub record Demands : Type 0 where
   pub ceilingFirst : CeilingFirst
   pub oneSize : OneSize
   pub refusedWrite : RefusedWrite
+  pub refusedStrictSave : RefusedStrictSave
   pub refusedSave : RefusedSave
   pub refusedPut : RefusedPut
   pub refusedMerge : RefusedMerge
   pub mergeOnce : MergeOnce
   pub strangers : Strangers
   pub mergeConflict : MergeConflict
-  pub conflict : Conflict
-  pub saved : Saved
+  pub strictConflict : StrictConflict
+  pub strictSaved : StrictSaved
+  pub saveOnce : SaveOnce
+  pub saveNewFirst : SaveNewFirst
+  pub saveConflict : SaveConflict
+  pub saveTwoWays : SaveTwoWays
+  pub saveAccepts : SaveAccepts
   pub writeOnce : WriteOnce
   pub writeExact : WriteExact
   pub writtenBack : WrittenBack
@@ -225,6 +283,7 @@ pub record Demands : Type 0 where
   pub missingAtEnd : MissingAtEnd
   pub trueCount : TrueCount
   pub mergeReadBack : MergeReadBack
+  pub saveReadBack : SaveReadBack
   pub trueSearch : TrueSearch
   pub acceptsExactly : AcceptsExactly
   pub unambiguous : Unambiguous

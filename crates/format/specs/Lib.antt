@@ -14,7 +14,7 @@ pub mod Cases
 pub mod Truth
 pub mod Writing
 pub mod RoundTrip
-pub mod Saving
 pub mod PutGaps
 pub mod Merging
+pub mod Saving
 pub mod Demands

@@ -1,11 +1,8 @@
 -- What a merge comes to, by what the reader says of the three files; and of a file that it accepts, what the next step needs.
 use Prim.Native.Nat.{ℕ}
 use mathlib.Core.Path.{_≡_}
-use mathlib.Core.Logic.{_↔_}
 use mathlib.Core.List.{List}
 use Rattle.format.specs.Messages.{PartMet, partMet}
-use Rattle.format.specs.Layout.{encode}
-use Rattle.format.specs.Rules.{Valid}
 use Rattle.format.specs.Decoding.{Answer, accepted, message, refusal, refusedWith, reply}
 use Rattle.format.specs.MetOrder.{decode}
 use Rattle.format.specs.Writing.{Written, unwritten}
@@ -14,9 +11,9 @@ use Rattle.format.proofs.Differ.{differ}
 use Rattle.met.specs.declared.PartGaps.{PartGaps}
 use Rattle.met.specs.declared.PartMet as code
 use Rattle.met.specs.declared.PartRead.{PartRead}
-use Rattle.met.specs.MetAnswers.{PartAnswerPlaced, PartReadSized, partIn, partReply}
+use Rattle.met.specs.MetAnswers.{partMetIn}
 use Rattle.put_gaps.proofs.Puts.{reads, reads-gaps}
-use Rattle.merge.specs.Choices.{Found}
+use Rattle.merge.specs.Choices.{Found, ReadAs}
 
 -- the message that the reader's reply tells
 accepted-as : (a : Answer PartMet) (m : PartMet) → message m ≡ reply a → a ≡ accepted m
@@ -55,8 +52,13 @@ module _ (opened first second output : List ℕ) where
       all-read b read-b w h =
           rw (accepted-as (decode partMet opened) o read-o, accepted-as (decode partMet first) a read-a, accepted-as (decode partMet second) b read-b) h
 
-pub found-of : (s starts : List ℕ) (r : PartRead) (part : code.PartMet) (gaps : PartGaps) → r ≡ PartRead.Accepted part gaps →
-    (partReply s (partIn r) ≡ reply (decode partMet s)) × (PartAnswerPlaced s (partIn r) × (PartReadSized s starts r ×
-    ((m : PartMet) → (partReply s (partIn r) ≡ message m) ↔ ((s ≡ encode partMet m) × Valid partMet m)))) →
+pub read-of : (s starts : List ℕ) (r : PartRead) (part : code.PartMet) (gaps : PartGaps) → r ≡ PartRead.Accepted part gaps → ReadAs s starts r →
+    message (partMetIn s part) ≡ reply (decode partMet s)
+read-of s starts r part gaps e h = rw e at (h .0)
+
+pub refused-of : (s starts : List ℕ) (r : PartRead) (n : ℕ) → r ≡ PartRead.Refused n → ReadAs s starts r → refusedWith n ≡ reply (decode partMet s)
+refused-of s starts r n e h = rw e at (h .0)
+
+pub found-of : (s starts : List ℕ) (r : PartRead) (part : code.PartMet) (gaps : PartGaps) → r ≡ PartRead.Accepted part gaps → ReadAs s starts r →
     Found s starts (record { part = part; gaps = gaps })
 found-of s starts r part gaps e h = record { reads = reads s starts r part gaps e h; held = reads-gaps s starts r part gaps e (h .1 .1 .0) }

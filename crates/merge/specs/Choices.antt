@@ -1,18 +1,23 @@
 -- What the private steps of a merge need and answer.
 use Prim.Native.Nat.{ℕ}
 use mathlib.Core.Path.{_≡_}
+use mathlib.Core.Logic.{_↔_}
 use mathlib.Core.Option.{some, none}
 use mathlib.Core.List.{List, _∷_}
 use lib.ListN.{length}
 use Rattle.format.specs.Messages as messages
 use Rattle.format.specs.Gaps.{Gap}
+use Rattle.format.specs.Layout.{encode}
+use Rattle.format.specs.Rules.{Valid}
+use Rattle.format.specs.Decoding.{message, reply}
+use Rattle.format.specs.MetOrder.{decode}
 use Rattle.format.specs.Merging.{ThreeWay}
 use Rattle.tags.specs.TagAnswers.{tagsIn}
 use Rattle.gap_numbers.specs.NumberSteps.{gapNumbers}
 use Rattle.part_tags.specs.PartTagAnswers.{GapsHeld}
 use Rattle.met.specs.declared.PartMet.{PartMet}
 use Rattle.met.specs.declared.PartRead.{PartRead}
-use Rattle.met.specs.MetAnswers.{partMetIn, tagsPlace}
+use Rattle.met.specs.MetAnswers.{PartAnswerPlaced, PartReadSized, partIn, partMetIn, partReply, tagsPlace}
 use Rattle.put_gaps.specs.Pieces.{Accepts}
 use Rattle.merge.specs.declared.Read.{Read}
 use Rattle.merge.specs.declared.Save.{Save}
@@ -22,6 +27,12 @@ use Rattle.merge.specs.declared.Choice.{Choice}
 abbrev pub numberIn : PartRead → ℕ
 numberIn (PartRead.Accepted part gaps) = 0
 numberIn (PartRead.Refused n) = n
+
+-- What `read_part` answers for a file, and leaves in the array of offsets.
+abbrev pub ReadAs : (s starts : List ℕ) → PartRead → Type 0
+ReadAs s starts r =
+    (partReply s (partIn r) ≡ reply (decode messages.partMet s)) × (PartAnswerPlaced s (partIn r) × (PartReadSized s starts r ×
+    ((m : messages.PartMet) → (partReply s (partIn r) ≡ message m) ↔ ((s ≡ encode messages.partMet m) × Valid messages.partMet m))))
 
 -- The date of a part.met that was read.
 abbrev pub dateIn : PartMet → ℕ

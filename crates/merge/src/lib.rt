@@ -18,7 +18,7 @@ ghost use Rattle.gap_numbers.specs.Numbers.{held};
 ghost use Rattle.output.specs.WriteAnswers.{answered};
 ghost use Rattle.put_gaps.specs.Pieces.{LawfulNumbers};
 ghost use Rattle.merge_write.specs.Outcome.{joined};
-ghost use Rattle.merge.specs.Choices.{Chosen, Found, Reads, SameSizes, dateIn, numberIn, numbersLeft, partFrom, saveOf};
+ghost use Rattle.merge.specs.Choices.{Chosen, Found, ReadAs, Reads, SameSizes, dateIn, numberIn, numbersLeft, partFrom, saveOf};
 use gap_numbers::GAP_NUMBERS;
 use gap_numbers::put_found;
 use gaps::GAP_LIMIT;
@@ -56,8 +56,8 @@ enum Choice {
     Conflict,
 }
 
-// The own number of a file that is refused.
-fn own_number(read: PartRead) -> u8
+// The own number of a file that is refused; 0 of one that is accepted.
+pub fn own_number(read: PartRead) -> u8
     ensures { λ r. ⌜ r ≡ numberIn read ⌝ }
 {
     match read {
@@ -322,6 +322,56 @@ fn merge_read(
     put_chosen(out, form, tags, first, one, second, other, &numbers)
 }
 
+// The merge of three files that have been read, whether they were accepted or not: how, and the offsets of their gaps, are lent beside them.
+// Each file's own number comes first, in the order of the files.
+pub fn merge_with_reads(
+    opened: &[u8],
+    opened_starts: &[usize; 64],
+    opened_read: PartRead,
+    first: &[u8],
+    first_starts: &[usize; 64],
+    first_read: PartRead,
+    second: &[u8],
+    second_starts: &[usize; 64],
+    second_read: PartRead,
+    out: &mut [u8],
+) -> WriteAnswer
+    requires { ⌜ ReadAs (now opened) (now «opened_starts») «opened_read» × ReadAs (now first) (now «first_starts») «first_read»
+        × ReadAs (now second) (now «second_starts») «second_read» ⌝ }
+    ensures { λ r. ⌜ Merges (now (opened .entry)) (now (first .entry)) (now (second .entry)) (now (out .entry)) (answered r (now (out .exit))) ⌝ }
+{
+    let PartRead::Accepted(opened_part, opened_gaps) = opened_read else {
+        return refused(own_number(opened_read));
+    };
+    let PartRead::Accepted(first_part, first_gaps) = first_read else {
+        return refused(own_number(first_read));
+    };
+    let PartRead::Accepted(second_part, second_gaps) = second_read else {
+        return refused(own_number(second_read));
+    };
+    merge_read(
+        opened,
+        opened_starts,
+        Read {
+            part: opened_part,
+            gaps: opened_gaps,
+        },
+        first,
+        first_starts,
+        Read {
+            part: first_part,
+            gaps: first_gaps,
+        },
+        second,
+        second_starts,
+        Read {
+            part: second_part,
+            gaps: second_gaps,
+        },
+        out,
+    )
+}
+
 // `opened` is the file that both windows opened, `first` and `second` what they want to save. `out` takes the outcome at its front and is not
 // touched after it, nor by a refusal.
 pub fn merge(opened: &[u8], first: &[u8], second: &[u8], out: &mut [u8]) -> WriteAnswer
@@ -329,38 +379,20 @@ pub fn merge(opened: &[u8], first: &[u8], second: &[u8], out: &mut [u8]) -> Writ
 {
     let mut opened_starts: [usize; 64] = [0; 64];
     let opened_read = read_part(opened, &mut opened_starts);
-    let PartRead::Accepted(opened_part, opened_gaps) = opened_read else {
-        return refused(own_number(opened_read));
-    };
     let mut first_starts: [usize; 64] = [0; 64];
     let first_read = read_part(first, &mut first_starts);
-    let PartRead::Accepted(first_part, first_gaps) = first_read else {
-        return refused(own_number(first_read));
-    };
     let mut second_starts: [usize; 64] = [0; 64];
     let second_read = read_part(second, &mut second_starts);
-    let PartRead::Accepted(second_part, second_gaps) = second_read else {
-        return refused(own_number(second_read));
-    };
-    merge_read(
+    merge_with_reads(
         opened,
         &opened_starts,
-        Read {
-            part: opened_part,
-            gaps: opened_gaps,
-        },
+        opened_read,
         first,
         &first_starts,
-        Read {
-            part: first_part,
-            gaps: first_gaps,
-        },
+        first_read,
         second,
         &second_starts,
-        Read {
-            part: second_part,
-            gaps: second_gaps,
-        },
+        second_read,
         out,
     )
 }

@@ -1,14 +1,17 @@
-// Cases of a merge, answers of an independent reading. A line of cases.txt is the number, the room of the output, the bytes of the opened file,
-// of the first save and of the second, and those of the outcome. Each prints a line: the number, the length, and whether the output holds the
-// outcome at its front and is untouched after it.
+// Cases of a merge and of a save that merges, answers of an independent reading. A line of merges.txt is the number, the room of the output, the
+// bytes of the opened file, of the first save and of the second, and those of the outcome; one of saves.txt has the bytes of the stored file, of
+// the opened one and the new bytes there. Each prints a line: the number, the length, and whether the output holds the outcome at its front and
+// is untouched after it.
 ghost use Prim.Native.Nat.{_≤_, _<_};
 use console::field_end;
 use console::read_all;
 use console::read_hex;
 use libc::STDOUT_FILENO;
 use merge::merge;
+use output::WriteAnswer;
 use output::copy;
 use output::same;
+use save::save;
 use wire::bytes_at;
 
 // The room for the text of all cases, for the bytes of a file, and for an output: none of the outcomes has more.
@@ -18,7 +21,7 @@ const FILE: usize = 2048;
 
 const OUTPUT: usize = 4096;
 
-// What an output holds before the merge.
+// What an output holds before the call.
 const PATTERN: u8 = 0xA5;
 
 // The number of a field of digits, from the first nine of them.
@@ -55,17 +58,38 @@ fn is_as_told(output: &[u8], outcome: &[u8]) -> bool {
     same(output, bytes_at(&told, 0, output.len()))
 }
 
-// Merges into the first bytes of an output, which holds the pattern.
-fn print_merge(
-    opened: &[u8],
+// The call that the cases of a file are of.
+enum Call {
+    Merge,
+    Save,
+}
+
+// Calls with the three files of a case, in the order of its line.
+fn answer_of(
+    call: Call,
     first: &[u8],
     second: &[u8],
+    third: &[u8],
+    output: &mut [u8],
+) -> WriteAnswer {
+    match call {
+        Call::Merge => merge(first, second, third, output),
+        Call::Save => save(first, second, third, output),
+    }
+}
+
+// Calls with the first bytes of an output, which holds the pattern.
+fn print_answer(
+    call: Call,
+    first: &[u8],
+    second: &[u8],
+    third: &[u8],
     outcome: &[u8],
     output: &mut [u8],
     room: usize,
 ) {
     let taken = room_within(room, output.len());
-    let answer = merge(opened, first, second, &mut output[..taken]);
+    let answer = answer_of(call, first, second, third, &mut output[..taken]);
     io::print_decimal(STDOUT_FILENO, answer.number as u64);
     io::write_all(STDOUT_FILENO, b" ");
     io::print_decimal(STDOUT_FILENO, answer.length as u64);
@@ -80,29 +104,29 @@ fn print_merge(
 struct Line {
     number: usize,
     room: usize,
-    opened: usize,
     first: usize,
     second: usize,
+    third: usize,
     end: usize,
 }
 
 fn line_at(text: &[u8; TEXT], at: usize) -> Line
     requires { ⌜ at < 1048576 ⌝ }
-    ensures { λ r. ⌜ (at ≤ r .number) × (r .number < r .room) × (r .room < r .opened) × (r .opened < r .first) × (r .first < r .second)
-        × (r .second < r .end) × (r .end < 8388608) ⌝ }
+    ensures { λ r. ⌜ (at ≤ r .number) × (r .number < r .room) × (r .room < r .first) × (r .first < r .second) × (r .second < r .third)
+        × (r .third < r .end) × (r .end < 8388608) ⌝ }
 {
     let number = field_end(text, at, b' ');
     let room = field_end(text, number + 1, b' ');
-    let opened = field_end(text, room + 1, b' ');
-    let first = field_end(text, opened + 1, b' ');
+    let first = field_end(text, room + 1, b' ');
     let second = field_end(text, first + 1, b' ');
-    let end = field_end(text, second + 1, b'\n');
+    let third = field_end(text, second + 1, b' ');
+    let end = field_end(text, third + 1, b'\n');
     Line {
         number,
         room,
-        opened,
         first,
         second,
+        third,
         end,
     }
 }
@@ -114,24 +138,25 @@ fn field_after(text: &[u8; TEXT], before: usize, end: usize) -> &[u8]
     bytes_at(text, before + 1, end - before - 1)
 }
 
-fn print_case(text: &[u8; TEXT], line: Line)
-    requires { ⌜ (line .number < line .room) × (line .room < line .opened) × (line .opened < line .first) × (line .first < line .second)
-        × (line .second < line .end) × (line .end < 8388608) ⌝ }
+fn print_case(call: Call, text: &[u8; TEXT], line: Line)
+    requires { ⌜ (line .number < line .room) × (line .room < line .first) × (line .first < line .second) × (line .second < line .third)
+        × (line .third < line .end) × (line .end < 8388608) ⌝ }
 {
-    let mut opened = [0u8; FILE];
     let mut first = [0u8; FILE];
     let mut second = [0u8; FILE];
+    let mut third = [0u8; FILE];
     let mut outcome = [0u8; FILE];
     let mut output = [PATTERN; OUTPUT];
     let room = read_decimal(field_after(text, line.number, line.room));
-    let opened_length = read_hex(field_after(text, line.room, line.opened), &mut opened);
-    let first_length = read_hex(field_after(text, line.opened, line.first), &mut first);
+    let first_length = read_hex(field_after(text, line.room, line.first), &mut first);
     let second_length = read_hex(field_after(text, line.first, line.second), &mut second);
-    let outcome_length = read_hex(field_after(text, line.second, line.end), &mut outcome);
-    print_merge(
-        bytes_at(&opened, 0, opened_length),
+    let third_length = read_hex(field_after(text, line.second, line.third), &mut third);
+    let outcome_length = read_hex(field_after(text, line.third, line.end), &mut outcome);
+    print_answer(
+        call,
         bytes_at(&first, 0, first_length),
         bytes_at(&second, 0, second_length),
+        bytes_at(&third, 0, third_length),
         bytes_at(&outcome, 0, outcome_length),
         &mut output,
         room,
@@ -139,25 +164,30 @@ fn print_case(text: &[u8; TEXT], line: Line)
 }
 
 // Prints the cases whose lines are the first bytes of the text.
-fn print_cases(text: &[u8; TEXT], length: usize)
+fn print_cases(call: Call, text: &[u8; TEXT], length: usize)
     requires { ⌜ length ≤ 1048576 ⌝ }
 {
     let mut at = 0;
     while at < length {
         let line = line_at(text, at);
-        print_case(text, line);
+        print_case(call, text, line);
         at = line.end + 1;
     }
 }
 
-fn main() {
-    let fd = os::open_read(b"cases.txt");
+fn print_file(call: Call, name: &[u8]) {
+    let fd = os::open_read(name);
     if fd < 0 {
-        os::fail(b"cases.txt");
+        os::fail(name);
         return;
     }
     let mut text = [0u8; TEXT];
     let length = read_all(fd, &mut text);
     libc::close(fd);
-    print_cases(&text, length);
+    print_cases(call, &text, length);
+}
+
+fn main() {
+    print_file(Call::Merge, b"merges.txt");
+    print_file(Call::Save, b"saves.txt");
 }

@@ -13,8 +13,9 @@ use crate::refusal::Refusal;
 #[derive(Debug)]
 #[non_exhaustive]
 pub enum SaveError {
-    /// The proved code refuses: as [`Refusal::Conflict`] if the stored file is not the one that was opened, else with the
-    /// reader's number for the new bytes.
+    /// The proved code refuses, as [`crate::save`] or [`crate::save_strict`] does: with the reader's number for the new bytes, or
+    /// because the stored file is not the one that was opened. A strict save is then a conflict ([`Refusal::Conflict`]); the other
+    /// one is refused as the merge is, whose conflict is something that was changed in two different ways.
     Refused(Refusal),
     /// Another save has the lock, and did not let go of it in time.
     Locked {

@@ -14,6 +14,7 @@ mod ffi {
         pub fn ed2k_mark(gaps: *mut u64, gap_numbers: usize, start: u64, end: u64, missing: *mut u64) -> u8;
         pub fn ed2k_put_gaps(file: *const u8, length: usize, gaps: *const u64, gap_numbers: usize, output: *mut u8, room: usize, written: *mut usize) -> u8;
         pub fn ed2k_save(stored: *const u8, stored_length: usize, opened: *const u8, opened_length: usize, saved: *const u8, saved_length: usize, output: *mut u8, room: usize, written: *mut usize) -> u8;
+        pub fn ed2k_save_strict(stored: *const u8, stored_length: usize, opened: *const u8, opened_length: usize, saved: *const u8, saved_length: usize, output: *mut u8, room: usize, written: *mut usize) -> u8;
         pub fn ed2k_merge(opened: *const u8, opened_length: usize, first: *const u8, first_length: usize, second: *const u8, second_length: usize, output: *mut u8, room: usize, written: *mut usize) -> u8;
         pub fn ed2k_truth(query: *const u8, query_length: usize, tags: *const u8, tags_length: usize, truth: *mut u8) -> u8;
         pub fn ed2k_write_keyword(text: *const u8, text_length: usize, output: *mut u8, room: usize, written: *mut usize) -> u8;
@@ -70,6 +71,7 @@ pub const ARCHIVE: Calls = Calls {
     mark: |record, start, end, missing| call!(ed2k_mark lent record, start, end, missing),
     put_gaps: |file, record, output, written| call!(ed2k_put_gaps slice file, slice record, lent output, written),
     save: |stored, opened, saved, output, written| call!(ed2k_save slice stored, slice opened, slice saved, lent output, written),
+    save_strict: |stored, opened, saved, output, written| call!(ed2k_save_strict slice stored, slice opened, slice saved, lent output, written),
     merge: |opened, first, second, output, written| call!(ed2k_merge slice opened, slice first, slice second, lent output, written),
     truth: |query, tags, truth| call!(ed2k_truth slice query, slice tags, truth),
     write_keyword: |text, output, written| call!(ed2k_write_keyword slice text, lent output, written),

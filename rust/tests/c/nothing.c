@@ -65,6 +65,9 @@ static const uint8_t name[] = {2};
 /* Date, hash, no part hashes, the size tag: an entry of a known.met, and after E0 a part.met of 100 bytes. */
 static const uint8_t part[] = {0xe0, 0, 0, 0, 0, 7, 7, 7, 7, 7, 7, 7, 7, 7, 7, 7, 7, 7,
                                7,    7, 7, 0, 0, 1, 0, 0, 0, 3, 1, 0, 2, 100, 0, 0, 0};
+/* The same with a later date: a changed file. */
+static const uint8_t later[] = {0xe0, 1, 0, 0, 0, 7, 7, 7, 7, 7, 7, 7, 7, 7, 7, 7, 7, 7,
+                                7,    7, 7, 0, 0, 1, 0, 0, 0, 3, 1, 0, 2, 100, 0, 0, 0};
 
 static void readers(void)
 {
@@ -107,11 +110,23 @@ static void gap_records(void)
 static void saves(void)
 {
     TRY(ED2K_ACCEPTED, ed2k_save(NONE, NONE, BYTES(part), OUTPUT)); /* a first save */
-    TRY(ED2K_REFUSED_CONFLICT, ed2k_save(BYTES(part), NONE, BYTES(part), OUTPUT));
-    TRY(ED2K_REFUSED_CONFLICT, ed2k_save(NONE, BYTES(part), BYTES(part), OUTPUT));
+    TRY(ED2K_REFUSED_SHORT, ed2k_save(BYTES(part), NONE, BYTES(part), OUTPUT));
+    TRY(ED2K_REFUSED_SHORT, ed2k_save(NONE, BYTES(part), BYTES(part), OUTPUT));
     TRY(ED2K_REFUSED_SHORT, ed2k_save(BYTES(part), BYTES(part), NONE, OUTPUT));
+    TRY(ED2K_REFUSED_SHORT, ed2k_save(BYTES(later), BYTES(part), NONE, OUTPUT));
     TRY(ED2K_REFUSED_ROOM, ed2k_save(NONE, NONE, BYTES(part), NO_OUTPUT));
+    TRY(ED2K_REFUSED_ROOM, ed2k_save(BYTES(later), BYTES(part), BYTES(part), NO_OUTPUT));
     TRY(ED2K_REFUSED_SHORT, ed2k_save(NONE, NONE, NONE, NO_OUTPUT));
+}
+
+static void strict_saves(void)
+{
+    TRY(ED2K_ACCEPTED, ed2k_save_strict(NONE, NONE, BYTES(part), OUTPUT)); /* a first save */
+    TRY(ED2K_REFUSED_CONFLICT, ed2k_save_strict(BYTES(part), NONE, BYTES(part), OUTPUT));
+    TRY(ED2K_REFUSED_CONFLICT, ed2k_save_strict(NONE, BYTES(part), BYTES(part), OUTPUT));
+    TRY(ED2K_REFUSED_SHORT, ed2k_save_strict(BYTES(part), BYTES(part), NONE, OUTPUT));
+    TRY(ED2K_REFUSED_ROOM, ed2k_save_strict(NONE, NONE, BYTES(part), NO_OUTPUT));
+    TRY(ED2K_REFUSED_SHORT, ed2k_save_strict(NONE, NONE, NONE, NO_OUTPUT));
 }
 
 static void merges(void)
@@ -194,6 +209,7 @@ int main(void)
     readers();
     gap_records();
     saves();
+    strict_saves();
     merges();
     queries();
     tag_writers();

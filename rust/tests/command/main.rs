@@ -9,6 +9,7 @@ mod installing;
 mod manual;
 mod marking;
 mod merging;
+mod models;
 mod readme;
 mod saving;
 mod scripting;

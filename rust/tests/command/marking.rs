@@ -87,7 +87,7 @@ fn a_mark_of_bytes_that_have_arrived_leaves_the_file_as_it_is() {
         assert_eq!((studio.bytes("file"), fs::metadata(&path).unwrap().ino()), (file.clone(), number));
     }
     studio.file("new", &packets::part_met(9, 0, 100, &[(40, 50)]));
-    studio.run(&["save", "--opened", "opened", "--new", "new", "file"]).expect(0);
+    studio.run(&["save", "--strict", "--opened", "opened", "--new", "new", "file"]).expect(0);
     studio.run(&["mark", "file", "39", "41"]).expect(0);
     assert_eq!(studio.bytes("file"), packets::part_met(9, 0, 100, &[(41, 50)]));
 }

@@ -9,94 +9,20 @@ use std::process;
 
 use ed2k::GapRecord;
 
+use crate::models::{self, Model, merged};
 use crate::packets;
 use crate::studio::{PATIENT, Run, Studio, finish, full_output, samples, wait};
 
 const MERGE: [&str; 6] = ["merge", "--opened", "opened", "first", "second", "out"];
 
-/// How many bytes the model of these tests has, unless a test changes it.
-const SIZE: u32 = 40;
-
-/// A part.met by what a merge treats by itself. A hash is given by the byte that it is full of.
-#[derive(Clone)]
-struct Model {
-    opening: u8,
-    date: u32,
-    hash: u8,
-    parts: Vec<u8>,
-    blocks: Vec<u8>,
-    tags: Vec<Vec<u8>>,
-    gaps: Vec<(u32, u32)>,
-}
-
-impl Model {
-    /// The opened file, of which nothing has arrived, with some change.
-    fn with(change: impl FnOnce(&mut Model)) -> Model {
-        let tags = vec![
-            packets::text_tag(&[0x01], b"left last.stl"),
-            packets::dword_tag(&[0x02], SIZE),
-            packets::dword_tag(&[0x13], 5),
-        ];
-        let (opening, date, hash) = (0xE0, 1_253_225_404, 0xA0);
-        let mut model =
-            Model { opening, date, hash, parts: vec![], blocks: vec![], tags, gaps: vec![(0, SIZE)] };
-        change(&mut model);
-        model
-    }
-
-    fn with_gaps(gaps: &[(u32, u32)]) -> Model {
-        Model::with(|model| model.gaps = gaps.to_vec())
-    }
-
-    fn bytes(&self) -> Vec<u8> {
-        let gap_tags = packets::model_tags(SIZE, &self.gaps).split_off(2);
-        let tags = packets::list(&[self.tags.clone(), gap_tags].concat());
-        let hashes =
-            |bytes: &[u8], length: usize| bytes.iter().flat_map(|byte| vec![*byte; length]).collect();
-        let (parts, blocks): (Vec<u8>, Vec<u8>) = (hashes(&self.parts, 16), hashes(&self.blocks, 8));
-        let date_and_hash = [packets::dword(self.date), vec![self.hash; 16]].concat();
-        if self.opening == 0xE0 {
-            let count = packets::word(self.parts.len() as u16);
-            return [vec![0xE0], date_and_hash, count, parts, tags].concat();
-        }
-        let block = |hashes: Vec<u8>| if hashes.is_empty() { vec![] } else { [vec![1], hashes].concat() };
-        [vec![0xE1, 0x02], date_and_hash, tags, block(parts), block(blocks), vec![0]].concat()
-    }
-}
-
 /// A folder with the files `opened`, `first` and `second`.
 fn studio(models: [&Model; 3]) -> Studio {
-    let studio = Studio::new();
-    for (name, model) in ["opened", "first", "second"].into_iter().zip(models) {
-        studio.file(name, &model.bytes());
-    }
-    studio
+    models::folder(["opened", "first", "second"], models)
 }
 
-/// The same where each window has another range: the merge misses the bytes from 10 up to 30.
+/// The same where each save has another range.
 fn toe_and_heel() -> Studio {
-    let [opened, toe, heel] = [[(0, 40)], [(10, 40)], [(0, 30)]].map(|gaps| Model::with_gaps(&gaps));
-    studio([&opened, &toe, &heel])
-}
-
-fn merged() -> Vec<u8> {
-    Model::with_gaps(&[(10, 30)]).bytes()
-}
-
-/// All that is in the folder, with its bytes.
-fn contents(studio: &Studio) -> Vec<(String, Vec<u8>)> {
-    studio.names().into_iter().map(|name| (name.clone(), studio.bytes(&name))).collect()
-}
-
-/// Asserts that the command fails with this status, says exactly this, and leaves the folder as it was.
-fn assert_fails(studio: &Studio, words: &[&str], status: i32, expected: &str) {
-    let before = contents(studio);
-    let words: Vec<&OsStr> = words.iter().map(OsStr::new).collect();
-    let output = studio.command(&words).output().expect("the command runs");
-    let printed = [output.stdout, output.stderr].map(|bytes| String::from_utf8(bytes).expect("UTF-8"));
-    assert_eq!(printed, ["", expected]);
-    assert_eq!(output.status.code(), Some(status));
-    assert!(contents(studio) == before, "the folder has changed");
+    studio(models::toe_and_heel().each_ref())
 }
 
 /// The lines of a merge up to the empty one, of which the first is left out.
@@ -131,23 +57,6 @@ missing  20 bytes, 50.0 %, in 1 gap
     assert_eq!(studio.names(), ["first", "opened", "out", "second"]);
 }
 
-/// The save that was refused before says how to keep both; so typed, it is done.
-#[test]
-fn what_a_save_refused_is_merged_as_it_says() {
-    let studio = toe_and_heel();
-    studio.file("stored", &studio.bytes("first"));
-    let run = studio.run(&["save", "--opened", "opened", "--new", "second", "stored"]).expect(1);
-    let advice = "To keep both, merge them: ed2k merge --opened 'opened' 'stored' 'second' 'stored'\n";
-    assert!(run.stderr.ends_with(advice), "{}", run.stderr);
-    studio.run(&["merge", "--opened", "opened", "stored", "second", "stored"]).expect(0);
-    assert_eq!(studio.bytes("stored"), merged());
-    for opened in ["none", "/dev/null"] {
-        let run = studio.run(&["save", "--opened", opened, "--new", "second", "stored"]).expect(1);
-        let advice = "To keep both, open 'stored' again, make your change there, and save that.\n";
-        assert!(run.stderr.ends_with(advice), "{}", run.stderr);
-    }
-}
-
 #[test]
 fn out_may_hold_what_one_of_the_three_holds() {
     for out in ["opened", "first", "second", "copy", "./second", "link"] {
@@ -178,7 +87,7 @@ Nothing was written: 'out' is as it was, and your work is still in 'first' and
 OUT is a file that is not there yet, or one with the bytes of OLD, FIRST or
   SECOND.
 ";
-        assert_fails(&studio, &MERGE, 2, expected);
+        studio.assert_fails(&MERGE, 2, expected);
     }
 }
 
@@ -367,7 +276,7 @@ fn wrong_words_are_said() {
         (&["merge", "--opened", "opened", "first", "./opened", "out"], opened_is_second),
         (&["merge", "--opened", "opened", "first", "second name", "out"], first_is_second),
     ] {
-        assert_fails(&studio, words, 2, &format!("ed2k: {problem}\nFor help: ed2k merge --help\n"));
+        studio.assert_fails(words, 2, &format!("ed2k: {problem}\nFor help: ed2k merge --help\n"));
     }
 }
 
@@ -377,9 +286,9 @@ fn files_that_cannot_be_read_are_named() {
     let missing = |name: &str| {
         format!("ed2k: cannot read '{name}': No such file or directory (os error 2)\nNothing was written.\n")
     };
-    assert_fails(&studio, &["merge", "--opened", "none", "no", "second", "out"], 2, &missing("none"));
-    assert_fails(&studio, &["merge", "--opened", "opened", "no", "nor", "out"], 2, &missing("no"));
-    assert_fails(&studio, &["merge", "--opened", "opened", "first", "nor", "out"], 2, &missing("nor"));
+    studio.assert_fails(&["merge", "--opened", "none", "no", "second", "out"], 2, &missing("none"));
+    studio.assert_fails(&["merge", "--opened", "opened", "no", "nor", "out"], 2, &missing("no"));
+    studio.assert_fails(&["merge", "--opened", "opened", "first", "nor", "out"], 2, &missing("nor"));
     let run = studio.run(&["merge", "--opened", "opened", "first", "second", "no folder/out"]).expect(2);
     assert!(run.stderr.starts_with("ed2k: cannot find 'no folder/out': "), "{}", run.stderr);
     let run = studio.run(&["merge", "--opened", "opened", "first", "second", "/dev/null"]).expect(2);

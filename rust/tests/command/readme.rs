@@ -58,7 +58,7 @@ fn what_readme_shows_is_what_is_printed() {
     assert_printed(&folder_with_samples(), &shown);
     let subcommand = |typed: &str| typed.strip_prefix("ed2k ")?.split(' ').next().map(String::from);
     let seen: Vec<String> = shown.iter().filter_map(|(typed, _)| subcommand(typed)).collect();
-    assert_eq!(seen, ["gaps", "show", "search", "mark", "mark", "save", "save", "merge"]);
+    assert_eq!(seen, ["gaps", "show", "search", "save", "mark", "mark", "save", "save", "save"]);
 }
 
 /// Every sample of the client stands in the text, by its name or in a line that types it.

@@ -3,6 +3,7 @@
 #[path = "../support/attributes.rs"]
 mod attributes;
 mod locking;
+mod merging;
 mod sharing;
 
 use std::ffi::OsStr;
@@ -21,28 +22,21 @@ fn save_stores_the_new_file_and_keeps_permissions() {
     fs::set_permissions(&stored, fs::Permissions::from_mode(0o640)).unwrap();
     studio.file("old copy", &old);
     studio.file("new", &new);
-    let run = studio.run(&["save", "--opened", "old copy", "--new", "new", "the model.part.met"]).expect(0);
-    assert!(run.stdout.starts_with("saved: 'the model.part.met' is now 'new', "), "{}", run.stdout);
-    assert_eq!(studio.bytes("the model.part.met"), new);
-    assert_eq!(fs::metadata(&stored).unwrap().permissions().mode() & 0o777, 0o640);
-    assert_eq!(studio.names(), ["new", "old copy", "the model.part.met"]);
+    for strict in [false, true] {
+        studio.file("the model.part.met", &old);
+        let words = save_words(strict, "old copy", "new", "the model.part.met");
+        let run = studio.run(&words).expect(0);
+        assert_eq!(run.stdout, "saved: 'the model.part.met' is now 'new', 72 bytes\n");
+        assert_eq!(studio.bytes("the model.part.met"), new);
+        assert_eq!(fs::metadata(&stored).unwrap().permissions().mode() & 0o777, 0o640);
+        assert_eq!(studio.names(), ["new", "old copy", "the model.part.met"]);
+    }
 }
 
-#[test]
-fn a_conflict_says_what_happened_and_changes_nothing() {
-    let studio = Studio::new();
-    let [old, new, other] = [1, 2, 3].map(|date| packets::part_met(date, 0, 100, &[]));
-    studio.file("old", &old);
-    studio.file("new", &new);
-    studio.file("stored", &other);
-    let run = studio.run(&["save", "--opened", "old", "--new", "new", "stored"]).expect(1);
-    for phrase in
-        ["refused 11", "somebody has saved it since", "Nothing was lost", "'old'", "'new'", "'stored'"]
-    {
-        assert!(run.stderr.contains(phrase), "{}", run.stderr);
-    }
-    assert_eq!((studio.bytes("stored"), studio.bytes("new")), (other, new));
-    assert_eq!(studio.names(), ["new", "old", "stored"]);
+/// The words of a save of either kind.
+fn save_words<'a>(strict: bool, opened: &'a str, new: &'a str, stored: &'a str) -> Vec<&'a str> {
+    let words = ["save", "--strict", "--opened", opened, "--new", new, stored];
+    words.into_iter().filter(|word| strict || *word != "--strict").collect()
 }
 
 #[test]
@@ -60,22 +54,24 @@ fn a_save_that_cannot_be_reported_says_that_it_is_saved() {
 
 #[test]
 fn a_first_save_needs_both_to_be_empty_or_missing() {
-    let studio = Studio::new();
     let new = packets::part_met(2, 0, 100, &[]);
-    studio.file("new", &new);
-    studio.file("empty", b"");
-    studio.run(&["save", "--opened", "new", "--new", "new", "stored"]).expect(1);
-    assert!(!studio.path("stored").exists());
-    studio.run(&["save", "--opened", "not there", "--new", "new", "stored"]).expect(0);
-    assert_eq!(studio.bytes("stored"), new);
-    studio.run(&["save", "--opened", "not there", "--new", "new", "stored"]).expect(1);
-    studio.run(&["save", "--opened", "empty", "--new", "new", "second"]).expect(0);
-    studio.run(&["save", "--opened", "/dev/null", "--new", "new", "third"]).expect(0);
-    studio.run(&["save", "--opened", "not there", "--new", "new", "empty"]).expect(0);
-    assert_eq!(
-        (studio.bytes("second"), studio.bytes("third"), studio.bytes("empty")),
-        (new.clone(), new.clone(), new)
-    );
+    for strict in [true, false] {
+        let studio = Studio::new();
+        let save = |opened, stored| studio.run(&save_words(strict, opened, "new", stored));
+        studio.file("new", &new);
+        studio.file("empty", b"");
+        save("new", "stored").expect(1);
+        assert!(!studio.path("stored").exists());
+        save("not there", "stored").expect(0);
+        assert_eq!(studio.bytes("stored"), new);
+        save("not there", "stored").expect(1);
+        save("empty", "second").expect(0);
+        save("/dev/null", "third").expect(0);
+        save("not there", "empty").expect(0);
+        for stored in ["second", "third", "empty"] {
+            assert_eq!(studio.bytes(stored), new);
+        }
+    }
 }
 
 #[test]
@@ -84,10 +80,13 @@ fn save_checks_the_new_file_first() {
     studio.file("old", b"anything");
     studio.file("stored", b"anything else");
     let damaged = samples().join("overlapping_gaps.part.met");
-    let run =
-        studio.run(&["save", "--opened", "old", "--new", damaged.to_str().unwrap(), "stored"]).expect(1);
-    assert!(run.stderr.contains("is refused 8"), "{}", run.stderr);
-    assert_eq!(studio.bytes("stored"), b"anything else");
+    let damaged = damaged.to_str().unwrap();
+    for (strict, opened) in [(true, "old"), (false, "old"), (false, "none")] {
+        let run = studio.run(&save_words(strict, opened, damaged, "stored")).expect(1);
+        let refused = format!("ed2k: '{damaged}' is refused 8: a start, end or gap breaks its rule\n");
+        assert_eq!(run.stderr, format!("{refused}Nothing was saved: 'stored' is as it was.\n"));
+        assert_eq!(studio.bytes("stored"), b"anything else");
+    }
 }
 
 #[test]
@@ -114,36 +113,50 @@ fn neither_the_opened_nor_the_new_file_is_the_stored_one() {
     );
 }
 
+/// Files that are no part.met are equal or not as any others are; where they are not, they cannot be merged.
 #[test]
 fn files_of_any_length_are_compared_to_their_end() {
     let studio = Studio::new();
     let new = packets::part_met(2, 0, 100, &[]);
     studio.file("new", &new);
     for length in [ed2k::MET_CEILING, ed2k::MET_CEILING + 1, 3 * ed2k::MET_CEILING] {
-        let mut old = vec![7; length];
-        studio.file("stored", &old);
-        old[length - 1] = 8;
-        studio.file("old", &old);
-        studio.run(&["save", "--opened", "old", "--new", "new", "stored"]).expect(1);
-        studio.file("old", &old[..length - 1]);
-        studio.run(&["save", "--opened", "old", "--new", "new", "stored"]).expect(1);
-        studio.file("old", &vec![7; length]);
-        studio.run(&["save", "--opened", "old", "--new", "new", "stored"]).expect(0);
-        assert_eq!(studio.bytes("stored"), new);
+        let same = vec![7; length];
+        let others = [[&same[1..], &[8]].concat(), same[1..].to_vec(), [&same[..], &[7]].concat()];
+        for strict in [true, false] {
+            studio.file("stored", &same);
+            for other in &others {
+                studio.file("old", other);
+                let run = studio.run(&save_words(strict, "old", "new", "stored")).expect(1);
+                let own = if other.len() > ed2k::MET_CEILING { 6 } else { 2 };
+                let refused = match strict {
+                    true => "ed2k: the save of 'new' is refused 11: ".into(),
+                    false => format!("ed2k: the opened file 'old' is refused {own}: "),
+                };
+                assert!(run.stderr.starts_with(&refused), "{}", run.stderr);
+            }
+            studio.file("old", &same);
+            studio.run(&save_words(strict, "old", "new", "stored")).expect(0);
+            assert_eq!(studio.bytes("stored"), new);
+        }
     }
 }
 
+/// One that is longer than the stored file, and than any part.met.
 #[test]
 fn of_an_opened_file_no_more_is_read_than_is_needed() {
     let studio = Studio::new();
     let new = packets::part_met(2, 0, 100, &[]);
     studio.file("new", &new);
+    studio.file("stored", b"anything");
     for stored in ["stored", "not there"] {
-        studio.file("stored", b"anything");
-        let run = studio.run(&["save", "--opened", "/dev/zero", "--new", "new", stored]).expect(1);
-        assert!(run.stderr.contains("refused 11: "), "{}", run.stderr);
-        let run = studio.run(&["save", "--opened", "/dev/zero", "--new", "stored", "new"]).expect(1);
-        assert!(run.stderr.contains("'stored' is refused 2: "), "{}", run.stderr);
+        let run = studio.run(&save_words(true, "/dev/zero", "new", stored)).expect(1);
+        assert!(run.stderr.starts_with("ed2k: the save of 'new' is refused 11: "), "{}", run.stderr);
+        let run = studio.run(&save_words(false, "/dev/zero", "new", stored)).expect(1);
+        assert!(run.stderr.starts_with("ed2k: the opened file '/dev/zero' is refused 6: "), "{}", run.stderr);
+    }
+    for strict in [true, false] {
+        let run = studio.run(&save_words(strict, "/dev/zero", "stored", "new")).expect(1);
+        assert!(run.stderr.starts_with("ed2k: 'stored' is refused 2: "), "{}", run.stderr);
     }
     assert_eq!((studio.bytes("stored"), studio.bytes("new")), (b"anything".to_vec(), new));
 }
@@ -157,7 +170,7 @@ fn what_a_killed_save_left_does_no_harm_and_is_removed() {
     studio.file("new", &new);
     studio.file(".stored.saving", b"half a fi");
     studio.file(".stored.lock", b"");
-    studio.run(&["save", "--opened", "new", "--new", "new", "stored"]).expect(1);
+    studio.run(&["save", "--strict", "--opened", "new", "--new", "new", "stored"]).expect(1);
     assert_eq!(studio.names(), ["new", "old", "stored"]);
     studio.file(".stored.saving", b"half a fi");
     studio.run(&["save", "--opened", "old", "--new", "new", "stored"]).expect(0);

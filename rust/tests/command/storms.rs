@@ -1,5 +1,7 @@
 //! Saves of one file that meet each other, and saves that are killed: the stored file is whole at any moment.
 
+mod windows;
+
 use std::collections::HashSet;
 use std::ffi::OsStr;
 use std::fs;
@@ -47,7 +49,7 @@ fn watched(studio: &Studio, whole: &HashSet<Vec<u8>>, work: impl FnOnce()) -> us
 }
 
 #[test]
-fn of_a_storm_of_saves_from_one_opened_copy_one_is_accepted() {
+fn of_a_storm_of_strict_saves_from_one_opened_copy_one_is_accepted() {
     const SAVES: u32 = 40;
     let studio = Studio::new();
     let old = large(0);
@@ -62,7 +64,8 @@ fn of_a_storm_of_saves_from_one_opened_copy_one_is_accepted() {
     let readings = watched(&studio, &whole, || {
         let start = |n| {
             let new = format!("new {n}");
-            studio.spawn(&["save", "--wait", PATIENT, "--opened", "opened copy", "--new", &new, "stored"])
+            let files = ["--opened", "opened copy", "--new", &new, "stored"];
+            studio.spawn(&[&["save", "--strict", "--wait", PATIENT][..], &files].concat())
         };
         let saves: Vec<_> = (0..new.len()).map(start).collect();
         for (n, save) in saves.into_iter().enumerate() {
@@ -104,7 +107,7 @@ fn a_save_killed_at_any_moment_leaves_the_old_or_the_new_file() {
     let other = |current: usize| ["copy 1", "copy 0"][current];
     let command = |current: usize| {
         let opened = ["copy 0", "copy 1"][current];
-        let words = ["save", "--opened", opened, "--new", other(current), "stored"];
+        let words = ["save", "--strict", "--opened", opened, "--new", other(current), "stored"];
         let mut command = studio.command(&words.map(OsStr::new));
         command.stdout(Stdio::null()).stderr(Stdio::null());
         command

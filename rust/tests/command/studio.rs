@@ -48,9 +48,18 @@ pub const NOBODY: Person = Person { user: 65_534, groups: &[65_534] };
 
 impl Studio {
     pub fn new() -> Studio {
+        Studio::within(&env::temp_dir())
+    }
+
+    /// A folder that is in memory, where bringing bytes to the disk takes no time.
+    pub fn in_memory() -> Studio {
+        Studio::within(Path::new("/dev/shm"))
+    }
+
+    fn within(place: &Path) -> Studio {
         static NUMBER: AtomicU32 = AtomicU32::new(0);
         let number = NUMBER.fetch_add(1, Ordering::Relaxed);
-        let room = env::temp_dir().join(format!("ed2k test {} {number}", process::id()));
+        let room = place.join(format!("ed2k test {} {number}", process::id()));
         let folder = room.join("studio");
         fs::create_dir_all(&folder).expect("a folder for the test");
         for path in [&room, &folder] {
@@ -101,6 +110,26 @@ impl Studio {
         let mut names: Vec<String> = entries.map(name).collect();
         names.sort();
         names
+    }
+
+    /// All that is in the folder, with its bytes.
+    pub fn contents(&self) -> Vec<(String, Vec<u8>)> {
+        self.names().into_iter().map(|name| (name.clone(), self.bytes(&name))).collect()
+    }
+
+    /// Asserts that the command fails with this status, says exactly this, and leaves the folder as it was.
+    pub fn assert_fails(&self, words: &[&str], status: i32, expected: &str) {
+        let words: Vec<&OsStr> = words.iter().map(OsStr::new).collect();
+        self.assert_command_fails(self.command(&words), status, expected);
+    }
+
+    pub fn assert_command_fails(&self, mut command: Command, status: i32, expected: &str) {
+        let before = self.contents();
+        let output = command.output().expect("the command runs");
+        let printed = [output.stdout, output.stderr].map(|bytes| String::from_utf8(bytes).expect("UTF-8"));
+        assert_eq!(printed, ["", expected]);
+        assert_eq!(output.status.code(), Some(status));
+        assert!(self.contents() == before, "the folder has changed");
     }
 
     /// A command that permissions bind: the tests may run as root, who would be bound by none, and then it runs as nobody.

@@ -115,6 +115,7 @@ fn wrong_usage_gives_2_and_says_where_help_is() {
         &["save", "--opened", "file", "--new"],
         &["save", "--opened", "file", "--opened", "file", "--new", "file", "stored"],
         &["save", "--opened=file", "--opened", "file", "--new", "file", "stored"],
+        &["save", "--strict=yes", "--opened", "none", "--new", "file", "stored"],
     ] {
         let run = studio.run(words).expect(2);
         assert!(run.stderr.contains("For help: ed2k "), "{words:?}: {}", run.stderr);
@@ -219,6 +220,8 @@ fn what_is_printed_is_within_80_columns() {
         &["search", "tags"],
         &["save", "--opened", "tags", "--new", "part.met", "part.met"],
         &["save", "--opened", "tags", "--new", "query", &overlong],
+        &["save", "--opened", "tags", "--new", "part.met", "query"],
+        &["save", "--strict", "--opened", "tags", "--new", "part.met", "query"],
         &["mark", "part.met", "100", "200"],
     ] {
         let output = studio.command(&words.iter().map(OsStr::new).collect::<Vec<_>>()).output().unwrap();
@@ -236,7 +239,8 @@ fn new_may_be_standard_input() {
     studio.file("new", &new);
     studio.file("damaged", &new[..9]);
     let save = |opened: &str, input: &str| {
-        let mut command = studio.command(&["save", "--opened", opened, "--new=-", "stored"].map(OsStr::new));
+        let words = ["save", "--strict", "--opened", opened, "--new=-", "stored"];
+        let mut command = studio.command(&words.map(OsStr::new));
         command.stdin(fs::File::open(studio.path(input)).unwrap());
         finish(command)
     };

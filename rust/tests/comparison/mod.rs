@@ -1,12 +1,16 @@
 //! One call through the archive and through the plain reading, side by side.
-#![allow(dead_code)]
+#![allow(dead_code, unused_imports)]
+
+mod tally;
+
+pub use tally::Tally;
 
 use std::collections::BTreeMap;
 use std::fmt::Debug;
 
 use crate::archive::ARCHIVE;
-use crate::inputs::Random;
-use crate::plain::{Calls, FIELDS, PLAIN};
+use crate::inputs::{Case, Random};
+use crate::plain::{Calls, FIELDS, OfThree, PLAIN};
 
 const SENTINEL: u64 = 0xFEED_FACE_CAFE;
 const FILL: u8 = 0xA5;
@@ -91,8 +95,8 @@ impl Comparison {
         self.written(call, input, run).ok()
     }
 
-    /// A call that writes, with room to spare, with just enough room, and with too little: what it writes, or its number. One that
-    /// refuses does so with no room too.
+    /// A call that writes, with room to spare, with just enough, with one byte less, and now and then with none: what it writes, or
+    /// its number. One that refuses does so with no room too.
     pub fn written(
         &mut self,
         call: &'static str,
@@ -101,11 +105,7 @@ impl Comparison {
     ) -> Result<Vec<u8>, u8> {
         let lent = |room| {
             let run = &run;
-            move |calls: &Calls| {
-                let (mut output, mut written) = (vec![FILL; room], SENTINEL as usize);
-                let number = run(calls, &mut output, &mut written);
-                (number, (written, output))
-            }
+            move |calls: &Calls| left(room, |output, written| run(calls, output, written))
         };
         let most = 4_096 + input.iter().map(|bytes| bytes.len()).sum::<usize>();
         let (number, (length, _)) = self.same(call, input, lent(most));
@@ -115,21 +115,69 @@ impl Comparison {
             return Err(number);
         }
         let (_, (_, output)) = self.same(call, input, lent(length));
+        self.same(call, input, lent(length.saturating_sub(1)));
         self.turn += 1;
         if self.turn.is_multiple_of(4) {
-            self.same(call, input, lent(length.saturating_sub(1)));
             self.same(call, input, lent(0));
         }
         Ok(output)
     }
 
+    /// A call on three files: what it writes, or its number.
+    pub fn of_three(
+        &mut self,
+        call: &'static str,
+        files: &[Vec<u8>; 3],
+        choose: fn(&Calls) -> OfThree,
+    ) -> Result<Vec<u8>, u8> {
+        let [one, two, three] = files;
+        self.written(call, &[one, two, three], |calls, output, written| {
+            choose(calls)(one, two, three, output, written)
+        })
+    }
+
+    /// A case of an independent reading, in exactly its room: number, length and the whole output are as told.
+    pub fn case(&mut self, call: &'static str, case: &Case, choose: fn(&Calls) -> OfThree) {
+        let [one, two, three] = &case.files;
+        let (number, (length, output)) = self.same(call, &[one, two, three], |calls| {
+            left(case.room, |output, written| choose(calls)(one, two, three, output, written))
+        });
+        let mut told = case.output.clone();
+        told.resize(case.room, FILL);
+        let is_as_told = number == case.number && length == case.output.len() && output == told;
+        assert!(is_as_told, "{call}, line {}: number {number}, length {length}", case.line);
+    }
+
+    /// How often the call answered which number.
+    pub fn counts(&self, call: &'static str) -> [u64; 13] {
+        self.seen.get(call).copied().unwrap_or_default()
+    }
+
     /// The call answered each of these numbers, and no other.
     pub fn assert_seen(&self, call: &'static str, numbers: &[usize]) {
-        let counts = self.seen.get(call).copied().unwrap_or_default();
+        let counts = self.counts(call);
         println!("{call}: {}", shown(&counts));
         let seen: Vec<usize> = (0..counts.len()).filter(|&number| counts[number] > 0).collect();
         assert_eq!(seen, numbers, "the numbers that {call} answered");
     }
+}
+
+/// What a call that writes leaves in so much room: its number, the length and the whole output.
+fn left(room: usize, run: impl FnOnce(&mut [u8], &mut usize) -> u8) -> (u8, (usize, Vec<u8>)) {
+    let (mut output, mut written) = (vec![FILL; room], SENTINEL as usize);
+    let number = run(&mut output, &mut written);
+    (number, (written, output))
+}
+
+/// The number of a call on three files and what it writes into so much room. Its length is that of what it wrote, and it leaves
+/// alone what is after that, or all if it refuses.
+pub fn written_into(call: OfThree, room: usize, [one, two, three]: [&[u8]; 3]) -> (u8, Vec<u8>) {
+    let (number, (written, mut output)) =
+        left(room, |output, written| call(one, two, three, output, written));
+    assert!(number == 0 || written == 0, "number {number}, length {written}");
+    assert!(output[written..].iter().all(|byte| *byte == FILL), "number {number}: what is after the outcome");
+    output.truncate(written);
+    (number, output)
 }
 
 impl Drop for Comparison {

@@ -1,6 +1,8 @@
-//! Made inputs: messages of every kind, and damage to them. The same seed makes the same input.
+//! Made inputs: messages of every kind, and damage to them. The same seed makes the same input. Chosen ones, and cases with answers.
 #![allow(dead_code, unused_imports)]
 
+mod cases;
+mod chosen;
 mod damage;
 mod grown;
 mod made;
@@ -8,6 +10,8 @@ mod messages;
 mod met;
 mod saves;
 
+pub use cases::{Case, cases};
+pub use chosen::*;
 pub use damage::damaged;
 pub use grown::{LONG_PART_SIZE, client_known_met, grown, long_part_met};
 pub use made::*;

@@ -287,3 +287,22 @@ pub fn some_saves(random: &mut Random) -> [Vec<u8>; 3] {
     }
     files.map(|file| if random.once_in(2) { damaged(random, PART_MET, &file) } else { file })
 }
+
+/// What is stored, what was opened and what is to be saved: [`some_saves`], of which some are alike, and some are no part.met.
+pub fn stored_opened_new(random: &mut Random) -> [Vec<u8>; 3] {
+    let [opened, stored, new] = some_saves(random);
+    match random.below(16) {
+        0 | 1 => [opened.clone(), opened, new],
+        2 => [Vec::new(), Vec::new(), new],
+        3 => {
+            let bytes = damaged(random, PART_MET, &opened);
+            [bytes.clone(), bytes, new]
+        }
+        4 => [Vec::new(), opened, new],
+        5 => [stored, Vec::new(), new],
+        6 => [new.clone(), opened, new],
+        7 => [stored, opened.clone(), opened],
+        8 => [damaged(random, PART_MET, &opened), opened, new],
+        _ => [stored, opened, new],
+    }
+}

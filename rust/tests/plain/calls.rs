@@ -2,6 +2,9 @@
 
 use super::*;
 
+/// A call on three files that writes one: a save of stored, opened and new, or a merge of opened, first and second.
+pub type OfThree = fn(&[u8], &[u8], &[u8], &mut [u8], &mut usize) -> u8;
+
 #[allow(clippy::type_complexity)]
 pub struct Calls {
     pub read: fn(u8, &[u8], &mut [u64]) -> u8,
@@ -13,8 +16,9 @@ pub struct Calls {
     pub count_missing: fn(&[u64], &mut u64) -> u8,
     pub mark: fn(&mut [u64], u64, u64, &mut u64) -> u8,
     pub put_gaps: fn(&[u8], &[u64], &mut [u8], &mut usize) -> u8,
-    pub save: fn(&[u8], &[u8], &[u8], &mut [u8], &mut usize) -> u8,
-    pub merge: fn(&[u8], &[u8], &[u8], &mut [u8], &mut usize) -> u8,
+    pub save: OfThree,
+    pub save_strict: OfThree,
+    pub merge: OfThree,
     pub truth: fn(&[u8], &[u8], &mut u8) -> u8,
     pub write_keyword: fn(&[u8], &mut [u8], &mut usize) -> u8,
     pub write_field: fn(&[u8], &[u8], &mut [u8], &mut usize) -> u8,
@@ -44,6 +48,9 @@ pub const PLAIN: Calls = Calls {
     mark: |record, start, end, missing| returned(mark(record, start, end), missing),
     put_gaps: |file, record, output, written| returned(put_gaps(file, record, output), written),
     save: |stored, opened, saved, output, written| returned(save(stored, opened, saved, output), written),
+    save_strict: |stored, opened, saved, output, written| {
+        returned(save_strict(stored, opened, saved, output), written)
+    },
     merge: |opened, first, second, output, written| returned(merge(opened, first, second, output), written),
     truth: |query, tags, holds| returned(truth(query, tags).map(u8::from), holds),
     write_keyword: |text, output, written| returned(write_keyword(text, output), written),

@@ -1,4 +1,4 @@
-//! known.met, server.met, part.met; the gaps of a part.met, putting them, and saving.
+//! known.met, server.met, part.met; the gaps of a part.met, and putting them.
 
 use super::cursor::Cursor;
 use super::gaps::{GAP_NUMBERS, Gap, GapNumbers, lawful};
@@ -290,15 +290,4 @@ pub(super) fn write_gap_tag(write: &mut impl FnMut(&[u8]), kind: u8, number: usi
         _ => write(&[3, 3, 0, kind, tens, ones]),
     }
     write(&value.to_le_bytes());
-}
-
-/// The saved file, if it is one and the stored file is the one opened.
-pub fn save(stored: &[u8], opened: &[u8], saved: &[u8], output: &mut [u8]) -> Answer<usize> {
-    within(saved, MET_CEILING, part)?;
-    if stored != opened {
-        return Err(Refusal::Conflict);
-    }
-    let output = output.get_mut(..saved.len()).ok_or(Refusal::Room)?;
-    output.copy_from_slice(saved);
-    Ok(saved.len())
 }

@@ -1,5 +1,5 @@
-//! A second reading of documents 01 and 02 (No. 3) in plain Rust, written from them alone and kept apart from the proved code. The tests hold
-//! the archive to it. Answers have the form that `ed2k.h` gives them.
+//! A second reading of documents 01 and 02 (Nos. 3 and 8) in plain Rust, written from them alone and kept apart from the proved code.
+//! The tests hold the archive to it. Answers have the form that `ed2k.h` gives them.
 #![allow(dead_code, unused_imports)]
 
 mod bodies;
@@ -11,15 +11,17 @@ mod messages;
 mod met;
 mod packets;
 mod query;
+mod saving;
 mod tags;
 mod writers;
 
-pub use calls::{Calls, PLAIN};
+pub use calls::{Calls, OfThree, PLAIN};
 pub use gaps::{GAP_NUMBERS, GapNumbers, all_missing, count_missing, mark};
 pub use merging::merge;
 pub use messages::{write_address, write_file_entry, write_message, write_record, write_server_entry};
-pub use met::{block_count, part_count, put_gaps, read_gaps, save};
+pub use met::{block_count, part_count, put_gaps, read_gaps};
 pub use query::truth;
+pub use saving::{save, save_strict};
 pub use writers::*;
 
 use cursor::Cursor;

@@ -5,10 +5,10 @@ use Rattle.test_merge.proofs.print_cases.Statement.{statement}
 use Rattle.test_merge.proofs.print_cases.Tie as tie
 
 abbrev Inv-loop : tie.InvT-loop
-Inv-loop text length at₀ at = Unit
+Inv-loop call text length at₀ at = Unit
 
 abbrev μ-loop : tie.MeasureT-loop
-μ-loop text length at₀ at = length - at
+μ-loop call text length at₀ at = length - at
 
 loop-holds : tie.Need-loop-holds Inv-loop μ-loop
 loop-holds c = tt

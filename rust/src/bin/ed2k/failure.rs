@@ -24,10 +24,12 @@ pub enum Failure {
 impl Failure {
     /// The refusal of the thing named, with nothing to add.
     pub fn refused(what: impl Into<String>) -> impl FnOnce(Refusal) -> Failure {
-        |refusal| {
-            let (number, meaning) = (refusal.number(), refusal.meaning());
-            Failure::Refused { what: what.into(), number, meaning, more: String::new() }
-        }
+        |refusal| Failure::refused_as(what, refusal, refusal.meaning())
+    }
+
+    /// The same, of a number that means this here.
+    pub fn refused_as(what: impl Into<String>, refusal: Refusal, meaning: &'static str) -> Failure {
+        Failure::Refused { what: what.into(), number: refusal.number(), meaning, more: String::new() }
     }
 
     /// The system's error at the thing tried.

@@ -52,7 +52,7 @@ ed2k: packets and met files of the eDonkey protocol, by proved code
   ed2k gaps FILE                             what is missing of a model
   ed2k mark FILE START END                   mark bytes of a model as arrived
   ed2k search --name TEXT KNOWN-MET          the models that are looked for
-  ed2k save --opened OLD --new NEW STORED    save, but never over another's save
+  ed2k save --opened OLD --new NEW STORED    save, merged with what others saved
   ed2k merge --opened OLD FIRST SECOND OUT   make one file of two saves
 
   ed2k help SUBCOMMAND                       more about one of them

@@ -3,7 +3,7 @@
 use std::ffi::{OsStr, OsString};
 use std::io::Write;
 
-use ed2k::disk::Saved;
+use ed2k::disk::{Mode, Saved};
 use ed2k::{GapRecord, Kind, Refusal};
 
 use crate::arguments::Arguments;
@@ -85,8 +85,8 @@ impl Mark<'_> {
         Failure::refused(what)(refusal).and_say(more)
     }
 
-    /// Marks under the lock, from reading to renaming. Where that changes nothing, nothing is saved: another window's save
-    /// would be refused for it. The file must not have changed since it was read, by a program that takes no lock.
+    /// Marks under the lock, from reading to renaming. Where that changes nothing, nothing is saved: a strict save of another
+    /// window would be refused for it. The file must not have changed since it was read, by a program that takes no lock.
     fn saved(&self, store: &Store) -> Result<(Marked, Option<Saved>), Failure> {
         let stored = store.lock()?;
         let opened = stored.read().map_err(|error| store.failure(error))?;
@@ -94,7 +94,7 @@ impl Mark<'_> {
         if marked.arrived() == 0 {
             return Ok((marked, None));
         }
-        let saved = stored.save(&opened, &marked.new).map_err(|error| store.failure(error))?;
+        let saved = stored.save(Mode::Strict, &opened, &marked.new).map_err(|error| store.failure(error))?;
         Ok((marked, Some(saved)))
     }
 }
@@ -114,9 +114,9 @@ impl Marked {
         };
         let mut printed = || -> Outcome {
             self.report(output)?;
-            let line = format!("saved    {name}, {}", text::bytes(saved.length as u64));
+            let line = format!("saved    {name}, {}", text::bytes(saved.bytes.len() as u64));
             write!(output, "{}", text::message(&line))?;
-            store.print_owner(saved, output)?;
+            store.print_owner(&saved, output)?;
             Ok(output.flush()?)
         };
         printed().map_err(|failure| failure.and_say(format!("{name} is saved.")))

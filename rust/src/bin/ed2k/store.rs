@@ -68,7 +68,7 @@ impl Store<'_> {
     }
 
     /// Says whose the file is, if it is another's than before.
-    pub fn print_owner(&self, saved: Saved, output: &mut dyn Write) -> Outcome {
+    pub fn print_owner(&self, saved: &Saved, output: &mut dyn Write) -> Outcome {
         if !saved.owner_kept {
             let name = text::file_name(self.name);
             let line = format!("{name} belongs to you now; its group and permissions are as they were");

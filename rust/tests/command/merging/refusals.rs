@@ -3,7 +3,8 @@
 use std::ffi::OsStr;
 use std::fs;
 
-use super::{MERGE, Model, SIZE, assert_fails, studio};
+use super::{MERGE, studio};
+use crate::models::{Model, SIZE};
 use crate::packets::{self, dword_tag, text_tag};
 use crate::studio::{Studio, samples};
 
@@ -21,7 +22,7 @@ To keep the bytes of both, take the save that is right in this, and mark in it
 fn assert_conflict(models: [&Model; 3], what: &str, shown: &str) {
     let expected =
         format!("ed2k: the merge of 'first' and 'second' is refused 11: {what}\n{shown}{KEPT}{ADVICE}");
-    assert_fails(&studio(models), &MERGE, 1, &expected);
+    studio(models).assert_fails(&MERGE, 1, &expected);
 }
 
 const IN_TAGS: &str = "both saves changed the\n  tags, in different ways";
@@ -214,7 +215,7 @@ Changed in two ways:
 ";
     let expected =
         format!("ed2k: the merge of 'first' and 'second' is refused 11: {IN_TAGS}\n{shown}{KEPT}{ADVICE}");
-    assert_fails(&studio, &MERGE, 1, &expected);
+    studio.assert_fails(&MERGE, 1, &expected);
 }
 
 #[test]
@@ -330,7 +331,7 @@ fn assert_strangers(models: [&Model; 3], shown: &str) {
     let expected = format!(
         "ed2k: the merge of 'first' and 'second' is refused 12: the files are not of one\n  model\n{shown}{KEPT}"
     );
-    assert_fails(&studio(models), &MERGE, 1, &expected);
+    studio(models).assert_fails(&MERGE, 1, &expected);
 }
 
 #[test]
@@ -427,7 +428,7 @@ fn too_many_gaps_are_refused() {
         "ed2k: the merge of 'first' and 'second' is refused 6: a ceiling is exceeded\n\
          The merged file would have more than 64 gaps or more than 1,048,576 bytes.\n{KEPT}"
     );
-    assert_fails(&studio, &MERGE, 1, &expected);
+    studio.assert_fails(&MERGE, 1, &expected);
     studio.file("second", &model(every(4, 63, 64)));
     studio.run(&MERGE).expect(0);
     assert_eq!(studio.bytes("out"), model(every(4, 0, 64)));

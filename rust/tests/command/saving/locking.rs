@@ -106,7 +106,7 @@ fn how_long_to_wait_is_a_number_of_seconds() {
 /// A save whose bytes come from a pipe, which nobody has written to yet.
 fn save_from_pipe(studio: &Studio, opened: &str, new: &str) -> Child {
     assert!(Command::new("mkfifo").arg(studio.path("pipe")).status().expect("mkfifo runs").success());
-    let save = studio.spawn(&["save", "--wait", "0", "--opened", opened, "--new", new, "stored"]);
+    let save = studio.spawn(&["save", "--strict", "--wait", "0", "--opened", opened, "--new", new, "stored"]);
     thread::sleep(Duration::from_millis(500));
     save
 }

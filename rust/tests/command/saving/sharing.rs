@@ -101,6 +101,23 @@ fn a_colleagues_save_does_not_lock_the_owner_out() {
     }
 }
 
+/// Anna's file has been saved since: what is said of the merge comes first.
+#[test]
+#[cfg_attr(not(as_root), ignore = "only root can act as several users")]
+fn a_colleagues_save_that_is_merged_does_not_lock_the_owner_out() {
+    let shared = Shared::new(ANNA.user, GROUP, 0o775, 0o664);
+    shared.run(ANNA, &["mark", "models/stored", "10", "20"]).expect(0);
+    let run = shared.run(BEN, &SAVE).expect(0);
+    assert!(run.stdout.starts_with("merged: 'models/stored' now holds your save"), "{}", run.stdout);
+    let owner = "  # there   . missing   + some of both\n\
+        'models/stored' belongs to you now; its group and permissions are as they were\n";
+    assert!(run.stdout.ends_with(owner), "{}", run.stdout);
+    let merged = packets::part_met(2, 0, 100, &[(0, 10), (20, 50)]);
+    assert_eq!(fs::read(&shared.stored).unwrap(), merged);
+    assert_eq!(shared.rights(), (BEN.user, GROUP, 0o664));
+    shared.assert_alone();
+}
+
 #[test]
 #[cfg_attr(not(as_root), ignore = "only root can act as several users")]
 fn who_may_give_files_away_keeps_the_owner() {

@@ -4,9 +4,9 @@ use std::collections::HashMap;
 use std::fmt::Display;
 use std::iter;
 
-use ed2k::{BlockHash, Hash, PartMet, Tag, TagValue};
+use ed2k::{BlockHash, Hash, PartMet, Refusal, Tag, TagValue};
 
-use super::Versions;
+use super::versions::{Roles, Versions};
 use crate::show::tags;
 use crate::text;
 
@@ -53,9 +53,9 @@ impl Change {
         })
     }
 
-    fn lines(&self) -> String {
+    fn lines(&self, roles: Roles) -> String {
         let mut lines = vec![text::folded(&format!("  {}", self.name), 4)];
-        for (label, value) in ["opened", "first", "second"].into_iter().zip(&self.values) {
+        for (label, value) in roles.labels.into_iter().zip(&self.values) {
             let labels = iter::once(label).chain(iter::repeat(""));
             let folded = |(label, line)| text::folded(&format!("    {label:<8}{line}"), 12);
             lines.extend(labels.zip(value.lines()).map(folded));
@@ -70,70 +70,96 @@ fn are_in_conflict<T: PartialEq>([opened, first, second]: &[T; 3]) -> bool {
 }
 
 /// Changes, and a line above that says what they are.
-fn below(heading: &str, changes: &[Change]) -> String {
-    let lines: Vec<String> = changes.iter().map(Change::lines).collect();
-    format!("{heading}\n{}", lines.join("\n"))
+struct Section {
+    heading: String,
+    changes: Vec<Change>,
 }
 
+impl Section {
+    fn new(heading: impl Into<String>, changes: Vec<Change>) -> Section {
+        Section { heading: heading.into(), changes }
+    }
+
+    fn lines(&self, roles: Roles) -> String {
+        let changes = self.changes.iter().map(|change| change.lines(roles));
+        iter::once(self.heading.clone()).chain(changes).collect::<Vec<String>>().join("\n")
+    }
+}
+
+fn shown(sections: &[Section], roles: Roles) -> String {
+    sections.iter().map(|section| section.lines(roles)).collect::<Vec<String>>().join("\n")
+}
+
+/// Why files that are accepted by themselves are not merged: what the number means here, and more on it.
+pub fn of_refusal(refusal: Refusal, versions: &Versions<'_>) -> (&'static str, String) {
+    match refusal {
+        Refusal::Conflict => of_conflict(versions),
+        Refusal::Strangers => (refusal.meaning(), of_strangers(versions)),
+        _ => (refusal.meaning(), LIMITS.into()),
+    }
+}
+
+const LIMITS: &str = "The merged file would have more than 64 gaps or more than 1,048,576 bytes.";
+
 /// Why the files are no one model.
-pub fn of_strangers(versions: &Versions<'_>) -> String {
-    let hashes = versions.each_ref().map(|version| version.met.hash);
-    let sizes = versions.each_ref().map(|version| version.met.size);
+fn of_strangers(versions: &Versions<'_>) -> String {
+    let roles = versions.roles;
+    let hashes = versions.each(|version| version.met.hash);
+    let sizes = versions.each(|version| version.met.size);
     let differing = [
         Change::of("File hash", &hashes, Hash::to_string)
-            .map(|change| below(&format!("{} file hash:", who_differs(&hashes)), &[change])),
+            .map(|change| Section::new(format!("{} file hash:", who_differs(&hashes, roles)), vec![change])),
         Change::of(&tags::name(&[0x02]), &sizes, |size| text::bytes((*size).into()))
-            .map(|change| below(&format!("{} size:", who_differs(&sizes)), &[change])),
+            .map(|change| Section::new(format!("{} size:", who_differs(&sizes, roles)), vec![change])),
     ];
-    differing.into_iter().flatten().collect::<Vec<String>>().join("\n")
+    shown(&differing.into_iter().flatten().collect::<Vec<Section>>(), roles)
 }
 
 /// The beginning of a line on the file that differs from the two others.
-fn who_differs<T: PartialEq>([opened, first, second]: &[T; 3]) -> &'static str {
-    if first == second {
-        "The opened file has another"
-    } else if opened == second {
-        "The first save has another"
-    } else if opened == first {
-        "The second save has another"
-    } else {
-        "Each of the three files has another"
-    }
+fn who_differs<T: PartialEq>([opened, first, second]: &[T; 3], roles: Roles) -> String {
+    let place = match (first == second, opened == second, opened == first) {
+        (true, ..) => 0,
+        (_, true, _) => 1,
+        (.., true) => 2,
+        _ => return "Each of the three files has another".into(),
+    };
+    format!("The {} has another", roles.words[place])
 }
 
 /// What the conflict is in, and the changes that make it.
-pub fn of_conflict(versions: &Versions<'_>) -> (&'static str, String) {
-    let forms = versions.each_ref().map(|version| Form::of(&version.met));
-    let lists = versions.each_ref().map(|version| plain_tags(&version.met));
-    match (are_in_conflict(&forms), are_in_conflict(&lists)) {
+fn of_conflict(versions: &Versions<'_>) -> (&'static str, String) {
+    let forms = versions.each(|version| Form::of(&version.met));
+    let lists = versions.each(|version| plain_tags(&version.met));
+    let (meaning, sections) = match (are_in_conflict(&forms), are_in_conflict(&lists)) {
         (true, false) => ("both saves changed the hashes, in different ways", of_forms(&forms)),
         (false, true) => ("both saves changed the tags, in different ways", of_tags(&lists)),
         _ => {
-            let changes = format!("{}\n{}", of_forms(&forms), of_tags(&lists));
-            ("both saves changed the hashes and the tags, in different ways", changes)
+            let sections = of_forms(&forms).into_iter().chain(of_tags(&lists)).collect();
+            ("both saves changed the hashes and the tags, in different ways", sections)
         }
-    }
+    };
+    (meaning, shown(&sections, versions.roles))
 }
 
 /// The changes in two ways first. If there is none, the line says why the others are a conflict all the same.
-fn sorted(changes: Vec<Change>, why: &str) -> String {
+fn sorted(changes: Vec<Change>, why: &str) -> Vec<Section> {
     let (in_two_ways, others): (Vec<Change>, Vec<Change>) =
         changes.into_iter().partition(|change| change.in_two_ways);
     if in_two_ways.is_empty() {
-        return below(why, &others);
+        return vec![Section::new(why, others)];
     }
-    let first = below("Changed in two ways:", &in_two_ways);
-    if others.is_empty() {
-        return first;
+    let mut sections = vec![Section::new("Changed in two ways:", in_two_ways)];
+    if !others.is_empty() {
+        sections.push(Section::new("Changed by one save, or by both alike:", others));
     }
-    format!("{first}\n{}", below("Changed by one save, or by both alike:", &others))
+    sections
 }
 
 const FORM_IS_ONE: &str = "None of these was changed in two ways, but opening byte and hash lists count as one thing, \
     which both saves changed:";
 
 /// The names are those that `show` has.
-fn of_forms(forms: &[Form; 3]) -> String {
+fn of_forms(forms: &[Form; 3]) -> Vec<Section> {
     let parts = match forms.each_ref().map(|form| form.opening) {
         [0xE0, 0xE0, 0xE0] => "Part hash list",
         [0xE1, 0xE1, 0xE1] => "B part hashes",
@@ -260,10 +286,10 @@ const TAGS_ARE_ONE: &str = "No tag was changed in two ways, but the tags other t
 
 const ORDER_ALONE: &str = "The tags are the same in all three files; only their order differs:";
 
-fn of_tags(lists: &[Vec<Tag<'_>>; 3]) -> String {
+fn of_tags(lists: &[Vec<Tag<'_>>; 3]) -> Vec<Section> {
     let tagged = Tagged::new(lists);
     let mut changes = tagged.changes();
     let order_alone = changes.is_empty();
     changes.extend(tagged.order_change());
-    if order_alone { below(ORDER_ALONE, &changes) } else { sorted(changes, TAGS_ARE_ONE) }
+    if order_alone { vec![Section::new(ORDER_ALONE, changes)] } else { sorted(changes, TAGS_ARE_ONE) }
 }

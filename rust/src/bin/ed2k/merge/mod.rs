@@ -1,13 +1,14 @@
 //! `ed2k merge`: one part.met of the two that two windows want to save.
 
-mod changes;
-mod report;
+pub mod changes;
+pub mod report;
+pub mod versions;
 
 use std::ffi::{OsStr, OsString};
 use std::io::Write;
 
-use ed2k::disk::{Saved, Stored};
-use ed2k::{GapRecord, Kind, PartMet, Refusal};
+use ed2k::disk::{Mode, Saved, Stored};
+use ed2k::{Kind, Refusal};
 
 use crate::arguments::Arguments;
 use crate::failure::Failure;
@@ -15,12 +16,14 @@ use crate::json::Json;
 use crate::store::{self, Store};
 use crate::{Outcome, files, text};
 use report::Report;
+use versions::{OF_MERGE, Version, Versions};
 
 pub const HELP: &str = "\
 ed2k merge [--json] [--wait SECONDS] --opened OLD FIRST SECOND OUT
 
-Makes one part.met of two saves of one model. Two windows opened one part.met,
-of which OLD is the copy; FIRST and SECOND are what they want to save. OUT gets:
+Makes one part.met of two saves of one model, where both are files: 'ed2k save'
+merges by itself with what is stored. Two windows opened one part.met, of which
+OLD is the copy; FIRST and SECOND are what they want to save. OUT gets:
 
   bytes    One that OLD misses is there if FIRST or SECOND has it. One that OLD
            has is there unless FIRST or SECOND misses it.
@@ -37,9 +40,9 @@ two saves of a running client are such a conflict. Files with different file
 hashes or sizes are strangers (12). After a refusal nothing is written.
 
 OUT is a file that is not there yet, or one with the bytes of OLD, FIRST or
-SECOND, such as the stored file. Any other file that is there is left alone.
+SECOND. Any other file that is there is left alone.
 
-    $ ed2k merge --opened opened.copy 001.part.met w2 001.part.met
+    $ ed2k merge --opened opened.copy w1 w2 merged.part.met
 
 OLD, FIRST and SECOND must be three files, not one by several names. OUT is
 locked before they are read, and written as 'ed2k save' does it, so that it is
@@ -53,9 +56,6 @@ Exit status: 0 merged, 1 refused (the own refusal of OLD, FIRST or SECOND; 12;
 11; 6: more than 64 gaps or 1,048,576 bytes), 2 wrong usage or a file that
 cannot be read or written, or an OUT that is left alone.
 ";
-
-/// The three files, in the order of all that has a value in each of them.
-const ROLES: [&str; 3] = ["the opened file", "the first save", "the second save"];
 
 pub fn run(words: Vec<OsString>, output: &mut dyn Write) -> Outcome {
     let arguments = Arguments::sort(words, &["--wait", "--opened"], &["--json"], "ed2k merge --help")?;
@@ -99,28 +99,12 @@ const FIRST_IS_SECOND: &str = "\
 FIRST is SECOND itself: there would be nothing to merge
 They are two files, each with the work of one window.";
 
-/// A part.met that is accepted, and what is missing in it.
-struct Version<'a> {
-    met: PartMet<'a>,
-    record: GapRecord,
-}
-
-impl<'a> Version<'a> {
-    fn read(bytes: &'a [u8]) -> Result<Version<'a>, Refusal> {
-        Ok(Version { met: ed2k::read_part_met(bytes)?, record: GapRecord::read(bytes)? })
-    }
-}
-
-/// The opened file and the two saves.
-type Versions<'a> = [Version<'a>; 3];
-
 struct Merge<'a> {
     names: [&'a OsStr; 3],
     store: Store<'a>,
 }
 
 struct Merged {
-    bytes: Vec<u8>,
     report: Report,
     saved: Saved,
 }
@@ -135,8 +119,8 @@ impl Merge<'_> {
         let bytes = ed2k::merge(&opened, &first, &second)
             .map_err(|refusal| self.refused(refusal, &versions, &stored))?;
         let report = Report::of(&versions);
-        let saved = stored.save(replaced, &bytes).map_err(|error| self.store.failure(error))?;
-        Ok(Merged { bytes, report, saved })
+        let saved = stored.save(Mode::Strict, replaced, &bytes);
+        Ok(Merged { report, saved: saved.map_err(|error| self.store.failure(error))? })
     }
 
     fn read(&self) -> Result<[Vec<u8>; 3], Failure> {
@@ -148,12 +132,10 @@ impl Merge<'_> {
 
     /// The three files, or the refusal of the first that is not accepted.
     fn accepted<'f>(&self, files: [&'f [u8]; 3], stored: &Stored) -> Result<Versions<'f>, Failure> {
-        let version = |place: usize| {
-            let what = format!("{} {}", ROLES[place], text::file_name(self.names[place]));
-            Version::read(files[place])
-                .map_err(|refusal| Failure::refused(what)(refusal).and_say(self.nothing_written(stored)))
-        };
-        Ok([version(0)?, version(1)?, version(2)?])
+        Versions::read(OF_MERGE, files).map_err(|(place, refusal)| {
+            let what = format!("the {} {}", OF_MERGE.words[place], text::file_name(self.names[place]));
+            Failure::refused(what)(refusal).and_say(self.nothing_written(stored))
+        })
     }
 
     /// What OUT holds: nothing, or what one of the files held that were read. All else is somebody's work.
@@ -175,17 +157,10 @@ impl Merge<'_> {
     /// The refusal of files that are accepted by themselves.
     fn refused(&self, refusal: Refusal, versions: &Versions<'_>, stored: &Stored) -> Failure {
         let what = format!("the merge of {}", text::file_names(&self.names[1..]));
-        let kept = self.nothing_written(stored);
-        if refusal == Refusal::Conflict {
-            let (meaning, changes) = changes::of_conflict(versions);
-            let more = format!("{changes}\n{kept}\n{ADVICE}\n");
-            return Failure::Refused { what, number: refusal.number(), meaning, more };
-        }
-        let why = match refusal {
-            Refusal::Strangers => changes::of_strangers(versions),
-            _ => LIMITS.into(),
-        };
-        Failure::refused(what)(refusal).and_say(why).and_say(kept)
+        let (meaning, why) = changes::of_refusal(refusal, versions);
+        let failure =
+            Failure::refused_as(what, refusal, meaning).and_say(why).and_say(self.nothing_written(stored));
+        if refusal == Refusal::Conflict { failure.and_say(ADVICE.into()) } else { failure }
     }
 
     /// What has become of the files after a refusal.
@@ -195,15 +170,16 @@ impl Merge<'_> {
         format!("Nothing was written: {out} is {state}, and your work is still in {work}.")
     }
 
-    fn print(&self, merged: &Merged, json: bool, output: &mut dyn Write) -> Outcome {
+    fn print(&self, Merged { report, saved }: &Merged, json: bool, output: &mut dyn Write) -> Outcome {
         let out = text::file_name(self.store.name);
-        let outcome = Version::read(&merged.bytes).map_err(Failure::refused(out))?;
+        let outcome = Version::read(&saved.bytes).map_err(Failure::refused(&out))?;
         if json {
-            merged.report.print_json(&outcome, merged.saved, output)?;
+            report.print_json(&outcome, saved, output)?;
         } else {
-            let names = [self.store.name, self.names[1], self.names[2]];
-            merged.report.print(&outcome, names, merged.saved, output)?;
-            self.store.print_owner(merged.saved, output)?;
+            let [_, first, second] = self.names.map(text::file_name);
+            report::line("merged", &format!("{out}, {}", text::bytes(saved.bytes.len() as u64)), output)?;
+            report.print(&outcome, [first, second], output)?;
+            self.store.print_owner(saved, output)?;
         }
         Ok(output.flush()?)
     }
@@ -211,7 +187,6 @@ impl Merge<'_> {
 
 const OUT: &str = "OUT is a file that is not there yet, or one with the bytes of OLD, FIRST or SECOND.";
 
-const LIMITS: &str = "The merged file would have more than 64 gaps or more than 1,048,576 bytes.";
-
-const ADVICE: &str = "To keep the bytes of both, take the save that is right in this, and mark in it (ed2k mark) \
+/// What to do where both saves changed something in different ways.
+pub const ADVICE: &str = "To keep the bytes of both, take the save that is right in this, and mark in it (ed2k mark) \
     what the other has (ed2k gaps).";

@@ -1,7 +1,6 @@
 //! What a merge says when it is made.
 
 use std::cmp::Ordering;
-use std::ffi::OsStr;
 use std::fmt;
 use std::io::Write;
 
@@ -9,7 +8,7 @@ use ed2k::GapRecord;
 use ed2k::disk::Saved;
 
 use super::changes::{Form, plain_tags};
-use super::{Version, Versions};
+use super::versions::{Roles, Version, Versions};
 use crate::json::Json;
 use crate::{Outcome, gaps, text};
 
@@ -52,16 +51,15 @@ impl Source {
             Source::Unchanged => "unchanged",
         }
     }
-}
 
-impl fmt::Display for Source {
-    fn fmt(&self, f: &mut fmt::Formatter<'_>) -> fmt::Result {
-        f.write_str(match self {
-            Source::First => "from the first save",
-            Source::Second => "from the second save",
-            Source::Both => "the same in both",
-            Source::Unchanged => "unchanged",
-        })
+    /// The same for people.
+    fn phrase(self, roles: Roles) -> String {
+        match self {
+            Source::First => format!("from the {}", roles.words[1]),
+            Source::Second => format!("from the {}", roles.words[2]),
+            Source::Both => "the same in both".into(),
+            Source::Unchanged => "unchanged".into(),
+        }
     }
 }
 
@@ -96,6 +94,7 @@ impl fmt::Display for Moved {
 
 /// What each of the saves gave to a merge that is made.
 pub struct Report {
+    roles: Roles,
     moved: [Moved; 2],
     date: Source,
     hashes: Source,
@@ -104,44 +103,40 @@ pub struct Report {
 
 impl Report {
     pub fn of(versions: &Versions<'_>) -> Report {
-        let [opened, first, second] = versions.each_ref().map(|version| &version.record);
+        let [opened, first, second] = versions.each(|version| &version.record);
         Report {
+            roles: versions.roles,
             moved: [first, second].map(|save| Moved::between(opened, save)),
-            date: Source::later(versions.each_ref().map(|version| version.met.date)),
-            hashes: Source::three_way(&versions.each_ref().map(|version| Form::of(&version.met))),
-            tags: Source::three_way(&versions.each_ref().map(|version| plain_tags(&version.met))),
+            date: Source::later(versions.each(|version| version.met.date)),
+            hashes: Source::three_way(&versions.each(|version| Form::of(&version.met))),
+            tags: Source::three_way(&versions.each(|version| plain_tags(&version.met))),
         }
     }
 
-    /// Says what OUT, the first of the names, holds now, and what came from the saves, which are the others.
-    pub fn print(
-        &self,
-        outcome: &Version<'_>,
-        [out, first, second]: [&OsStr; 3],
-        saved: Saved,
-        output: &mut dyn Write,
-    ) -> Outcome {
+    /// Says what came from each of the saves, which have these names, and what the merged file holds.
+    pub fn print(&self, outcome: &Version<'_>, names: [String; 2], output: &mut dyn Write) -> Outcome {
+        let [_, first, second] = self.roles.labels;
         let [from_first, from_second] = &self.moved;
+        let [first_name, second_name] = names;
         let lines = [
-            ("merged", format!("{}, {}", text::file_name(out), text::bytes(saved.length as u64))),
-            ("first", format!("{} {from_first}", text::file_name(first))),
-            ("second", format!("{} {from_second}", text::file_name(second))),
-            ("date", format!("{}, {}", text::date(outcome.met.date), self.date)),
-            ("hashes", self.hashes.to_string()),
-            ("tags", self.tags.to_string()),
+            (first, format!("{first_name} {from_first}")),
+            (second, format!("{second_name} {from_second}")),
+            ("date", format!("{}, {}", text::date(outcome.met.date), self.date.phrase(self.roles))),
+            ("hashes", self.hashes.phrase(self.roles)),
+            ("tags", self.tags.phrase(self.roles)),
         ];
         for (label, words) in lines {
-            writeln!(output, "{}", text::wrapped(&format!("{label:<9}"), &words, 9))?;
+            line(label, &words, output)?;
         }
         writeln!(output)?;
         gaps::overview(&outcome.met, &outcome.record, output)
     }
 
     /// The keys are those of the manual page.
-    pub fn print_json(&self, outcome: &Version<'_>, saved: Saved, output: &mut dyn Write) -> Outcome {
+    pub fn print_json(&self, outcome: &Version<'_>, saved: &Saved, output: &mut dyn Write) -> Outcome {
         let [first, second] = &self.moved;
         let members = [
-            ("length", Json::number(saved.length as u64)),
+            ("length", Json::number(saved.bytes.len() as u64)),
             ("owner_kept", Json::Truth(saved.owner_kept)),
             ("first", first.json()),
             ("second", second.json()),
@@ -152,6 +147,11 @@ impl Report {
         let model = gaps::members(&outcome.met, &outcome.record);
         Ok(Json::print(members.into_iter().chain(model), output)?)
     }
+}
+
+/// A line of what is said of a merge: a label, and words.
+pub fn line(label: &str, words: &str, output: &mut dyn Write) -> Outcome {
+    Ok(writeln!(output, "{}", text::wrapped(&format!("{label:<9}"), words, 9))?)
 }
 
 #[cfg(test)]

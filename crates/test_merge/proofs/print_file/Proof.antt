@@ -4,8 +4,8 @@ use mathlib.Core.Path.{_≡_, sym}
 use native.Mathlib.Omega.{arith}
 use lib.ListN.{length, replicate, length-replicate}
 use borrow.Author.Needs.{needs}
-use Rattle.test_merge.proofs.main.Statement.{statement}
-use Rattle.test_merge.proofs.main.Tie as tie
+use Rattle.test_merge.proofs.print_file.Statement.{statement}
+use Rattle.test_merge.proofs.print_file.Tie as tie
 
 counted : (n : ℕ) → n ≡ length (replicate {A = ℕ} n 0)
 counted n = sym (length-replicate {A = ℕ} n 0)
@@ -13,14 +13,8 @@ counted n = sym (length-replicate {A = ℕ} n 0)
 within : (n k : ℕ) → k ≤ length (replicate {A = ℕ} n 0) → k ≤ n
 within n k h = omega (arith, counted n)
 
-slice-aggregate-open-read : tie.Need-slice-aggregate-open-read
-slice-aggregate-open-read c = search needs
-
 open-read-requires : tie.Need-open-read-requires
 open-read-requires c κs = search needs
-
-slice-aggregate-fail : tie.Need-slice-aggregate-fail
-slice-aggregate-fail c = search needs
 
 fail-requires : tie.Need-fail-requires
 fail-requires c κs = search needs
@@ -43,13 +37,11 @@ print-cases-requires c κs = within 1048576 (c .before .before .before .read-all
 returns-2 : tie.Need-returns-2
 returns-2 c = search needs
 
-pub main-spec : {M : Type 1} → statement M
-main-spec =
+pub print-file-spec : {M : Type 1} → statement M
+print-file-spec =
     tie.close
     (tie.spec
-    slice-aggregate-open-read
     open-read-requires
-    slice-aggregate-fail
     fail-requires
     returns
     slice-aggregate-read-all

@@ -1,23 +1,23 @@
--- The output lent to the merge has the length of its room.
+-- The output lent to the call has the length of its room.
 use borrow.Author.Needs.{needs}
 use Rattle.io.proofs.Counting.{front}
-use Rattle.test_merge.proofs.print_merge.Statement.{statement}
-use Rattle.test_merge.proofs.print_merge.Tie as tie
+use Rattle.test_merge.proofs.print_answer.Statement.{statement}
+use Rattle.test_merge.proofs.print_answer.Tie as tie
 
 room-within-requires : tie.Need-room-within-requires
 room-within-requires c κs = search needs
 
-slice-relend-prefix-merge : tie.Need-slice-relend-prefix-merge
-slice-relend-prefix-merge c = search needs
+slice-relend-prefix-answer-of : tie.Need-slice-relend-prefix-answer-of
+slice-relend-prefix-answer-of c = search needs
 
-slice-aggregate-merge : tie.Need-slice-aggregate-merge
-slice-aggregate-merge c =
+slice-aggregate-answer-of : tie.Need-slice-aggregate-answer-of
+slice-aggregate-answer-of c =
     let taken = c .before .room-within in
     let args = c .before .before .before .before .before .before .before .args in
     front (taken .result) (args .output .now) (taken .ensures)
 
-merge-requires : tie.Need-merge-requires
-merge-requires c κs = search needs
+answer-of-requires : tie.Need-answer-of-requires
+answer-of-requires c κs = search needs
 
 cast-print-decimal : tie.Need-cast-print-decimal
 cast-print-decimal c = search needs
@@ -61,14 +61,14 @@ same-length-2 c = search needs
 returns-2 : tie.Need-returns-2
 returns-2 c = search needs
 
-pub print-merge-spec : {M : Type 1} → statement M
-print-merge-spec =
+pub print-answer-spec : {M : Type 1} → statement M
+print-answer-spec =
     tie.close
     (tie.spec
     room-within-requires
-    slice-relend-prefix-merge
-    slice-aggregate-merge
-    merge-requires
+    slice-relend-prefix-answer-of
+    slice-aggregate-answer-of
+    answer-of-requires
     cast-print-decimal
     print-decimal-requires
     slice-aggregate-write-all
