@@ -330,7 +330,8 @@ uint8_t ed2k_all_missing(uint64_t size, uint64_t *gaps, size_t gap_numbers);
 uint8_t ed2k_count_missing(const uint64_t *gaps, size_t gap_numbers, uint64_t *missing);
 
 /* Marks the bytes from start up to end as arrived; `missing` takes how many are left. 8 for a range or record that breaks its
- * rules, 6 for more than 64 gaps afterwards: then the record stays as it was, and `missing` takes 0. */
+ * rules, 6 for more than 64 gaps afterwards: then the record stays as it was, and `missing` takes 0. Two ranges may be marked in
+ * either order: if none of the calls is refused, all numbers of the record and `missing` are the same at the end. */
 uint8_t ed2k_mark(uint64_t *gaps, size_t gap_numbers, uint64_t start, uint64_t end, uint64_t *missing);
 
 /* The calls that write take the output, and `written` takes how many bytes were written at its front; what is after them stays. A
@@ -349,6 +350,9 @@ uint8_t ed2k_put_gaps(const uint8_t *file, size_t length, const uint64_t *gaps, 
  *   11  the form with its hash lists, or the other tags, were changed in two different ways
  *   6   more than 64 gaps, or more than 1,048,576 bytes
  *   10
+ * Two windows that opened one part.met, and of which each wants to save another one, may save in either order: the one that saves second
+ * gets the same number, length and output.
+ *
  * An outcome has at most stored_length + saved_length + 1,280 bytes. No file is touched: examples/saving.c does this with one on the disk,
  * from the lock to the renaming.
  *
@@ -375,6 +379,7 @@ uint8_t ed2k_save_strict(const uint8_t *stored, size_t stored_length, const uint
  *   11  the form with its hash lists, or the other tags, were changed in two different ways
  *   6   more than 64 gaps, or more than 1,048,576 bytes
  *   10
+ * If each of the three files is accepted by itself, `first` and `second` may change places: number, length and output are the same.
  * An outcome has at most first_length + second_length + 1,280 bytes.
  */
 uint8_t ed2k_merge(const uint8_t *opened, size_t opened_length, const uint8_t *first, size_t first_length, const uint8_t *second,

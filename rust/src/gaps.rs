@@ -92,6 +92,9 @@ impl GapRecord {
     ///
     /// [`Refusal::Range`] unless start < end ≤ size; [`Refusal::Limit`] if more than [`GAP_CEILING`] gaps would be left.
     /// A refused record stays as it is.
+    ///
+    /// Two ranges may be marked in either order: if none of the calls is refused, the record and the number are the same at the
+    /// end.
     pub fn mark(&mut self, start: u64, end: u64) -> Result<u64, Refusal> {
         raw::mark(&mut self.numbers, start, end)
     }

@@ -12,7 +12,8 @@ use crate::refusal::Refusal;
 /// A byte that the opened file misses is missing in the outcome exactly when both saves miss it; a byte that it has, exactly when
 /// either save misses it. The date is the later one of the two saves. The opening form with its hash lists, as one value, and the
 /// tags other than gap tags, as one list, are those of the save that changed them; equal changes are one change. The gaps come
-/// after the other tags, numbered from 0.
+/// after the other tags, numbered from 0. If each of the three files is accepted by itself, the two saves may change places: the
+/// outcome has the same bytes, or the refusal is the same.
 ///
 /// Refused with the own number of `opened`, of `first`, of `second`; then as [`Refusal::Strangers`] if file hash or size differ in
 /// any two; as [`Refusal::Conflict`] if the form with its hash lists, or the other tags, were changed in two different ways; as
@@ -31,6 +32,7 @@ use crate::refusal::Refusal;
 ///     put_gaps(&opened, &record)
 /// };
 /// let merged = merge(&opened, &save(0, 30)?, &save(60, 100)?)?;
+/// assert_eq!(merge(&opened, &save(60, 100)?, &save(0, 30)?)?, merged);
 /// let gaps: Vec<Gap> = GapRecord::read(&merged)?.gaps().collect();
 /// assert_eq!(gaps, [Gap { start: 30, end: 60 }]);
 /// assert_eq!(merge(&opened, &merged, &another_model), Err(Refusal::Strangers));

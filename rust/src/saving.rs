@@ -13,6 +13,9 @@ use crate::refusal::Refusal;
 /// ways; as [`Refusal::Limit`]. So an empty `stored` is [`Refusal::Short`] where something else was opened. Two that are equal are not
 /// read: two empty ones are a first save.
 ///
+/// Two windows that opened one part.met, and of which each wants to save another one, may save in either order: the one that saves
+/// second gets the same bytes to store, or the same refusal.
+///
 /// Nothing is stored by this: [`crate::disk::save`] does that with a file on the disk.
 ///
 /// ```
@@ -34,6 +37,9 @@ use crate::refusal::Refusal;
 /// let stored = save(&stored, &opened, &second)?;
 /// let gaps: Vec<Gap> = GapRecord::read(&stored)?.gaps().collect();
 /// assert_eq!(gaps, [Gap { start: 30, end: 60 }]);
+///
+/// // Had the other window been the first to save, the same would be stored now.
+/// assert_eq!(save(&second, &opened, &first)?, stored);
 /// # Ok::<(), ed2k::Refusal>(())
 /// ```
 pub fn save(stored: &[u8], opened: &[u8], new: &[u8]) -> Result<Vec<u8>, Refusal> {

@@ -7,7 +7,7 @@ mod comparison;
 mod inputs;
 mod plain;
 
-use comparison::Comparison;
+use comparison::{Comparison, bytes_of};
 // Links the archive.
 use ed2k as _;
 use inputs::{Random, damaged, input, long_input, long_length, message};
@@ -310,48 +310,14 @@ fn some_size(random: &mut Random) -> u64 {
     }
 }
 
-fn bytes_of(numbers: &[u64]) -> Vec<u8> {
-    numbers.iter().flat_map(|number| number.to_le_bytes()).collect()
-}
-
-/// An edge of the record, one beside it, or any number.
-fn edge(random: &mut Random, record: &[u64]) -> u64 {
-    let near = record.get(random.below(130)).copied().unwrap_or_default();
-    match random.below(8) {
-        0 => near.wrapping_sub(1),
-        1 => near.wrapping_add(1),
-        2 => random.next() % (record.first().map_or(0, |size| *size).saturating_add(2)).max(1),
-        3 => random.pick(&[0, 1, u64::MAX]),
-        _ => near,
-    }
-}
-
-/// A range between two edges, mostly in order, or one inside a gap.
-fn range(random: &mut Random, record: &[u64]) -> (u64, u64) {
-    let (one, other) = (edge(random, record), edge(random, record));
-    let gap = 2 + 2 * random.below(64);
-    match (random.below(10), record.get(gap), record.get(gap + 1)) {
-        (0, ..) => (one, other),
-        (1..=3, Some(start), Some(end)) => (start.saturating_add(1), end.saturating_sub(1)),
-        _ => (one.min(other), one.max(other)),
-    }
-}
-
-fn compare_mark(comparison: &mut Comparison, record: &[u64], start: u64, end: u64) -> (u8, (Vec<u64>, u64)) {
-    comparison.same("mark", &[&bytes_of(record), &bytes_of(&[start, end])], |calls| {
-        let (mut record, mut missing) = (record.to_vec(), SENTINEL);
-        ((calls.mark)(&mut record, start, end, &mut missing), (record, missing))
-    })
-}
-
 #[test]
 fn marking() {
     let mut comparison = Comparison::new(26_000_000);
     comparison.rounds(ROUNDS, |comparison, random| {
         let size = some_size(random).min(u32::MAX.into());
         let record = inputs::some_record(random, size);
-        let (start, end) = range(random, &record);
-        compare_mark(comparison, &record, start, end);
+        let (start, end) = inputs::some_range(random, &record);
+        comparison.mark(&record, start, end);
     });
     comparison.assert_seen("mark", &[0, 6, 8]);
 }
@@ -366,10 +332,10 @@ fn marking_to_the_end() {
         for _ in 0..300 {
             let start = random.next() % size;
             let end = (start + 1 + random.next() % (size / 100 + 1)).min(size);
-            record = compare_mark(comparison, &record, start, end).1.0;
+            record = comparison.mark(&record, start, end).1.0;
         }
         while record[1] > 0 {
-            record = compare_mark(comparison, &record, record[2], record[3]).1.0;
+            record = comparison.mark(&record, record[2], record[3]).1.0;
         }
     });
     comparison.assert_seen("mark", &[0, 6]);

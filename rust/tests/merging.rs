@@ -8,7 +8,7 @@ mod inputs;
 mod plain;
 
 use archive::ARCHIVE;
-use comparison::{Comparison, Tally, written_into};
+use comparison::{Comparison, Tally, are_accepted, written_into};
 use ed2k::{GapRecord, Refusal};
 use inputs::{
     Fault, HashForm, PartPlan, Random, cases, comb, faulty_saves, lawful_saves, plain_files, saves_of_size,
@@ -22,11 +22,6 @@ fn compare(comparison: &mut Comparison, files: &[Vec<u8>; 3]) -> Result<Vec<u8>,
     let merged = comparison.of_three("merge", files, |calls| calls.merge);
     assert_eq!(ed2k::merge(opened, first, second).map_err(Refusal::number), merged);
     merged
-}
-
-/// Whether each file is accepted by itself.
-fn are_accepted(files: &[Vec<u8>; 3]) -> bool {
-    files.iter().all(|file| plain::read(PART_MET, file).is_ok())
 }
 
 /// Both orders of the saves: the answer to the given one. If each file is accepted by itself, the order changes nothing.

@@ -10,17 +10,13 @@ mod plain;
 use std::collections::BTreeMap;
 
 use archive::ARCHIVE;
-use comparison::{Comparison, Tally, written_into};
+use comparison::{Comparison, Tally, are_accepted, is_accepted, written_into};
 use ed2k::{Gap, GapRecord, Refusal};
 use inputs::{
     Fault, HashForm, PartPlan, Random, cases, comb, faulty_saves, plain_files, saves_of_size,
     stored_opened_new, three_alike,
 };
-use plain::{MET_CEILING, PART_MET, PLAIN};
-
-fn is_accepted(file: &[u8]) -> bool {
-    plain::read(PART_MET, file).is_ok()
-}
+use plain::{MET_CEILING, PLAIN};
 
 /// Both saves, the same on both sides and as the crate has them: what the one that merges writes, or its number. The strict one is
 /// refused as a conflict exactly where stored and opened differ and the new file is accepted. Where they are equal, both do the same.
@@ -52,14 +48,15 @@ enum Found {
     AnotherFile,
 }
 
-fn found([stored, opened, new]: &[Vec<u8>; 3]) -> Found {
+fn found(files: &[Vec<u8>; 3]) -> Found {
+    let [stored, opened, new] = files;
     if stored == opened {
         match is_accepted(stored) {
             true => Found::OpenedFile,
             false if stored.is_empty() => Found::Nothing,
             false => Found::OpenedBytes,
         }
-    } else if ![stored, opened, new].into_iter().all(|file| is_accepted(file)) {
+    } else if !are_accepted(files) {
         Found::Refused
     } else if stored == new {
         Found::NewFile

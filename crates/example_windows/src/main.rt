@@ -1,6 +1,7 @@
 // A model's first save is the strict one. Two windows of an editor open its part.met, mark different ranges and save: the first save is accepted,
 // and the second one is merged with it, so that both ranges have arrived. Had the second asked for the strict save, it would have been refused
-// as a conflict (11). Two windows that set the priority in two ways are in conflict by either save. Each step prints one line.
+// as a conflict (11). Had it been the first to save, the same file would be stored at the end. Two windows that set the priority in two ways are
+// in conflict by either save. Each step prints one line.
 use gaps::count_missing;
 use gaps::mark;
 use met::read_gaps;
@@ -118,6 +119,14 @@ fn show_same(a: &[u8], b: &[u8]) {
     }
 }
 
+fn show_order(one: &[u8], other: &[u8]) {
+    if same(one, other) {
+        io::write_all(1, b"in the other order the same file is stored\n");
+    } else {
+        io::write_all(1, b"in the other order another file is stored\n");
+    }
+}
+
 fn show_missing(file: &[u8]) {
     let read = read_gaps(file);
     say(
@@ -142,7 +151,11 @@ fn mark_in_two_windows(stored: &[u8]) {
     let refused = save_window_strictly(now, stored, yours, &mut after_second);
     say(b"bytes written by it: ", refused.length as u64);
     let merged = save_window(now, stored, yours, &mut after_second);
-    show_missing(bytes_at(&after_second, 0, merged.length));
+    let both = bytes_at(&after_second, 0, merged.length);
+    show_missing(both);
+    let mut in_other_order = [0; 128];
+    let exchanged = save_window(yours, stored, mine, &mut in_other_order);
+    show_order(both, bytes_at(&in_other_order, 0, exchanged.length));
 }
 
 // Two windows set its priority in two ways.

@@ -2,7 +2,7 @@
 use mathlib.Core.Path.{_≡_, refl, sym, ap, subst, _∙_}
 use mathlib.Core.Bool.{Bool, true, false, _&&_, not, cond, and-true}
 use mathlib.Core.List.{List, [], _∷_}
-use Prim.Native.Nat.{ℕ, _≤_}
+use Prim.Native.Nat.{ℕ, _≤_, _<_}
 use lib.ListN.{length}
 use lib.Dec.{leb, ltb}
 use borrow.Author.Tests.{leb-true, lt-leb, ltb-true}
@@ -63,31 +63,41 @@ written-back : WrittenBack
 written-back k m s output w hb e (refuses n j f) = absurd (f (judged-once k m j (read-judged k m s hb e)))
 written-back k m s output w hb e (tries j) = ap (λ l. writtenInto l output) (reads-writes k m s hb e)
 
--- What an accepted marking says: it was allowed, the gaps are what is left, and the number is their count.
+-- What an accepted marking says: the gap list was lawful and the range has a byte, the gaps are what is left, and the number is their count.
 module _ (limit size : ℕ) (gaps : List Gap) (r : Gap) where
   abbrev left : List Gap
   left = subtract gaps (r .start) (r .end)
 
-  abbrev Marked : List Gap → ℕ → Type 0
-  Marked l n = ((lawful limit size gaps && inside size (r .start) (r .end)) ≡ true) × ((length left ≤ gapLimit) × ((left ≡ l) × (count (missing left) size ≡ n)))
+  pub record Marked (after : List Gap) (n : ℕ) : Type 0 where
+    pub lawful : Lawful limit size gaps
+    pub order : r .start < r .end
+    pub few : length left ≤ gapLimit
+    pub remains : left ≡ after
+    pub counted : count (missing left) size ≡ n
 
-  leaves-marked : {l : List Gap} {n : ℕ} → oneMarking limit size gaps r ≡ leaves l n → Marked l n
+  pub leaves-marked : {l : List Gap} {n : ℕ} → oneMarking limit size gaps r ≡ leaves l n → Marked l n
   unfolding marking
   leaves-marked {l} {n} e = go (lawful limit size gaps && inside size (r .start) (r .end)) (leb (length left) gapLimit) refl refl e
     where
       go : (t u : Bool) → (lawful limit size gaps && inside size (r .start) (r .end)) ≡ t → leb (length left) gapLimit ≡ u →
           cond t (cond u (leaves left (count (missing left) size)) (rejected 6)) (rejected 8) ≡ leaves l n → Marked l n
-      go true true p q e = (p, (leb-true _ _ q, (cc, cc)))
+      go true true p q e =
+          let allowed = both-true (lawful limit size gaps) (inside size (r .start) (r .end)) p in
+          record {
+            lawful = lawful-exactly limit size gaps .0 (allowed .0);
+            order = ltb-true (r .start) (r .end) (both-true (ltb (r .start) (r .end)) (leb (r .end) size) (allowed .1) .0);
+            few = leb-true _ _ q;
+            remains = cc;
+            counted = cc;
+          }
       go true false p q e = differ cc
       go false u p q e = differ cc
 
 true-count : TrueCount
 true-count limit size gaps r l n e =
     let m = leaves-marked limit size gaps r e in
-    let allowed = both-true (lawful limit size gaps) (inside size (r .start) (r .end)) (m .0) in
-    let order = ltb-true (r .start) (r .end) (both-true (ltb (r .start) (r .end)) (leb (r .end) size) (allowed .1) .0) in
-    let lawful = subtract-lawful limit size gaps (r .start) (r .end) order (m .1 .0) (lawful-exactly limit size gaps .0 (allowed .0)) in
-    (subst (Lawful limit size) (m .1 .1 .0) lawful, sym (m .1 .1 .1) ∙ ap (λ l. count (missing l) size) (m .1 .1 .0))
+    let lawful = subtract-lawful limit size gaps (r .start) (r .end) (m .order) (m .few) (m .lawful) in
+    (subst (Lawful limit size) (m .remains) lawful, sym (m .counted) ∙ ap (λ l. count (missing l) size) (m .remains))
 
 -- One marking more at the front.
 one-before : (gaps : List Gap) (r : Gap) (limit size x : ℕ) (m : Marking) → oneMarking limit size gaps r ≡ m → (others : List Gap) (after : Bool) →
@@ -96,7 +106,7 @@ unfolding missing
 one-before gaps r limit size x (rejected n) e others after h = h
 one-before gaps r limit size x (leaves l n) e others after h =
     let m = leaves-marked limit size gaps r e in
-    let arrived : missing l x ≡ (missing gaps x && not (within (r .start) (r .end) x)) = ap (λ l. missing l x) (sym (m .1 .1 .0)) ∙ missing-subtract gaps (r .start) (r .end) x in
+    let arrived : missing l x ≡ (missing gaps x && not (within (r .start) (r .end) x)) = ap (λ l. missing l x) (sym (m .remains)) ∙ missing-subtract gaps (r .start) (r .end) x in
     h ∙ ap (λ t. t && not (missing others x)) arrived ∙ outside-both (missing gaps x) (within (r .start) (r .end) x) (missing others x)
 
 missing-at-end : MissingAtEnd

@@ -18,7 +18,9 @@ pub mod Cases
 pub mod Truth
 pub mod Writing
 pub mod Regapped
+pub mod Commutes
 pub mod Merging
 pub mod Saving
 pub mod RoundTrip
 pub mod Demands
+pub mod EitherOrder

@@ -135,7 +135,7 @@ module _ (stored opened new output : List ℕ) where
   conflict-merges w (mergesNew d m p x h) n = (d, ((m, p), h))
 
   -- over another file, of which the new bytes are a part.met, a save is the merge
-  save-merges : (w : Written) → Saves stored opened new output w → (stored ≡ opened → ⊥) → Accepted partMet new → Merges opened stored new output w
+  pub save-merges : (w : Written) → Saves stored opened new output w → (stored ≡ opened → ⊥) → Accepted partMet new → Merges opened stored new output w
   save-merges w (overOpened e) d a = absurd (d e)
   save-merges w (refusesNew c f p) d a = absurd (not-both (sym p ∙ a .1))
   save-merges w (mergesNew c m p x h) d a = h
@@ -164,6 +164,19 @@ strict-wrote stored opened new output n =
     let c = saves stored opened new output (decode partMet new) (same stored opened) (ap (λ (w : Written). w .number) (sym (strict-is stored opened new output)) ∙ n) in
     ((c .0, c .1 .1), strict-saved stored opened new output .1 (c .0, (same-true stored opened (c .1 .0), c .1 .1)))
 
+-- They are a part.met, and they are what is stored then.
+strict-stored : (stored opened new output : List ℕ) → saveStrict stored opened new output .number ≡ 0 →
+    Accepted partMet new × (take (saveStrict stored opened new output .length) (saveStrict stored opened new output .output) ≡ new)
+strict-stored stored opened new output n =
+    let c = strict-wrote stored opened new output n in (c .0 .0, rw (c .1) (take-append-seam new (drop (length new) output)))
+
+-- So it is of an accepted save over the file that was opened.
+pub over-opened-stored : (opened new output : List ℕ) (w : Written) → Saves opened opened new output w → w .number ≡ 0 →
+    Accepted partMet new × (take (w .length) (w .output) ≡ new)
+over-opened-stored opened new output w (overOpened e) n = strict-stored opened opened new output n
+over-opened-stored opened new output w (refusesNew d f p) n = absurd (d refl)
+over-opened-stored opened new output w (mergesNew d m p x h) n = absurd (d refl)
+
 pub save-accepts : SaveAccepts
 save-accepts stored opened new output w s = (there s, back s)
   where
@@ -182,10 +195,8 @@ save-accepts stored opened new output w s = (there s, back s)
 
 pub save-read-back : SaveReadBack
 save-read-back stored opened new output w bytes-s bytes-o bytes-n (overOpened e) n =
-    let c = strict-wrote stored opened new output n in
-    let wrote : take (saveStrict stored opened new output .length) (saveStrict stored opened new output .output) ≡ new =
-    rw (c .1) (take-append-seam new (drop (length new) output)) in
-    record { file = rw wrote (c .0 .0); theNew = λ q. wrote; theMerge = λ d. absurd (d e) }
+    let c = strict-stored stored opened new output n in
+    record { file = rw (c .1) (c .0); theNew = λ q. c .1; theMerge = λ d. absurd (d e) }
 save-read-back stored opened new output w bytes-s bytes-o bytes-n (refusesNew d f p) n = absurd (number-some (f .rule) n)
 save-read-back stored opened new output w bytes-s bytes-o bytes-n (mergesNew d m p x h) n =
     let back = merge-read-back opened stored new output x bytes-o bytes-s bytes-n h n in

@@ -18,3 +18,4 @@ pub mod PutGaps
 pub mod Merging
 pub mod Saving
 pub mod Demands
+pub mod EitherOrder

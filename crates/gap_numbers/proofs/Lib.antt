@@ -6,3 +6,4 @@ pub mod Loops
 pub mod Replaced
 pub mod Found
 pub mod Marks
+pub mod EitherOrder

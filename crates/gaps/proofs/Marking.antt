@@ -163,25 +163,23 @@ module _ (limit : ℕ) (g : GapRecord) (s e : ℕ) where
       go (too-many m many q) = rw q l
       go (barred f q) = rw q l
 
-  -- an accepted marking: its gaps, its missing bytes, its count
-  gaps-after : answer .number ≡ 0 → gapsOf (answer .after) ≡ rest
-  gaps-after h = go outcome
+  -- an accepted marking: its answer, its gaps, its missing bytes, its count
+  pub accepted-as : answer .number ≡ 0 → answer ≡ acceptance g rest (count (missing rest) (g .size))
+  accepted-as h = go outcome
     where
-      go : Outcome → gapsOf (answer .after) ≡ rest
-      go (accepted m few q) = rw q (gaps-of-record (g .size) rest)
+      go : Outcome → answer ≡ acceptance g rest (count (missing rest) (g .size))
+      go (accepted m few q) = q
       go (too-many m many q) = absurd (omega (arith, numbered q))
       go (barred f q) = absurd (omega (arith, numbered q))
+
+  pub gaps-after : answer .number ≡ 0 → gapsOf (answer .after) ≡ rest
+  gaps-after h = rw (accepted-as h) (gaps-of-record (g .size) rest)
 
   pub missing-after : answer .number ≡ 0 → (x : ℕ) → missing (gapsOf (answer .after)) x ≡ (missing (gapsOf g) x && not (within s e x))
   missing-after h x = rw (gaps-after h) (missing-subtract (gapsOf g) s e x)
 
   pub count-after : answer .number ≡ 0 → answer .missing ≡ count (missing (gapsOf (answer .after))) (g .size)
-  count-after h = go outcome
-    where
-      go : Outcome → answer .missing ≡ count (missing (gapsOf (answer .after))) (g .size)
-      go (accepted m few q) = rw (gaps-after h, q) refl
-      go (too-many m many q) = absurd (omega (arith, numbered q))
-      go (barred f q) = absurd (omega (arith, numbered q))
+  count-after h = rw (gaps-after h, accepted-as h) refl
 
 -- What a sequence of markings leaves
 

@@ -1,3 +1,4 @@
 pub mod GapRecords
 pub mod Marking
 pub mod MarkingSteps
+pub mod EitherOrder

@@ -3,3 +3,4 @@ pub mod Choosing
 pub mod Models
 pub mod Outcomes
 pub mod Answers
+pub mod EitherOrder

@@ -1,2 +1,3 @@
 pub mod Strict
 pub mod Saves
+pub mod EitherOrder

@@ -1,9 +1,13 @@
-// The worked cases of document 01 that are run and compared: each prints one line.
+// The worked cases of document 01 that are run and compared, and markings in both orders (02, No. 12): each prints one line.
 ghost use mathlib.Core.Path.{_≡_};
+ghost use Prim.Native.Nat.{_+_, _≤_, _<_};
 ghost use Rattle.format.specs.Gaps.{sizeLimit};
 ghost use Rattle.gaps.specs.Marking.{marked};
+ghost use Rattle.test_cases.specs.Orders.{MarkedInBothOrders};
+use gaps::Gap;
 use gaps::GapRecord;
 use gaps::MarkAnswer;
+use gaps::Marked;
 use gaps::all_missing;
 use gaps::mark;
 use gaps::mark_in_place;
@@ -167,6 +171,159 @@ fn show_lent() {
     show_same(full, mark_lent(full, 3, 4));
 }
 
+// Two markings in each order: the number of the first one, and the answer of the last one.
+struct Markings {
+    first: u8,
+    one: Marked,
+    second: u8,
+    other: Marked,
+}
+
+fn mark_both(given: GapRecord, first: Gap, second: Gap) -> Markings
+    ensures { λ r. ⌜ MarkedInBothOrders given first second r ⌝ }
+{
+    let a = mark(given, first.start, first.end);
+    let one = mark(a.after, second.start, second.end);
+    let b = mark(given, second.start, second.end);
+    let other = mark(b.after, first.start, first.end);
+    Markings {
+        first: a.number,
+        one,
+        second: b.number,
+        other,
+    }
+}
+
+// What came of a pair of ranges: a call was refused, or none was, and the last answers are equal or differ.
+enum Pair {
+    Refused,
+    Equal,
+    Differs,
+}
+
+fn compare_answers(one: Marked, other: Marked) -> Pair {
+    if one.missing != other.missing {
+        return Pair::Differs;
+    }
+    if is_same(one.after, other.after) {
+        return Pair::Equal;
+    }
+    Pair::Differs
+}
+
+fn compare_orders(given: GapRecord, first: Gap, second: Gap) -> Pair {
+    let both = mark_both(given, first, second);
+    let one = both.one;
+    let other = both.other;
+    if both.first != 0 || one.number != 0 || both.second != 0 || other.number != 0 {
+        return Pair::Refused;
+    }
+    compare_answers(one, other)
+}
+
+// Numbers that look random: each is made of the one before it.
+fn next_random(random: u64) -> u64
+    ensures { λ r. ⌜ r < 2147483648 ⌝ }
+{
+    (random % 2147483648 * 1103515245 + 12345) % 2147483648
+}
+
+// A range that begins in a file of 640 bytes; the end of some lies past that of the file, and they are refused.
+fn random_range(random: u64, length: u64) -> Gap
+    requires { ⌜ length ≤ 640 ⌝ }
+{
+    let start = random / 1024 % 640;
+    Gap {
+        start,
+        end: start + length,
+    }
+}
+
+// Marks a range of up to three bytes. One that would leave too many gaps is refused.
+fn mark_random(given: GapRecord, random: u64) -> GapRecord {
+    let range = random_range(random, random / 512 % 3 + 1);
+    let marked = mark(given, range.start, range.end);
+    marked.after
+}
+
+// A file of 640 bytes of which up to 128 such ranges have arrived.
+fn random_record(random: u64) -> GapRecord {
+    let mut record = all_missing(640);
+    let mut left = random / 1024 % 129;
+    let mut next = random;
+    while 0 < left {
+        next = next_random(next);
+        record = mark_random(record, next);
+        left -= 1;
+    }
+    record
+}
+
+fn random_pair(random: u64) -> Pair {
+    let one = next_random(random);
+    let other = next_random(one);
+    let first = random_range(one, one / 512 % 40 + 1);
+    let second = random_range(other, other / 512 % 40 + 1);
+    compare_orders(random_record(other), first, second)
+}
+
+// How many pairs were marked with no refusal in either order, and how many of them left the same record and the same count.
+struct Tally {
+    accepted: u64,
+    equal: u64,
+}
+
+fn add_pair(tally: Tally, pair: Pair) -> Tally
+    requires { ⌜ (tally .accepted < 5000) × (tally .equal < 5000) ⌝ }
+    ensures { λ r. ⌜ (r .accepted ≤ tally .accepted + 1) × (r .equal ≤ tally .equal + 1) ⌝ }
+{
+    let accepted = tally.accepted;
+    let equal = tally.equal;
+    match pair {
+        Pair::Refused => Tally { accepted, equal },
+        Pair::Equal => Tally {
+            accepted: accepted + 1,
+            equal: equal + 1,
+        },
+        Pair::Differs => Tally {
+            accepted: accepted + 1,
+            equal,
+        },
+    }
+}
+
+// Ranges and records that are drawn at random.
+fn show_pairs() {
+    let mut tally = Tally {
+        accepted: 0,
+        equal: 0,
+    };
+    let mut random = 1;
+    let mut pairs = 0;
+    while pairs < 5000 {
+        random = next_random(random);
+        tally = add_pair(tally, random_pair(random));
+        pairs += 1;
+    }
+    say(b"pairs of ranges ", pairs);
+    say(b"pairs with no refusal in either order ", tally.accepted);
+    say(b"pairs that leave the same in either order ", tally.equal);
+}
+
+// In place too: the second order leaves the record of the first.
+fn show_lent_orders() {
+    let whole = all_missing(100);
+    let one = mark_lent(mark_lent(whole, 10, 30), 20, 50);
+    show_same(one, mark_lent(mark_lent(whole, 20, 50), 10, 30));
+}
+
+// Why no call may be refused: at 64 gaps the first range makes one too many, unless the second has taken a whole gap away before.
+fn show_refused_order() {
+    let full = many_gaps();
+    let one = show_mark(show_mark(full, 3, 4), 10, 19);
+    show_same(one, show_mark(show_mark(full, 10, 19), 3, 4));
+}
+
 // How many part hashes and block hashes a file of a size has.
 fn show_size(size: u32) {
     io::write_all(1, b"size ");
@@ -195,4 +352,7 @@ fn main() {
     show_gap(first, 0);
     show_mark(first, 0, 100);
     show_lent();
+    show_lent_orders();
+    show_refused_order();
+    show_pairs();
 }

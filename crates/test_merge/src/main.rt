@@ -1,7 +1,8 @@
 // Cases of a merge and of a save that merges, answers of an independent reading. A line of merges.txt is the number, the room of the output, the
 // bytes of the opened file, of the first save and of the second, and those of the outcome; one of saves.txt has the bytes of the stored file, of
 // the opened one and the new bytes there. Each prints a line: the number, the length, and whether the output holds the outcome at its front and
-// is untouched after it.
+// is untouched after it. At the end the merges come once more, with the two saves exchanged (02, No. 12): the lines are those of the first time
+// but where both saves are refused, each with a number of its own.
 ghost use Prim.Native.Nat.{_≤_, _<_};
 use console::field_end;
 use console::read_all;
@@ -62,6 +63,7 @@ fn is_as_told(output: &[u8], outcome: &[u8]) -> bool {
 enum Call {
     Merge,
     Save,
+    MergeExchanged,
 }
 
 // Calls with the three files of a case, in the order of its line.
@@ -75,6 +77,7 @@ fn answer_of(
     match call {
         Call::Merge => merge(first, second, third, output),
         Call::Save => save(first, second, third, output),
+        Call::MergeExchanged => merge(first, third, second, output),
     }
 }
 
@@ -190,4 +193,5 @@ fn print_file(call: Call, name: &[u8]) {
 fn main() {
     print_file(Call::Merge, b"merges.txt");
     print_file(Call::Save, b"saves.txt");
+    print_file(Call::MergeExchanged, b"merges.txt");
 }

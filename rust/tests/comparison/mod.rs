@@ -10,7 +10,7 @@ use std::fmt::Debug;
 
 use crate::archive::ARCHIVE;
 use crate::inputs::{Case, Random};
-use crate::plain::{Calls, FIELDS, OfThree, PLAIN};
+use crate::plain::{Calls, FIELDS, OfThree, PART_MET, PLAIN};
 
 const SENTINEL: u64 = 0xFEED_FACE_CAFE;
 const FILL: u8 = 0xA5;
@@ -136,16 +136,36 @@ impl Comparison {
         })
     }
 
+    /// A call on three files in exactly so much room: what it leaves.
+    pub fn in_room(
+        &mut self,
+        call: &'static str,
+        files: [&[u8]; 3],
+        room: usize,
+        choose: fn(&Calls) -> OfThree,
+    ) -> Left {
+        let [one, two, three] = files;
+        self.same(call, &files, |calls| {
+            left(room, |output, written| choose(calls)(one, two, three, output, written))
+        })
+    }
+
     /// A case of an independent reading, in exactly its room: number, length and the whole output are as told.
     pub fn case(&mut self, call: &'static str, case: &Case, choose: fn(&Calls) -> OfThree) {
-        let [one, two, three] = &case.files;
-        let (number, (length, output)) = self.same(call, &[one, two, three], |calls| {
-            left(case.room, |output, written| choose(calls)(one, two, three, output, written))
-        });
+        let files = case.files.each_ref().map(Vec::as_slice);
+        let (number, (length, output)) = self.in_room(call, files, case.room, choose);
         let mut told = case.output.clone();
         told.resize(case.room, FILL);
         let is_as_told = number == case.number && length == case.output.len() && output == told;
         assert!(is_as_told, "{call}, line {}: number {number}, length {length}", case.line);
+    }
+
+    /// A marking over lent numbers: its number, all of these numbers as it leaves them, and how many bytes it says are missing.
+    pub fn mark(&mut self, record: &[u64], start: u64, end: u64) -> (u8, (Vec<u64>, u64)) {
+        self.same("mark", &[&bytes_of(record), &bytes_of(&[start, end])], |calls| {
+            let (mut record, mut missing) = (record.to_vec(), SENTINEL);
+            ((calls.mark)(&mut record, start, end, &mut missing), (record, missing))
+        })
     }
 
     /// How often the call answered which number.
@@ -162,8 +182,10 @@ impl Comparison {
     }
 }
 
-/// What a call that writes leaves in so much room: its number, the length and the whole output.
-fn left(room: usize, run: impl FnOnce(&mut [u8], &mut usize) -> u8) -> (u8, (usize, Vec<u8>)) {
+/// What a call that writes leaves: its number, the length and the whole output.
+pub type Left = (u8, (usize, Vec<u8>));
+
+fn left(room: usize, run: impl FnOnce(&mut [u8], &mut usize) -> u8) -> Left {
     let (mut output, mut written) = (vec![FILL; room], SENTINEL as usize);
     let number = run(&mut output, &mut written);
     (number, (written, output))
@@ -178,6 +200,21 @@ pub fn written_into(call: OfThree, room: usize, [one, two, three]: [&[u8]; 3]) -
     assert!(output[written..].iter().all(|byte| *byte == FILL), "number {number}: what is after the outcome");
     output.truncate(written);
     (number, output)
+}
+
+/// Whether a file is accepted as a part.met.
+pub fn is_accepted(file: &[u8]) -> bool {
+    (PLAIN.read)(PART_MET, file, &mut [0; FIELDS]) == 0
+}
+
+/// Whether each of the files is accepted by itself.
+pub fn are_accepted(files: &[Vec<u8>; 3]) -> bool {
+    files.iter().all(|file| is_accepted(file))
+}
+
+/// Numbers, to be shown where a call on them differs.
+pub fn bytes_of(numbers: &[u64]) -> Vec<u8> {
+    numbers.iter().flat_map(|number| number.to_le_bytes()).collect()
 }
 
 impl Drop for Comparison {

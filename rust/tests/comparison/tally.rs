@@ -5,7 +5,11 @@ pub struct Tally(pub [u64; 13]);
 
 impl Tally {
     pub fn count(&mut self, answer: &Result<Vec<u8>, u8>) {
-        self.0[usize::from(answer.as_ref().err().copied().unwrap_or(0))] += 1;
+        self.count_number(answer.as_ref().err().copied().unwrap_or(0));
+    }
+
+    pub fn count_number(&mut self, number: u8) {
+        self.0[usize::from(number)] += 1;
     }
 
     pub fn total(&self) -> u64 {

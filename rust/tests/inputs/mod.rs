@@ -8,6 +8,7 @@ mod grown;
 mod made;
 mod messages;
 mod met;
+mod ranges;
 mod saves;
 
 pub use cases::{Case, cases};
@@ -17,6 +18,7 @@ pub use grown::{LONG_PART_SIZE, client_known_met, grown, long_part_met};
 pub use made::*;
 pub use messages::*;
 pub use met::*;
+pub use ranges::*;
 pub use saves::*;
 
 /// SplitMix64.

@@ -39,6 +39,9 @@ shown with its three values. A stock client changes its tag 23 at every save:
 two saves of a running client are such a conflict. Files with different file
 hashes or sizes are strangers (12). After a refusal nothing is written.
 
+If each of the three files is accepted by itself, FIRST and SECOND may change
+places: OUT gets the same bytes, or the merge is refused with the same number.
+
 OUT is a file that is not there yet, or one with the bytes of OLD, FIRST or
 SECOND. Any other file that is there is left alone.
 

@@ -25,7 +25,10 @@ If STORED is still that file, byte for byte, it becomes NEW. If somebody has
 saved it since, it becomes the merge of what is stored and NEW, as 'ed2k merge'
 makes it with STORED as FIRST and NEW as SECOND, and so has what both brought.
 The first word that is printed says which it was, 'saved' or 'merged'. Of a
-merge it is said what each of the two brought, and what is missing now.
+merge it is said what each of the two brought, and what is missing now. If two
+windows changed the part.met that both opened, it does not matter which of them
+saves first: STORED has the same bytes in the end, or the one that saves second
+is refused with the same number.
 
 If both changed the hashes or the tags in different ways, the save is refused as
 a conflict (11), and every change is shown with its three values. A stock client
