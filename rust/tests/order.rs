@@ -51,12 +51,20 @@ fn every_save_case_with_the_windows_exchanged() {
     for case in cases(include_str!("../../crates/test_merge/data/saves.txt")) {
         let [given, exchanged] = in_both_orders(&mut comparison, &case, [2, 1, 0], |calls| calls.save);
         let [stored, opened, new] = &case.files;
-        if stored != opened && new != opened && are_accepted(&case.files) {
+        if stored == opened || !are_accepted(&case.files) {
+            continue;
+        }
+        let merged = comparison.in_room("merge", [opened, new, stored], case.room, |calls| calls.merge);
+        assert!(given == merged, "line {}: {} and {}", case.line, given.0, merged.0);
+        if new != opened {
             assert!(given == exchanged, "line {}: {} and {}", case.line, given.0, exchanged.0);
             tally.count_number(given.0);
         }
     }
+    let merges: u64 = comparison.counts("merge").iter().sum();
+    println!("{merges} cases of a changed file");
     println!("{} cases of two changed files, by number: {:?}", tally.total(), tally.0);
+    assert_eq!(merges, 102);
     assert_eq!(comparison.counts("given").iter().sum::<u64>(), 400);
     assert_eq!(tally.total(), 89);
     assert_eq!(tally.0, [23, 0, 0, 0, 0, 0, 1, 0, 0, 0, 17, 14, 34]);

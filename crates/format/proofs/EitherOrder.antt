@@ -7,7 +7,7 @@ use Rattle.format.specs.Messages.{partMet}
 use Rattle.format.specs.Gaps.{Gap, count, missing, subtract}
 use Rattle.format.specs.Writing.{Written}
 use Rattle.format.specs.Demands.{Accepted}
-use Rattle.format.specs.EitherOrder.{EitherOrder, MarkEitherOrder, MarkedInTurn, MergeEitherOrder, SaveEitherOrder, SavedInTurn, TwoWindows}
+use Rattle.format.specs.EitherOrder.{EitherOrder, MarkEitherOrder, MarkedInTurn, MergeEitherOrder, SaveEitherOrder, SaveExchanged, SavedInTurn, TwoWindows}
 use Rattle.format.specs.Saving.{Saves}
 use Rattle.format.proofs.Demands.{leaves-marked}
 use Rattle.format.proofs.Commutes.{merge-exchanged, merge-one-refused}
@@ -19,9 +19,13 @@ merge-either-order : MergeEitherOrder
 merge-either-order opened first second output v w h m n =
     merge-once opened second first output v w (merge-exchanged opened first second output v h m) n
 
+save-exchanged : SaveExchanged
+save-exchanged stored opened new output w h d s =
+    merge-exchanged opened stored new output w h (save-merges stored opened new output w s d (h .1 .1))
+
 save-either-order : SaveEitherOrder
 save-either-order stored opened new output v w h d e s t =
-    merge-either-order opened stored new output v w h (save-merges stored opened new output v s d (h .1 .1)) (save-merges new opened stored output w t e (h .1 .0))
+    merge-once opened new stored output v w (save-exchanged stored opened new output v h d s) (save-merges new opened stored output w t e (h .1 .0))
 
 -- What the first window saved is a part.met, and the second window finds it stored.
 first-stored : {opened first second output : List ℕ} {w : Written} → SavedInTurn opened first second output w →
@@ -57,6 +61,7 @@ either-order-holds = record {
   mergeExchanged = merge-exchanged;
   mergeOneRefused = merge-one-refused;
   mergeEitherOrder = merge-either-order;
+  saveExchanged = save-exchanged;
   saveEitherOrder = save-either-order;
   twoWindows = two-windows;
   markEitherOrder = mark-either-order;

@@ -34,7 +34,13 @@ MergeEitherOrder =
     (opened first second output : List ℕ) (v w : Written) → AllAccepted opened first second →
     Merges opened first second output v → Merges opened second first output w → v ≡ w
 
--- The save, where both windows changed the file that they opened: the stored file and the new bytes may change places.
+-- Over another file than the one opened, a save is the merge with either of the two as the first save.
+abbrev pub SaveExchanged : Type 0
+SaveExchanged =
+    (stored opened new output : List ℕ) (w : Written) → AllAccepted opened stored new → (stored ≡ opened → ⊥) →
+    Saves stored opened new output w → Merges opened new stored output w
+
+-- So where both windows changed the file that they opened, the stored file and the new bytes may change places.
 abbrev pub SaveEitherOrder : Type 0
 SaveEitherOrder =
     (stored opened new output : List ℕ) (v w : Written) → AllAccepted opened stored new → (stored ≡ opened → ⊥) → (new ≡ opened → ⊥) →
@@ -73,6 +79,7 @@ pub record EitherOrder : Type 0 where
   pub mergeExchanged : MergeExchanged
   pub mergeOneRefused : MergeOneRefused
   pub mergeEitherOrder : MergeEitherOrder
+  pub saveExchanged : SaveExchanged
   pub saveEitherOrder : SaveEitherOrder
   pub twoWindows : TwoWindows
   pub markEitherOrder : MarkEitherOrder
