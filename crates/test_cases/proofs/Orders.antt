@@ -17,8 +17,8 @@ in-turn : (g : GapRecord) (r q : Gap) (a b : Marked) → a ≡ markedOne g r →
 in-turn g r q a b h k x y = record { answerBetween = answerOf a; between = a .after; one = h; oneAccepted = x; other = k; otherAccepted = y }
 
 -- An answer by its parts
-same-marked : (a b : Marked) → answerOf a ≡ answerOf b → a .after ≡ b .after → a ≡ b
-same-marked a b e f =
+marked-by-parts : (a b : Marked) → answerOf a ≡ answerOf b → a .after ≡ b .after → a ≡ b
+marked-by-parts a b e f =
     ap (λ (x : MarkAnswer). record { number = x .number; missing = x .missing; after = a .after }) e
     ∙ ap (λ (g : GapRecord). record { number = b .number; missing = b .missing; after = g }) f
 
@@ -32,5 +32,5 @@ marked-both g r q a one b other h k i j = record {
       λ x y z w. let same =
       by-value sizeLimit g (gapOf r) (gapOf q) (answerOf one) (answerOf other) (one .after) (other .after)
       (in-turn g r q a one h k x y) (in-turn g q r b other i j z w) in
-      same-marked one other (same .0) (same .1);
+      marked-by-parts one other (same .0) (same .1);
 }

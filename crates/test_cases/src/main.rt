@@ -3,7 +3,7 @@ ghost use mathlib.Core.Path.{_≡_};
 ghost use Prim.Native.Nat.{_+_, _≤_, _<_};
 ghost use Rattle.format.specs.Gaps.{sizeLimit};
 ghost use Rattle.gaps.specs.Marking.{marked};
-ghost use Rattle.test_cases.specs.Orders.{MarkedInBothOrders};
+ghost use Rattle.test_cases.specs.Orders.{MarkedInBothOrders, tallied};
 use gaps::Gap;
 use gaps::GapRecord;
 use gaps::MarkAnswer;
@@ -221,18 +221,26 @@ fn compare_orders(given: GapRecord, first: Gap, second: Gap) -> Pair {
     compare_answers(one, other)
 }
 
-// Numbers that look random: each is made of the one before it.
+// Numbers that look random lie below this one.
+const RANDOM_END: u64 = 2147483648;
+
+// The size of the files whose ranges and gaps are drawn, and how many pairs of ranges are.
+const DRAWN_SIZE: u64 = 640;
+
+const PAIRS: u64 = 5000;
+
+// Each number is made of the one before it. The lowest bits of such numbers repeat soon, so those that draw take the others.
 fn next_random(random: u64) -> u64
     ensures { λ r. ⌜ r < 2147483648 ⌝ }
 {
-    (random % 2147483648 * 1103515245 + 12345) % 2147483648
+    (random % RANDOM_END * 1103515245 + 12345) % RANDOM_END
 }
 
-// A range that begins in a file of 640 bytes; the end of some lies past that of the file, and they are refused.
+// A range that begins in the file; the end of some lies past that of the file, and they are refused.
 fn random_range(random: u64, length: u64) -> Gap
     requires { ⌜ length ≤ 640 ⌝ }
 {
-    let start = random / 1024 % 640;
+    let start = random / 1024 % DRAWN_SIZE;
     Gap {
         start,
         end: start + length,
@@ -246,9 +254,9 @@ fn mark_random(given: GapRecord, random: u64) -> GapRecord {
     marked.after
 }
 
-// A file of 640 bytes of which up to 128 such ranges have arrived.
+// A file of which up to 128 such ranges have arrived.
 fn random_record(random: u64) -> GapRecord {
-    let mut record = all_missing(640);
+    let mut record = all_missing(DRAWN_SIZE);
     let mut left = random / 1024 % 129;
     let mut next = random;
     while 0 < left {
@@ -275,7 +283,7 @@ struct Tally {
 
 fn add_pair(tally: Tally, pair: Pair) -> Tally
     requires { ⌜ (tally .accepted < 5000) × (tally .equal < 5000) ⌝ }
-    ensures { λ r. ⌜ (r .accepted ≤ tally .accepted + 1) × (r .equal ≤ tally .equal + 1) ⌝ }
+    ensures { λ r. ⌜ (r ≡ tallied tally pair) × (r .accepted ≤ tally .accepted + 1) × (r .equal ≤ tally .equal + 1) ⌝ }
 {
     let accepted = tally.accepted;
     let equal = tally.equal;
@@ -300,7 +308,7 @@ fn show_pairs() {
     };
     let mut random = 1;
     let mut pairs = 0;
-    while pairs < 5000 {
+    while pairs < PAIRS {
         random = next_random(random);
         tally = add_pair(tally, random_pair(random));
         pairs += 1;
