@@ -1,6 +1,9 @@
 // The bodies of packets: a reader for each shape that a body can have.
 //
 // Numbers are returned as numbers, and texts, hashes, lists and data as places in the lent bytes.
+
+#![tactic(auto)]
+
 ghost use Rattle.std.specs.Prelude.{◌≡◌};
 ghost use Rattle.format.specs.PacketOrder.{decode_body};
 ghost use Rattle.bodies.specs.BodyAnswers.{shape_of, body_meaning, BodyStepPlaced};
@@ -26,7 +29,7 @@ pub use ranges::read_triple;
 pub use status::read_bits;
 
 // What a body holds.
-#[derive(Drop)]
+#[derive(Clone, Copy)]
 pub enum Shape {
     Nothing,
     Query,
@@ -54,7 +57,7 @@ pub enum Shape {
     Status,
 }
 
-#[derive(Drop)]
+#[derive(Clone, Copy)]
 pub struct Triple {
     pub first: u32,
     pub second: u32,
@@ -62,7 +65,7 @@ pub struct Triple {
 }
 
 // 46: `data` are the bytes of the file from `start` up to `end`.
-#[derive(Drop)]
+#[derive(Clone, Copy)]
 pub struct SendingPart {
     pub hash: usize,
     pub start: u32,
@@ -71,7 +74,7 @@ pub struct SendingPart {
 }
 
 // 47: three ranges of a file.
-#[derive(Drop)]
+#[derive(Clone, Copy)]
 pub struct RequestParts {
     pub hash: usize,
     pub starts: Triple,
@@ -79,7 +82,7 @@ pub struct RequestParts {
 }
 
 // 50: part p is held if bit p % 8 of the byte at `bits` + p / 8 is set. A writer may be given more parts than a WORD can count.
-#[derive(Drop)]
+#[derive(Clone, Copy)]
 pub struct FileStatus {
     pub hash: usize,
     pub parts: usize,
@@ -87,20 +90,20 @@ pub struct FileStatus {
 }
 
 // 96 in its two forms, which are the same DWORD.
-#[derive(Drop)]
+#[derive(Clone, Copy)]
 pub enum Form {
     Plain,
     Extended,
 }
 
-#[derive(Drop)]
+#[derive(Clone, Copy)]
 pub struct StatusRequest {
     pub form: Form,
     pub number: u32,
 }
 
 // 97 in its longer form.
-#[derive(Drop)]
+#[derive(Clone, Copy)]
 pub struct ExtendedStatus {
     pub first: u8,
     pub second: u8,
@@ -108,7 +111,7 @@ pub struct ExtendedStatus {
 }
 
 // The values of a body. A hash is the place of its 16 bytes.
-#[derive(Drop)]
+#[derive(Clone, Copy)]
 pub enum Body {
     Nothing,
     Query(Query),
@@ -137,38 +140,38 @@ pub enum Body {
     ExtendedStatus(ExtendedStatus),
 }
 
-#[derive(Drop)]
+#[derive(Clone, Copy)]
 pub enum BodyStep {
     Got(Body, Cursor),
     Refused(Fault),
 }
 
-#[derive(Drop)]
+#[derive(Clone, Copy)]
 pub enum RangeStep {
     Got(u32, u32, Cursor),
     Refused(Fault),
 }
 
-#[derive(Drop)]
+#[derive(Clone, Copy)]
 pub enum TripleStep {
     Got(Triple, Cursor),
     Refused(Fault),
 }
 
-#[derive(Drop)]
+#[derive(Clone, Copy)]
 pub enum RangesStep {
     Got(Triple, Triple, Cursor),
     Refused(Fault),
 }
 
-#[derive(Drop)]
+#[derive(Clone, Copy)]
 pub enum ExtendedStatusStep {
     Got(ExtendedStatus, Cursor),
     Refused(Fault),
 }
 
 // The place of the bytes that hold the status bits.
-#[derive(Drop)]
+#[derive(Clone, Copy)]
 pub enum BitsStep {
     Got(usize, Cursor),
     Refused(Fault),

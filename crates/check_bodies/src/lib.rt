@@ -1,5 +1,8 @@
 // What has to be known of a body before a byte of it is written. Bodies are given as the readers return them: numbers, and offsets
 // in lent bytes. What is encoded at an offset is read again, whoever made the body.
+
+#![tactic(auto)]
+
 ghost use Rattle.std.specs.Prelude.{◌≡◌, ◌+◌, length};
 ghost use Rattle.format.specs.Bits.{spec_packed_bytes};
 ghost use Rattle.format.specs.Layout.{encode_address, encode_all, encode_hash, encode_query, encode_record, encode_string, encode_tag};
@@ -36,7 +39,7 @@ const EXTENDED_MARK: u32 = 0x5AAA;
 
 // What check_body finds: the number of a refusal that comes before the byte ceiling, or 0; the size of the body's bytes; the
 // offset after its list or query; and the number of the rule that its values break, which comes after the byte ceiling.
-#[derive(Drop)]
+#[derive(Clone, Copy)]
 pub struct BodyCheck {
     pub number: u8,
     pub size: usize,
@@ -46,7 +49,7 @@ pub struct BodyCheck {
 
 // How far a part of a body extends: the number of an offset at which it is not encoded; that the part is too long for its count
 // field; or its size and the offset after its list or query.
-#[derive(Drop)]
+#[derive(Clone, Copy)]
 enum Extent {
     Absent(u8),
     TooLong,

@@ -2,6 +2,9 @@
 // the line for some bytes.
 //
 // No contract can say what is read or written, so these say how much was read at most, and those that print say nothing.
+
+#![tactic(auto)]
+
 ghost use Rattle.std.specs.Prelude.{◌+◌, ◌≤◌, ◌<◌, length};
 
 use libc::STDOUT_FILENO;
@@ -40,7 +43,7 @@ fn read_front(fd: i32, out: &mut [u8], n: usize) -> bool {
 }
 
 // An input of a file: a letter for its kind, and how many bytes it has.
-#[derive(Drop)]
+#[derive(Clone, Copy)]
 pub enum Input {
     Of(u8, usize),
     End,

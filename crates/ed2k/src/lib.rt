@@ -2,6 +2,9 @@
 //
 // A call hands on to the crate that does the work, and puts the answer into what C lent: numbers into `fields` or `gaps`, a length
 // into `written`. A refused call leaves the numbers as they were, and 0 as the length, the count or the truth.
+
+#![tactic(auto)]
+
 ghost use Rattle.std.specs.Prelude.{◌≡◌, ◌≤◌, length};
 ghost use Rattle.format.specs.Writing.{overwritten};
 ghost use Rattle.ed2k.specs.Calls.{numbered, handed_out};
@@ -33,7 +36,7 @@ pub use reasons::ed2k_why;
 pub use write::ed2k_write;
 
 // A packet whose numbers are handed out: the one that bytes are on a link, or one that numbers were given for.
-#[derive(Drop)]
+#[derive(Clone, Copy)]
 enum PacketSource {
     Read(Link),
     Given(Packet),

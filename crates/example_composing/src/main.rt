@@ -1,5 +1,8 @@
 // Composes an offer of two files and a search for one of them from nothing: tags are written one by one after a hash into a scratch
 // buffer, the records over these into a second one, and the packet over the records. Then all is read back, and each step prints one line.
+
+#![tactic(auto)]
+
 ghost use Rattle.std.specs.Prelude.{◌≤◌, length};
 
 use bodies::Body;

@@ -2,6 +2,9 @@
 // and the second one is merged with it, so that both ranges have arrived. Had the second asked for the strict save, it would have been refused
 // as a conflict (11). Had it been the first to save, the same file would be stored at the end. Two windows that set the priority in two ways are
 // in conflict by either save. Each step prints one line.
+
+#![tactic(auto)]
+
 use gaps::{count_missing, mark};
 use met::read_gaps;
 use output::{WriteAnswer, same};

@@ -2,6 +2,9 @@
 // over what is to be written. Numbers that a message does not use are 0.
 //
 // specs/Fields.antt says which numbers a message has, specs/Given.antt which message numbers would be those of.
+
+#![tactic(auto)]
+
 ghost use Rattle.std.specs.Prelude.{◌≡◌, take};
 ghost use Rattle.format.specs.Tables.{same};
 

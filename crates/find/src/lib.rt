@@ -9,6 +9,9 @@
 // compared at each offset, which is not linear: no String has one.
 //
 // specs/Shifts.antt says what the table holds.
+
+#![tactic(auto)]
+
 ghost use Rattle.std.specs.Prelude.{◌≡◌, ◌↔◌, min, ◌+◌, ◌-◌, ◌*◌, ◌≤◌, ◌<◌, eqb, length};
 ghost use Rattle.format.specs.Tables.{pick};
 ghost use Rattle.format.specs.Truth.{occurs};
@@ -146,7 +149,7 @@ fn search_each(text: &[u8], part: &[u8]) -> bool
 }
 
 // How far the part is moved after a mismatch, and how many of its bytes are known to agree there.
-#[derive(Drop)]
+#[derive(Clone, Copy)]
 struct Move {
     shift: usize,
     kept: usize,

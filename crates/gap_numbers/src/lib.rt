@@ -1,6 +1,9 @@
 // A gap record that is lent as numbers: the size, how many gaps, 64 pairs of start and end. It is judged and marked without making the
 // record: the answers are those of the crate gaps for it. A record made there is put into numbers, and so are the gaps that part_tags
 // finds in a part.met.
+
+#![tactic(auto)]
+
 ghost use Rattle.std.specs.Prelude.{◌≡◌, [], ◌∷◌, ◌+◌, ◌-◌, ◌*◌, ◌≤◌, ◌<◌, min, max, length, get_or};
 ghost use Rattle.format.specs.Gaps.{gap, follows, between, total, subtract, size_limit, gap_limit};
 ghost use Rattle.format.specs.Writing.{overwritten};
@@ -18,7 +21,7 @@ use part_tags::gap_at;
 pub const GAP_NUMBERS: usize = 130;
 
 // Whether a record is lawful, and how many bytes it misses: 0 for one that is not lawful.
-#[derive(Drop)]
+#[derive(Clone, Copy)]
 pub struct Judged {
     pub lawful: bool,
     pub missing: u64,
@@ -26,7 +29,7 @@ pub struct Judged {
 
 // The gaps that a range touches: those from `first` up to `next`. They begin at `low` and end at `high` (or the range does, where there
 // are none), and without its bytes `missing` bytes are missing in all.
-#[derive(Drop)]
+#[derive(Clone, Copy)]
 struct Touched {
     first: usize,
     next: usize,

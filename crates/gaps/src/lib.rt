@@ -1,5 +1,8 @@
 // Gap records by value: making them, judging them, counting the missing bytes, and marking bytes that have arrived.
 // What each function answers is said in specs/GapRecords.antt and specs/Marking.antt; private steps cite specs/MarkingSteps.antt.
+
+#![tactic(auto)]
+
 ghost use Rattle.std.specs.Prelude.{◌≡◌, ◌≤◌, min, max};
 ghost use Rattle.format.specs.Gaps.{Ordered, total, follows, size_limit};
 ghost use Rattle.gaps.specs.GapRecords.{gap_of, gaps_of, spec_none_missing, spec_all_missing, lawful_record, missing_count};
@@ -15,14 +18,14 @@ pub const SIZE_LIMIT: u64 = 4294967295;
 pub const GAP_LIMIT: usize = 64;
 
 // The missing bytes from `start` up to `end`, `end` not included.
-#[derive(Drop)]
+#[derive(Clone, Copy)]
 pub struct Gap {
     pub start: u64,
     pub end: u64,
 }
 
 // The first `count` places hold the gaps. In every record made here the others hold 0; in a record given they are not checked.
-#[derive(Drop)]
+#[derive(Clone, Copy)]
 pub struct GapRecord {
     pub size: u64,
     pub count: usize,
@@ -31,7 +34,7 @@ pub struct GapRecord {
 
 // The answer to a marking: 0 or the number of the refusal, how many bytes are still missing (0 on a refusal), and the
 // record afterwards (on a refusal the one given).
-#[derive(Drop)]
+#[derive(Clone, Copy)]
 pub struct Marked {
     pub number: u8,
     pub missing: u64,
@@ -39,14 +42,14 @@ pub struct Marked {
 }
 
 // The answer to a marking in place: the record afterwards is the one that was lent.
-#[derive(Drop)]
+#[derive(Clone, Copy)]
 pub struct MarkAnswer {
     pub number: u8,
     pub missing: u64,
 }
 
 // A record after a gap was added to it; or the record before, and `full`, where all 64 places were taken.
-#[derive(Drop)]
+#[derive(Clone, Copy)]
 struct Pushed {
     full: bool,
     after: GapRecord,

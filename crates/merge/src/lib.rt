@@ -4,6 +4,9 @@
 // Nothing is copied but into the output. Own buffers are the offsets of three files' gaps, and four gap records as numbers.
 //
 // The format's specs/Merging.antt says what a merge is, specs/Choices.antt what the private steps answer.
+
+#![tactic(auto)]
+
 ghost use Rattle.std.specs.Prelude.{◌≡◌, true, ◌↔◌, ◌≤◌, max, length};
 ghost use Rattle.format.specs.Layout.{encode_part_met};
 ghost use Rattle.format.specs.PutGaps.{plain_tags, tags_of, within_ceiling};
@@ -25,21 +28,21 @@ use met::{PartGaps, PartMet, PartRead, read_part};
 use output::{CONFLICT, LIMIT, STRANGERS, WriteAnswer, refused};
 
 // A part.met that was read, with its gaps; the file is lent beside it.
-#[derive(Drop)]
+#[derive(Clone, Copy)]
 struct Read {
     part: PartMet,
     gaps: PartGaps,
 }
 
 // One of the two saves.
-#[derive(Drop)]
+#[derive(Clone, Copy)]
 enum Save {
     First,
     Second,
 }
 
 // Whose value wins; or both changed it in different ways.
-#[derive(Drop)]
+#[derive(Clone, Copy)]
 enum Choice {
     Wins(Save),
     Conflict,

@@ -5,6 +5,9 @@
 // stand among the gap tags, they are compared tag against tag.
 //
 // specs/Compared.antt says what the private steps answer.
+
+#![tactic(auto)]
+
 ghost use Rattle.std.specs.Prelude.{◌≡◌, true, ◌++◌, ◌↔◌, ◌≤◌, ltb, length};
 ghost use Rattle.format.specs.Tables.{same};
 ghost use Rattle.format.specs.Layout.{encode_all, encode_hash};
@@ -97,7 +100,7 @@ fn same_joined(before: &[u8], after: &[u8], other_before: &[u8], other_after: &[
 
 // A tag that is no gap tag: it lies from `at` up to `end`, and so many tags are left, itself included. Where there is none, 0 are left, and no
 // bytes lie there.
-#[derive(Drop)]
+#[derive(Clone, Copy)]
 struct Next {
     at: usize,
     end: usize,

@@ -3,6 +3,9 @@
 // The numbers of a record's gaps, in order, are bounds: the start of a gap, its end, the start of the next. Between two neighbouring bounds of
 // all three records no byte differs from the next in who misses it. So one walk over all bounds in order decides each such stretch once, and
 // keeps a bound where the decision changes: runs of missing bytes that touch are one gap.
+
+#![tactic(auto)]
+
 ghost use Rattle.std.specs.Prelude.{◌≡◌, ◌∷◌, ◌+◌, ◌*◌, ◌≤◌, length, get_or, eqb};
 ghost use Rattle.format.specs.Tables.{pick};
 ghost use Rattle.format.specs.Writing.{overwritten};

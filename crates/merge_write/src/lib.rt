@@ -4,6 +4,9 @@
 // All is checked and the length is known before the first byte is written. The bytes are copied from where they lie.
 //
 // specs/Outcome.antt says what is written.
+
+#![tactic(auto)]
+
 ghost use Rattle.std.specs.Prelude.{◌≡◌, ◌≤◌, length};
 ghost use Rattle.format.specs.Layout.{encode_part_met};
 ghost use Rattle.format.specs.PutGaps.{within_ceiling};

@@ -6,6 +6,9 @@
 // entry with the reader of one entry, as many as the list counts.
 //
 // specs/MetAnswers.antt says what each answer stands for.
+
+#![tactic(auto)]
+
 ghost use Rattle.std.specs.Prelude.{◌-◌, ◌≡◌};
 ghost use Rattle.format.specs.Rules.{met_openings, spec_part_count, spec_block_count};
 ghost use Rattle.format.specs.PacketOrder.{decode_opening};
@@ -75,7 +78,7 @@ fn read_opening(s: &[u8], c: Cursor) -> ByteStep
 
 // An entry of known.met, and all that stands after the opening byte of a part.met that opens with E0. `hash` is the place
 // of its 16 bytes, `parts` the list of the part hashes.
-#[derive(Drop)]
+#[derive(Clone, Copy)]
 pub struct FileEntry {
     pub date: u32,
     pub hash: usize,
@@ -83,7 +86,7 @@ pub struct FileEntry {
     pub tags: Items,
 }
 
-#[derive(Drop)]
+#[derive(Clone, Copy)]
 pub enum FileEntryStep {
     Got(FileEntry, Cursor),
     Refused(Fault),
@@ -101,13 +104,13 @@ impl FileEntryStep {
     }
 }
 
-#[derive(Drop)]
+#[derive(Clone, Copy)]
 pub struct KnownMet {
     pub opening: u8,
     pub entries: Items,
 }
 
-#[derive(Drop)]
+#[derive(Clone, Copy)]
 enum KnownMetStep {
     Got(KnownMet, Cursor),
     Refused(Fault),
@@ -124,7 +127,7 @@ impl KnownMetStep {
     }
 }
 
-#[derive(Drop)]
+#[derive(Clone, Copy)]
 pub enum KnownAnswer {
     Accepted(KnownMet),
     Refused(u8),
@@ -132,14 +135,14 @@ pub enum KnownAnswer {
 
 // server.met
 
-#[derive(Drop)]
+#[derive(Clone, Copy)]
 pub struct ServerEntry {
     pub ip: u32,
     pub port: u16,
     pub tags: Items,
 }
 
-#[derive(Drop)]
+#[derive(Clone, Copy)]
 pub enum ServerEntryStep {
     Got(ServerEntry, Cursor),
     Refused(Fault),
@@ -157,7 +160,7 @@ impl ServerEntryStep {
     }
 }
 
-#[derive(Drop)]
+#[derive(Clone, Copy)]
 pub struct ServerMet {
     pub opening: u8,
     pub entries: Items,
@@ -165,7 +168,7 @@ pub struct ServerMet {
 }
 
 // The tail goes to the end of the bytes, so no cursor is left.
-#[derive(Drop)]
+#[derive(Clone, Copy)]
 enum ServerMetStep {
     Got(ServerMet),
     Refused(Fault),
@@ -182,20 +185,20 @@ impl ServerMetStep {
     }
 }
 
-#[derive(Drop)]
+#[derive(Clone, Copy)]
 pub enum ServerAnswer {
     Accepted(ServerMet),
     Refused(u8),
 }
 
 // Before each block stands a mark, and after the last one the closing mark.
-#[derive(Drop)]
+#[derive(Clone, Copy)]
 enum Mark {
     Stop,
     More,
 }
 
-#[derive(Drop)]
+#[derive(Clone, Copy)]
 enum MarkStep {
     Got(Mark, Cursor),
     Refused(Fault),
@@ -214,7 +217,7 @@ impl MarkStep {
 
 // Which of its two blocks a part.met that opens with E1 has: part hashes of 16 bytes, block hashes of 8, or both in this order.
 // A lone block is always the first: `Blocks` is never read.
-#[derive(Drop)]
+#[derive(Clone, Copy)]
 pub enum HashBlocks {
     Nothing,
     Parts(Items),
@@ -222,7 +225,7 @@ pub enum HashBlocks {
     Both(Items, Items),
 }
 
-#[derive(Drop)]
+#[derive(Clone, Copy)]
 enum BlocksStep {
     Got(HashBlocks, Cursor),
     Refused(Fault),
@@ -240,13 +243,13 @@ impl BlocksStep {
 }
 
 // The byte that opens a part.met says which of the two layouts follows.
-#[derive(Drop)]
+#[derive(Clone, Copy)]
 enum Edition {
     E0,
     E1,
 }
 
-#[derive(Drop)]
+#[derive(Clone, Copy)]
 enum EditionStep {
     Got(Edition, Cursor),
     Refused(Fault),
@@ -265,7 +268,7 @@ impl EditionStep {
 
 // The gaps of a part.met, whose offsets are left in an array that is lent: the byte range of its gap tags, outside of which no tag is a
 // gap tag; how many gaps it has; and the size of its file.
-#[derive(Drop)]
+#[derive(Clone, Copy)]
 pub struct PartGaps {
     pub range: Items,
     pub count: usize,
@@ -273,7 +276,7 @@ pub struct PartGaps {
 }
 
 // A tag list that passes the check of a part.met, with what the check found.
-#[derive(Drop)]
+#[derive(Clone, Copy)]
 enum PartTagsStep {
     Got(Items, PartGaps, Cursor),
     Refused(Fault),
@@ -291,7 +294,7 @@ impl PartTagsStep {
 }
 
 // What stands after the opening byte E1.
-#[derive(Drop)]
+#[derive(Clone, Copy)]
 pub struct PartE1 {
     pub date: u32,
     pub hash: usize,
@@ -299,7 +302,7 @@ pub struct PartE1 {
     pub blocks: HashBlocks,
 }
 
-#[derive(Drop)]
+#[derive(Clone, Copy)]
 pub enum PartMet {
     E0(FileEntry),
     E1(PartE1),
@@ -318,7 +321,7 @@ impl PartMet {
 }
 
 // A part.met and its gaps.
-#[derive(Drop)]
+#[derive(Clone, Copy)]
 enum PartMetStep {
     Got(PartMet, PartGaps, Cursor),
     Refused(Fault),
@@ -336,14 +339,14 @@ impl PartMetStep {
 }
 
 // A part.met and the size of its file, or the number of the refusal.
-#[derive(Drop)]
+#[derive(Clone, Copy)]
 pub enum PartAnswer {
     Accepted(PartMet, u32),
     Refused(u8),
 }
 
 // The same, with the gaps.
-#[derive(Drop)]
+#[derive(Clone, Copy)]
 pub enum PartRead {
     Accepted(PartMet, PartGaps),
     Refused(u8),
@@ -362,7 +365,7 @@ impl PartRead {
 }
 
 // 0 and the gaps of a part.met; or the number of its refusal, and no gaps of an empty file.
-#[derive(Drop)]
+#[derive(Clone, Copy)]
 pub struct GapsAnswer {
     pub number: u8,
     pub gaps: GapRecord,

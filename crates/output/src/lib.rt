@@ -2,6 +2,9 @@
 // `&mut out[at..]`, writes there, and changes nothing after what it wrote.
 //
 // The functions that write are for the crates above alone: each requires that its caller has checked the room before.
+
+#![tactic(auto)]
+
 ghost use Rattle.std.specs.Prelude.{◌≡◌, ◌↔◌, ◌+◌, ◌≤◌, ◌<◌, length, drop, eqb};
 ghost use Rattle.output.specs.Agreement.{Agree};
 ghost use Rattle.output.specs.WriteAnswers.{refused_by};
@@ -32,7 +35,7 @@ pub const CONFLICT: u8 = 11;
 pub const STRANGERS: u8 = 12;
 
 // The answer of a call that writes: 0 and how many bytes were written at the front of the output; or the number of the refusal, and 0.
-#[derive(Drop)]
+#[derive(Clone, Copy)]
 pub struct WriteAnswer {
     pub number: u8,
     pub length: usize,

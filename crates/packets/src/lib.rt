@@ -2,6 +2,9 @@
 //
 // A packet is read in document 01's order: the byte ceiling, the opening byte, on TCP the header's length, the opcode, the
 // body's items from left to right, then the rest. A refusal holds its number and nothing of the input.
+
+#![tactic(auto)]
+
 ghost use Rattle.std.specs.Prelude.{◌≡◌, ◌↔◌, [], ◌∷◌, ◌≤◌, ◌<◌};
 ghost use Rattle.format.specs.Tables.{lookup};
 ghost use Rattle.format.specs.Messages.{server_opcodes, client_opcodes, udp_opcodes};
@@ -19,14 +22,14 @@ use wire::{ByteStep, Cursor, DoneStep, DwordStep, Fault, PACKET_CEILING, Rule, n
 
 pub mod opcode;
 
-#[derive(Drop)]
+#[derive(Clone, Copy)]
 pub enum Link {
     Server,
     Client,
     Udp,
 }
 
-#[derive(Drop)]
+#[derive(Clone, Copy)]
 pub struct Packet {
     pub opening: u8,
     pub opcode: u8,
@@ -34,26 +37,26 @@ pub struct Packet {
 }
 
 // The shape of an opcode's body, if the link lists the opcode.
-#[derive(Drop)]
+#[derive(Clone, Copy)]
 pub enum Listed {
     As(Shape),
     Nowhere,
 }
 
-#[derive(Drop)]
+#[derive(Clone, Copy)]
 pub enum HeadStep {
     Got(u8, Shape, Cursor),
     Refused(Fault),
 }
 
-#[derive(Drop)]
+#[derive(Clone, Copy)]
 pub enum PacketStep {
     Got(Packet),
     Refused(Fault),
 }
 
 // What a caller gets for the bytes of a packet: the packet, or the number of the refusal.
-#[derive(Drop)]
+#[derive(Clone, Copy)]
 pub enum PacketAnswer {
     Accepted(Packet),
     Refused(u8),

@@ -7,6 +7,9 @@
 // A pair's digits are compared with those of the earlier ones only where their key is not above all earlier keys.
 //
 // specs/PartTagAnswers.antt says what the answers stand for, specs/Survey.antt and specs/Pairs.antt what the private steps answer.
+
+#![tactic(auto)]
+
 ghost use Rattle.std.specs.Prelude.{◌≡◌, ◌+◌, ◌≤◌, length};
 ghost use Rattle.format.specs.Gaps.{gap_limit};
 ghost use Rattle.format.specs.Order.{decode_tag};
@@ -39,21 +42,21 @@ const START_NAME: u8 = 9;
 const END_NAME: u8 = 10;
 
 // The size of a tag list that passes, or the rule that it breaks: SizeTag, Order or GapCeiling.
-#[derive(Drop)]
+#[derive(Clone, Copy)]
 pub enum TagsVerdict {
     Passes(u32),
     Violates(Rule),
 }
 
 // The verdict, and the gaps of a tag list that passes; where a rule is broken, no gaps of an empty file.
-#[derive(Drop)]
+#[derive(Clone, Copy)]
 pub struct PartTags {
     pub verdict: TagsVerdict,
     pub gaps: GapRecord,
 }
 
 // A tag list that lies there whole: the offset after it, the verdict, the byte range of its gap tags, and how many gaps it has.
-#[derive(Drop)]
+#[derive(Clone, Copy)]
 pub struct CheckedTags {
     pub end: usize,
     pub verdict: TagsVerdict,
@@ -61,7 +64,7 @@ pub struct CheckedTags {
     pub gaps: usize,
 }
 
-#[derive(Drop)]
+#[derive(Clone, Copy)]
 pub enum CheckedStep {
     Got(CheckedTags),
     Refused(Fault),
@@ -80,14 +83,14 @@ impl CheckedStep {
 }
 
 // The number of a DWORD tag.
-#[derive(Drop)]
+#[derive(Clone, Copy)]
 enum Number {
     None,
     Some(u32),
 }
 
 // The size tags seen so far.
-#[derive(Drop)]
+#[derive(Clone, Copy)]
 enum Sizes {
     None,
     One(u32),
@@ -121,14 +124,14 @@ impl Sizes {
 }
 
 // The tags before the first gap tag: how many, the offset after them, and the size tags among them.
-#[derive(Drop)]
+#[derive(Clone, Copy)]
 struct Leading {
     count: u32,
     end: usize,
     sizes: Sizes,
 }
 
-#[derive(Drop)]
+#[derive(Clone, Copy)]
 enum LeadingStep {
     Got(Leading),
     Refused(Fault),
@@ -146,14 +149,14 @@ impl LeadingStep {
 }
 
 // The byte range of the gap tags, the offset after all tags, and all size tags.
-#[derive(Drop)]
+#[derive(Clone, Copy)]
 struct Surveyed {
     range: Items,
     end: usize,
     sizes: Sizes,
 }
 
-#[derive(Drop)]
+#[derive(Clone, Copy)]
 enum SurveyStep {
     Got(Surveyed),
     Refused(Fault),
@@ -171,14 +174,14 @@ impl SurveyStep {
 }
 
 // The key of 1 to 10 decimal digits, which is higher for the digits of a higher number.
-#[derive(Drop)]
+#[derive(Clone, Copy)]
 enum Key {
     None,
     Some(u64),
 }
 
 // How many pairs there are, the least start that the next one may have, and the highest key of their digits.
-#[derive(Drop)]
+#[derive(Clone, Copy)]
 struct Progress {
     count: usize,
     low: u64,
@@ -186,7 +189,7 @@ struct Progress {
 }
 
 // A start tag: its key, its number, and the offset after it.
-#[derive(Drop)]
+#[derive(Clone, Copy)]
 enum StartStep {
     Takes(u64, u32, usize),
     Violates(Rule),
@@ -204,14 +207,14 @@ impl StartStep {
 }
 
 // An end tag: its number, and the offset after it.
-#[derive(Drop)]
+#[derive(Clone, Copy)]
 enum EndStep {
     Takes(u32, usize),
     Violates,
 }
 
 // A pair: its key, its end, and the offset after it.
-#[derive(Drop)]
+#[derive(Clone, Copy)]
 enum PairStep {
     Takes(u64, u32, usize),
     Violates(Rule),
@@ -229,7 +232,7 @@ impl PairStep {
 }
 
 // Tags that keep the rules of the pairs, with their survey and the number of pairs; or the rule that is broken, if all tags are there.
-#[derive(Drop)]
+#[derive(Clone, Copy)]
 enum PassStep {
     Passes(Surveyed, usize),
     Violates(Rule),

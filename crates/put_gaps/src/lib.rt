@@ -6,6 +6,9 @@
 // before the first byte is written. The record is lent as numbers (crate gap_numbers), so that it is not copied at every call.
 //
 // specs/PutAnswers.antt says which record is put, specs/Pieces.antt what the private steps write.
+
+#![tactic(auto)]
+
 ghost use Rattle.std.specs.Prelude.{◌≡◌, ◌∷◌, ◌+◌, ◌-◌, ◌*◌, ◌≤◌, ◌<◌, length};
 ghost use Rattle.format.specs.Layout.{encode_tag, encode_tags, encode_part_met};
 ghost use Rattle.format.specs.Order.{decode_tag};
@@ -94,7 +97,7 @@ fn kept_count(s: &[u8], tag: Tag) -> u32
 }
 
 // How many tags stay, and how many bytes they have.
-#[derive(Drop)]
+#[derive(Clone, Copy)]
 pub struct Plain {
     pub count: u32,
     pub bytes: usize,
@@ -138,7 +141,7 @@ pub fn measure_within(s: &[u8], range: Items, gaps: usize) -> Plain
 }
 
 // The same of a list whose gap tags lie in the range, and the bytes of the tags in the range that stay.
-#[derive(Drop)]
+#[derive(Clone, Copy)]
 struct Measured {
     count: u32,
     bytes: usize,
@@ -320,7 +323,7 @@ pub fn put_tag_list(
 
 // The numbers of a new file: where the tag list begins; how many tags and how many bytes it has, and of these the bytes of the tags in the
 // range of the gap tags that stay; where the list ended in the file that all but the list is from; and the length of the new file.
-#[derive(Drop)]
+#[derive(Clone, Copy)]
 pub struct Sizes {
     pub at: usize,
     pub count: u32,

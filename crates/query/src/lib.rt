@@ -4,6 +4,9 @@
 // query is answered as the place where it lies, with its depth, and a caller that wants its parts reads the node at that place.
 //
 // specs/Nodes.antt takes a query apart in the format's terms, specs/QueryAnswers.antt says what each answer stands for.
+
+#![tactic(auto)]
+
 ghost use Rattle.std.specs.Prelude.{◌≡◌, ◌↔◌, max, ◌+◌, ◌-◌, ◌≤◌, ◌<◌, length};
 ghost use Rattle.format.specs.Messages as messages;
 ghost use Rattle.format.specs.Layout.{encode_query};
@@ -28,7 +31,7 @@ const DEPTH_LIMIT: usize = 24;
 // More than there are places in a packet.
 const PLACES: usize = 4294967296;
 
-#[derive(Drop)]
+#[derive(Clone, Copy)]
 pub enum Operator {
     And,
     Or,
@@ -36,14 +39,14 @@ pub enum Operator {
 }
 
 // Document 01's min and max.
-#[derive(Drop)]
+#[derive(Clone, Copy)]
 pub enum Bound {
     AtLeast,
     AtMost,
 }
 
 // The first byte of a query and what stands after it. The two sides of a join are queries of their own: they follow.
-#[derive(Drop)]
+#[derive(Clone, Copy)]
 pub enum Node {
     Join(Operator),
     Keyword(Place),
@@ -52,46 +55,46 @@ pub enum Node {
 }
 
 // The place of a query in the lent bytes, and its depth: 1 for a leaf, one more than its deeper side for a join.
-#[derive(Drop)]
+#[derive(Clone, Copy)]
 pub struct Query {
     pub at: usize,
     pub end: usize,
     pub depth: usize,
 }
 
-#[derive(Drop)]
+#[derive(Clone, Copy)]
 pub enum OperatorStep {
     Got(Operator, Cursor),
     Refused(Fault),
 }
 
-#[derive(Drop)]
+#[derive(Clone, Copy)]
 pub enum BoundStep {
     Got(Bound, Cursor),
     Refused(Fault),
 }
 
-#[derive(Drop)]
+#[derive(Clone, Copy)]
 pub enum NodeStep {
     Got(Node, Cursor),
     Refused(Fault),
 }
 
 // The depth of a query that was skipped, and the cursor after it.
-#[derive(Drop)]
+#[derive(Clone, Copy)]
 pub enum DepthStep {
     Got(usize, Cursor),
     Refused(Fault),
 }
 
-#[derive(Drop)]
+#[derive(Clone, Copy)]
 pub enum QueryStep {
     Got(Query, Cursor),
     Refused(Fault),
 }
 
 // The answer for a whole input: the query, or the number of the refusal.
-#[derive(Drop)]
+#[derive(Clone, Copy)]
 pub enum QueryAnswer {
     Accepted(Query),
     Refused(u8),

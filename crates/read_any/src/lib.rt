@@ -1,4 +1,7 @@
 // One call for the six kinds of bytes that a peer or a disk hands over, and the line that the reading program prints.
+
+#![tactic(auto)]
+
 ghost use Rattle.std.specs.Prelude.{◌≡◌, ◌↔◌};
 ghost use Rattle.std.proofs.Math.Option.{some};
 ghost use Rattle.format.specs.Messages as messages;
@@ -16,7 +19,7 @@ use met::{
 };
 use packets::{Link, Packet, PacketAnswer, read_packet};
 
-#[derive(Drop)]
+#[derive(Clone, Copy)]
 pub enum Kind {
     ServerLink,
     ClientLink,
@@ -27,7 +30,7 @@ pub enum Kind {
 }
 
 // What was read, with its places in the lent bytes; a part.met with its size.
-#[derive(Drop)]
+#[derive(Clone, Copy)]
 pub enum Message {
     Packet(Packet),
     KnownMet(KnownMet),
@@ -35,7 +38,7 @@ pub enum Message {
     PartMet(PartMet, u32),
 }
 
-#[derive(Drop)]
+#[derive(Clone, Copy)]
 pub enum Answer {
     Accepted(Message),
     Refused(u8),
@@ -99,7 +102,7 @@ pub fn read(kind: Kind, s: &[u8]) -> Answer
 }
 
 // What the reading program says of some bytes: the number of a refusal; or 0, the opcode or opening byte, and the length.
-#[derive(Drop)]
+#[derive(Clone, Copy)]
 pub struct Summary {
     pub number: u8,
     pub code: u8,
@@ -139,7 +142,7 @@ pub fn summarize(kind: Kind, s: &[u8]) -> Summary
 }
 
 // The letters that the reading program takes.
-#[derive(Drop)]
+#[derive(Clone, Copy)]
 pub enum Lettered {
     Is(Kind),
     Nothing,

@@ -1,6 +1,9 @@
 // The reading program: a letter for the kind of the bytes, then the bytes, on standard input; one line on standard output.
 //
 // It has one buffer, of the 65,536 bytes that it takes. The letter is read into its first place, and kept; then the bytes.
+
+#![tactic(auto)]
+
 ghost use Rattle.std.specs.Prelude.{◌<◌, length};
 
 use console::{print_refused, print_summary, read_all, read_some};

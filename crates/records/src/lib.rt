@@ -2,6 +2,9 @@
 //
 // A list is returned as its range (Items). To scan it, start a cursor at its first item and read item after item with
 // the reader of one item, as many as the list counts.
+
+#![tactic(auto)]
+
 ghost use Rattle.std.specs.Prelude.{◌≡◌};
 ghost use Rattle.format.specs.Decoding.{decode_many, ends};
 ghost use Rattle.format.specs.Order.{decode_byte, decode_word, decode_dword, decode_hash, decode_address, decode_record, decode_counted};
@@ -12,20 +15,20 @@ ghost use Rattle.records.specs.RecordAnswers.{address_meaning, record_meaning, R
 use tags::{read_tags, tag_list_end};
 use wire::{ByteStep, Cursor, DwordStep, Fault, HashStep, Items, ItemsStep, WordStep, no_fault};
 
-#[derive(Drop)]
+#[derive(Clone, Copy)]
 pub struct Address {
     pub ip: u32,
     pub port: u16,
 }
 
-#[derive(Drop)]
+#[derive(Clone, Copy)]
 pub enum AddressStep {
     Got(Address, Cursor),
     Refused(Fault),
 }
 
 // A file or a client, as peers and servers list it: `hash` is the offset of its 16 bytes.
-#[derive(Drop)]
+#[derive(Clone, Copy)]
 pub struct Record {
     pub hash: usize,
     pub client: u32,
@@ -33,7 +36,7 @@ pub struct Record {
     pub tags: Items,
 }
 
-#[derive(Drop)]
+#[derive(Clone, Copy)]
 pub enum RecordStep {
     Got(Record, Cursor),
     Refused(Fault),

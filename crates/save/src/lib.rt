@@ -1,4 +1,7 @@
 // Saving a part.met: the save merges what was saved since, the strict save is made over the file that was opened and over no other.
+
+#![tactic(auto)]
+
 ghost use Rattle.std.specs.Prelude.{◌≡◌};
 ghost use Rattle.format.specs.Saving.{Saves, spec_save_strict};
 ghost use Rattle.output.specs.WriteAnswers.{answered};

@@ -14,6 +14,9 @@
 //
 // At the end and at a refusal the walker stays at its place, and the next call gives the same again. A walk from `new` gives the tags that
 // `tags::read_tag_list` accepts, and then the end; or it comes to the number with which that refuses the bytes (specs/Walks.antt).
+
+#![tactic(auto)]
+
 ghost use Rattle.std.specs.Prelude.{◌≡◌};
 ghost use Rattle.tag_walker.specs.Walk.{spec_walk_from, spec_walk_at, moved, Walked, begun, Next};
 
@@ -29,7 +32,7 @@ pub struct TagWalker<'a> {
 }
 
 // A tag; or that there are no more; or the number of a refusal.
-#[derive(Drop)]
+#[derive(Clone, Copy)]
 pub enum WalkStep {
     Tag(Tag),
     End,
@@ -37,7 +40,7 @@ pub enum WalkStep {
 }
 
 // A step, and where the walker stands afterwards.
-#[derive(Drop)]
+#[derive(Clone, Copy)]
 struct Moved {
     step: WalkStep,
     at: usize,

@@ -5,6 +5,9 @@
 // number. A caller scans a list by `read_tag` from its start on, which returns the cursor after each tag.
 //
 // specs/TagAnswers.antt says what each answer stands for.
+
+#![tactic(auto)]
+
 ghost use Rattle.std.specs.Prelude.{◌≡◌, List, ◌↔◌, ◌+◌, ◌*◌, get_or};
 ghost use Rattle.format.specs.Messages as messages;
 ghost use Rattle.format.specs.Messages.{lone_tags};
@@ -23,7 +26,7 @@ use wire::{
     PlaceStep, Rule, no_fault, number, pair,
 };
 
-#[derive(Drop)]
+#[derive(Clone, Copy)]
 pub enum TagType {
     Hash,
     Text,
@@ -32,7 +35,7 @@ pub enum TagType {
 }
 
 // The value of a tag. A hash is the offset of its 16 bytes; a FLOAT is kept as its bits.
-#[derive(Drop)]
+#[derive(Clone, Copy)]
 pub enum TagValue {
     Hash(usize),
     Text(Place),
@@ -41,26 +44,26 @@ pub enum TagValue {
 }
 
 // A name of one byte is a published special tag; the others are texts. Names are reported apart by their bytes alone.
-#[derive(Drop)]
+#[derive(Clone, Copy)]
 pub struct Tag {
     pub name_at: usize,
     pub name_len: usize,
     pub value: TagValue,
 }
 
-#[derive(Drop)]
+#[derive(Clone, Copy)]
 pub enum TypeStep {
     Got(TagType, Cursor),
     Refused(Fault),
 }
 
-#[derive(Drop)]
+#[derive(Clone, Copy)]
 pub enum ValueStep {
     Got(TagValue, Cursor),
     Refused(Fault),
 }
 
-#[derive(Drop)]
+#[derive(Clone, Copy)]
 pub enum TagStep {
     Got(Tag, Cursor),
     Refused(Fault),
@@ -400,7 +403,7 @@ pub fn read_tags(s: &[u8], c: Cursor) -> ItemsStep
     tags_from(s, first, count)
 }
 
-#[derive(Drop)]
+#[derive(Clone, Copy)]
 pub enum TagListAnswer {
     Accepted(Items),
     Refused(u8),

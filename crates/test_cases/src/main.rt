@@ -1,4 +1,7 @@
 // The worked cases of document 01 that are run and compared, and markings in both orders (02, No. 12): each prints one line.
+
+#![tactic(auto)]
+
 ghost use Rattle.std.specs.Prelude.{◌≡◌, ◌+◌, ◌≤◌, ◌<◌};
 ghost use Rattle.format.specs.Gaps.{size_limit};
 ghost use Rattle.gaps.specs.Marking.{marked};
@@ -164,7 +167,7 @@ fn show_lent() {
 }
 
 // Two markings in each order: the number of the first one, and the answer of the last one.
-#[derive(Drop)]
+#[derive(Clone, Copy)]
 struct Markings {
     first: u8,
     one: Marked,
@@ -188,7 +191,7 @@ fn mark_both(given: GapRecord, first: Gap, second: Gap) -> Markings
 }
 
 // What came of a pair of ranges: a call was refused, or none was, and the last answers are equal or differ.
-#[derive(Drop)]
+#[derive(Clone, Copy)]
 enum Pair {
     Refused,
     Equal,
@@ -270,7 +273,7 @@ fn random_pair(random: u64) -> Pair {
 }
 
 // How many pairs were marked with no refusal in either order, and how many of them left the same record and the same count.
-#[derive(Drop)]
+#[derive(Clone, Copy)]
 struct Tally {
     accepted: u64,
     equal: u64,

@@ -3,6 +3,9 @@
 // the opened one and the new bytes there. Each prints a line: the number, the length, and whether the output holds the outcome at its front and
 // is untouched after it. At the end the merges come once more, with the two saves exchanged (02, No. 12): the lines are those of the first time
 // but where both saves are refused, each with a number of its own.
+
+#![tactic(auto)]
+
 ghost use Rattle.std.specs.Prelude.{◌≤◌, ◌<◌};
 
 use console::{field_end, read_all, read_hex};
@@ -57,7 +60,7 @@ fn is_as_told(output: &[u8], outcome: &[u8]) -> bool {
 }
 
 // The call that the cases of a file are of.
-#[derive(Drop)]
+#[derive(Clone, Copy)]
 enum Call {
     Merge,
     Save,
@@ -102,7 +105,7 @@ fn print_answer(
 }
 
 // Where the fields of a line end: the number, the room, the three files and the outcome, which ends with the line.
-#[derive(Drop)]
+#[derive(Clone, Copy)]
 struct Line {
     number: usize,
     room: usize,

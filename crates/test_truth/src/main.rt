@@ -1,6 +1,9 @@
 // Cases of a query's truth on a tag list. A line of cases.txt is the bytes of the query, those of the tag list, and words that say what it
 // tries; each prints a line: these words, the number, and the truth. Most ask a list with the tags 01 "Blue Train.mp3", 03 "Audio",
 // 02 5,000,000, "Artist" "Coltrane", "bitrate" 192, a HASH named 01 and a FLOAT named 04.
+
+#![tactic(auto)]
+
 ghost use Rattle.std.specs.Prelude.{◌≤◌, ◌<◌};
 
 use console::{field_end, read_all, read_hex};
@@ -24,7 +27,7 @@ fn print_truth(words: &[u8], query: &[u8], tags: &[u8]) {
 }
 
 // Where the fields of a line end: the query, the tag list, and the words, which end with the line.
-#[derive(Drop)]
+#[derive(Clone, Copy)]
 struct Line {
     query: usize,
     tags: usize,

@@ -1,5 +1,8 @@
 // Runs the inputs of two files, made inputs of every kind and what a stock client sent or wrote, through the reader and prints the line
 // for each; then writes again what was read, and prints for each kind how much of it came out as the same bytes.
+
+#![tactic(auto)]
+
 use lines::print_files;
 use written_back::print_written_back;
 

@@ -11,7 +11,7 @@ use write_met::{write_known_met, write_server_met};
 use write_packets::write_packet;
 use write_part::write_part_met;
 
-#[derive(Drop)]
+#[derive(Clone, Copy)]
 struct Tally {
     read: u64,
     same: u64,

@@ -1,5 +1,8 @@
 // The tag walker on lists of each outcome. A walker is asked until it has twice given no tag, and each call of `next` prints a line: at the
 // end and at a refusal the same comes again.
+
+#![tactic(auto)]
+
 ghost use Rattle.std.specs.Prelude.{◌≡◌, ◌<◌};
 ghost use Rattle.test_walker.specs.Stops.{stops_after};
 

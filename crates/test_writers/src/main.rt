@@ -1,5 +1,8 @@
 // Refusals of the writers, each with the write beside it that is accepted: a line gives the number of the answer and how many bytes were
 // written. After each refusal the output is as it was before.
+
+#![tactic(auto)]
+
 use bodies::{Body, Form, StatusRequest};
 use met::{HashBlocks, PartE1, PartMet};
 use output::{WriteAnswer, same};

@@ -7,6 +7,9 @@
 // that is linear in its bytes.
 //
 // specs/TruthAnswers.antt says what each answer stands for.
+
+#![tactic(auto)]
+
 ghost use Rattle.std.specs.Prelude.{◌≡◌, get_or};
 ghost use Rattle.format.specs.Messages.{lone_query};
 ghost use Rattle.format.specs.Decoding.{accepted};
@@ -38,7 +41,7 @@ const DWORD: u8 = 3;
 const DEPTH_LIMIT: usize = 24;
 
 // The truth of a query, and the cursor after the query.
-#[derive(Drop)]
+#[derive(Clone, Copy)]
 enum TruthStep {
     Got(bool, Cursor),
     Refused(Fault),
@@ -315,7 +318,7 @@ fn evaluate(query: &[u8], c: Cursor, left: usize, tags: &[u8], list: Items) -> T
 }
 
 // The number that a caller gets, and the truth: a refusal has a truth of no.
-#[derive(Drop)]
+#[derive(Clone, Copy)]
 pub struct Truth {
     pub number: u8,
     pub holds: bool,

@@ -1,4 +1,7 @@
 // Why a packet is refused (02, No. 7): the rule that is broken, and the item that breaks it.
+
+#![tactic(auto)]
+
 ghost use Rattle.std.specs.Prelude.{◌≡◌};
 ghost use Rattle.format.specs.Reasons.{Explains};
 ghost use Rattle.wire.specs.WireAnswers.{rule_meaning};
@@ -9,7 +12,7 @@ use packets::{Link, PacketStep, packet_step};
 use wire::{Fault, Rule, number};
 
 // The fault that decides, if there is one.
-#[derive(Drop)]
+#[derive(Clone, Copy)]
 pub enum Reason {
     Accepted,
     Refused(Fault),

@@ -12,6 +12,9 @@
 //     };
 //
 // specs/WireAnswers.antt says what each answer stands for; a contract equates that with what the format decodes at the cursor.
+
+#![tactic(auto)]
+
 ghost use Rattle.std.specs.Prelude.{◌≡◌, ◌+◌, ◌-◌, ◌*◌, length};
 ghost use Rattle.format.specs.Decoding as decoding;
 ghost use Rattle.format.specs.Decoding.{bytes_at, decode_run};
@@ -29,7 +32,7 @@ const NAME_LIMIT: u16 = 255;
 const HASH_SIZE: usize = 16;
 
 // The rules that bytes can break. Where document 01 gives one number to several rules, they are reported apart here.
-#[derive(Drop)]
+#[derive(Clone, Copy)]
 pub enum Rule {
     Short,
     Opening,
@@ -70,7 +73,7 @@ pub fn number(rule: Rule) -> u8
 }
 
 // The rule that is broken, where the faulty item begins, and how many bytes it has.
-#[derive(Drop)]
+#[derive(Clone, Copy)]
 pub struct Fault {
     pub rule: Rule,
     pub at: usize,
@@ -86,66 +89,66 @@ impl Fault {
     }
 }
 
-#[derive(Drop)]
+#[derive(Clone, Copy)]
 pub struct Cursor {
     pub at: usize,
 }
 
 // A run of the lent bytes.
-#[derive(Drop)]
+#[derive(Clone, Copy)]
 pub struct Place {
     pub at: usize,
     pub len: usize,
 }
 
 // A list in the lent bytes: where its first item begins, where its last one ends, and how many items there are.
-#[derive(Drop)]
+#[derive(Clone, Copy)]
 pub struct Items {
     pub at: usize,
     pub end: usize,
     pub count: u32,
 }
 
-#[derive(Drop)]
+#[derive(Clone, Copy)]
 pub enum ByteStep {
     Got(u8, Cursor),
     Refused(Fault),
 }
 
-#[derive(Drop)]
+#[derive(Clone, Copy)]
 pub enum WordStep {
     Got(u16, Cursor),
     Refused(Fault),
 }
 
-#[derive(Drop)]
+#[derive(Clone, Copy)]
 pub enum DwordStep {
     Got(u32, Cursor),
     Refused(Fault),
 }
 
 // The offset of a HASH.
-#[derive(Drop)]
+#[derive(Clone, Copy)]
 pub enum HashStep {
     Got(usize, Cursor),
     Refused(Fault),
 }
 
-#[derive(Drop)]
+#[derive(Clone, Copy)]
 pub enum PlaceStep {
     Got(Place, Cursor),
     Refused(Fault),
 }
 
 // A list, whatever its items are.
-#[derive(Drop)]
+#[derive(Clone, Copy)]
 pub enum ItemsStep {
     Got(Items, Cursor),
     Refused(Fault),
 }
 
 // A step that has no value: what was read is known.
-#[derive(Drop)]
+#[derive(Clone, Copy)]
 pub enum DoneStep {
     Got(Cursor),
     Refused(Fault),

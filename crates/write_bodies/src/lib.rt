@@ -1,4 +1,7 @@
 // The bytes of bodies, and the writers of entries and lists that callers compose.
+
+#![tactic(auto)]
+
 ghost use Rattle.std.specs.Prelude.{◌≡◌, ◌++◌, ◌+◌, ◌-◌, ◌≤◌, ◌<◌, length};
 ghost use Rattle.format.specs.Bits.{spec_packed_bytes};
 ghost use Rattle.format.specs.Layout.{byte, word, dword, encode_address, encode_string, encode_triple};

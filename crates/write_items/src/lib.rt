@@ -8,6 +8,9 @@
 //
 // The writers of messages promise a write of the format, at the offsets that the message has, and its round trip. Those of single
 // items promise a write of specs/Item.antt.
+
+#![tactic(auto)]
+
 ghost use Rattle.std.specs.Prelude.{◌≡◌};
 ghost use Rattle.write_items.specs.Numbers.{spec_name_number};
 

@@ -6,6 +6,9 @@
 //
 // specs/MetWrites.antt says what must be encoded at the offsets of a file. The functions that measure and put pieces of a file are
 // also for the writer of part.met; those that put require that their caller has checked the room before.
+
+#![tactic(auto)]
+
 ghost use Rattle.std.specs.Prelude.{◌≡◌, ◌++◌, ◌+◌, ◌≤◌, length};
 ghost use Rattle.format.specs.Messages.{known_met, server_met};
 ghost use Rattle.format.specs.Layout.{byte, dword, word, encode_file_entry, encode_server_entry};
@@ -42,7 +45,7 @@ const ENTRIES_CEILING: usize = MET_CEILING - 5;
 const HASH_BYTES: usize = 16;
 
 // How many bytes a list has, or the fault that reading it finds.
-#[derive(Drop)]
+#[derive(Clone, Copy)]
 pub enum LengthStep {
     Got(usize),
     Refused(Fault),
@@ -118,7 +121,7 @@ fn put_hashes(out: &mut [u8], count: u16, hashes: &[u8]) -> usize
 
 // How many bytes the part hashes and the tags of an entry have, or the fault of the first offset at which
 // they are not encoded.
-#[derive(Drop)]
+#[derive(Clone, Copy)]
 pub enum EntryStep {
     Got(usize, usize),
     Refused(Fault),

@@ -4,6 +4,9 @@
 // of document 01, with the offsets before all: 4 for a body of another shape than that of its opcode, and the number of an offset
 // at which an item is not encoded; 6 for a text or list that its count field cannot hold; then the number that the reader would
 // give for the finished bytes; and 10, the room, last.
+
+#![tactic(auto)]
+
 ghost use Rattle.std.specs.Prelude.{◌≡◌, List, ◌++◌, ℕ, ◌+◌, ◌≤◌, length};
 ghost use Rattle.format.specs.Layout.{byte, dword};
 ghost use Rattle.format.specs.Writing.{overwritten};

@@ -6,6 +6,9 @@
 // bytes of another file, the number is 5.
 //
 // specs/PartWrites.antt says what must be encoded at the offsets of a file.
+
+#![tactic(auto)]
+
 ghost use Rattle.std.specs.Prelude.{◌≡◌, ◌+◌};
 ghost use Rattle.format.specs.Messages.{part_met};
 ghost use Rattle.format.specs.Decoding.{got};
@@ -32,14 +35,14 @@ mod part_e0;
 mod part_e1;
 
 // The blocks by their bytes in the source: none, one or two.
-#[derive(Drop)]
+#[derive(Clone, Copy)]
 enum Area {
     Nothing,
     One(Place),
     Two(Place, Place),
 }
 
-#[derive(Drop)]
+#[derive(Clone, Copy)]
 enum AreaStep {
     Got(Area),
     Refused(Fault),
@@ -58,7 +61,7 @@ impl AreaStep {
 
 // How many bytes the tags have, and the area of the blocks; or the fault of the first offset at which they are not
 // encoded.
-#[derive(Drop)]
+#[derive(Clone, Copy)]
 enum E1Step {
     Got(usize, Area),
     Refused(Fault),
