@@ -1,7 +1,7 @@
 -- The table is filled while the part is looked for in itself: when what agrees first ends at a sampled length, the offset is the least
 -- shift of that length, since the part agrees with itself up to that length at no offset before.
 use Prim.Native.Nat.{ℕ, ◌+◌, ◌-◌, ◌*◌, ◌≤◌, ◌<◌}
-use mathlib.Core.Path.{◌≡◌, ◌∙◌}
+use mathlib.Core.Path.{◌≡◌}
 use mathlib.Core.List.{List}
 use native.Mathlib.Omega.{arith}
 use lib.ListN.{length, get_or, set, length-set}
