@@ -1,6 +1,6 @@
 -- Marking (document 01's term): the bytes from `start` up to `end` have arrived. Its answers, and what a sequence of markings leaves.
 use Rattle.std.specs.Prelude.{ℕ, ◌≤◌, ◌<◌, Bool, ◌&&◌, cond, List, [], ◌∷◌, eqb}
-use Rattle.format.specs.Gaps.{gap_limit, Gap, Lawful, missing, count, Marking, rejected, leaves, inside, marking}
+use Rattle.format.specs.Gaps.{gap_limit, Gap, Lawful, missing, Marking, rejected, leaves, inside, marking}
 use Rattle.gaps.specs.declared.GapRecord.{GapRecord}
 use Rattle.gaps.specs.declared.Marked.{Marked}
 use Rattle.gaps.specs.declared.MarkAnswer.{MarkAnswer}
