@@ -12,12 +12,7 @@ use Rattle.query.specs.QueryAnswers.{query_in, QueryPlaced}
 use Rattle.records.specs.RecordAnswers.{address_of, record_in, RecordPlaced}
 use Rattle.bodies.specs.declared.Shape.{Shape}
 use Rattle.bodies.specs.declared.Triple.{Triple}
-use Rattle.bodies.specs.declared.SendingPart.{SendingPart}
-use Rattle.bodies.specs.declared.RequestParts.{RequestParts}
-use Rattle.bodies.specs.declared.FileStatus.{FileStatus}
 use Rattle.bodies.specs.declared.Form.{Form}
-use Rattle.bodies.specs.declared.StatusRequest.{StatusRequest}
-use Rattle.bodies.specs.declared.ExtendedStatus.{ExtendedStatus}
 use Rattle.bodies.specs.declared.Body.{Body}
 use Rattle.bodies.specs.declared.BodyStep.{BodyStep}
 use Rattle.bodies.specs.declared.RangeStep.{RangeStep}
