@@ -37,7 +37,7 @@ module _ (s : List ℕ) (at : ℕ) (there : TagThere s at) where
   -- A tag is no size tag by the first byte of its name, its length, or its type.
   pub size-byte : (get_or s (at + 3) 0 ≡ 2 → ⊥) → [] ≡ sizes_at (decode_tag s at)
   unfolding same
-  size-byte h = sym (sizes-is ∙ other_name _ number (rw (ne_eqb (get_or s (at + 3) 0) 0x02 h) refl))
+  size-byte h = sym (sizes-is ∙ other_name (get_or s (at + 3) 0 ∷ spec_digits_at s at) number (rw (ne_eqb (get_or s (at + 3) 0) 0x02 h) refl))
 
   pub size-length : (spec_name_length s at ≡ 1 → ⊥) → [] ≡ sizes_at (decode_tag s at)
   size-length h =

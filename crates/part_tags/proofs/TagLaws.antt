@@ -11,7 +11,7 @@ use borrow.Author.Tests.{eqb-true, eqb-false, leb-true, ltb-true, ltb-false, eq-
 use Rattle.format.specs.Tables.{lookup, pick}
 use Rattle.format.specs.Messages.{Tag, TagType, TagValue, dword_type, float_type, hash_type, string_type}
 use Rattle.format.specs.Decoding.{Outcome, refused, got, bytes_at, checked, choice, found, name_ceiling, passes, settled, violates}
-use Rattle.format.specs.GapTags.{plain, end, starting, ending, number_of, role}
+use Rattle.format.specs.GapTags.{plain, starting, ending, number_of, role}
 use Rattle.format.specs.Order.{check_name_length, decode_byte, decode_code, decode_dword, decode_hash, decode_name, decode_string, decode_tag, decode_type, decode_value, decode_word, tag_types}
 use Rattle.format.specs.PutGaps.{is_plain}
 use Rattle.format.proofs.Differ.{differ}
