@@ -1,6 +1,6 @@
 -- The truth of a join is made of the truths of its two sides, or of that of the left one where it decides.
 use Prim.Native.Nat.{ℕ}
-use mathlib.Core.Path.{◌≡◌, refl, ap, ◌∙◌}
+use mathlib.Core.Path.{◌≡◌, refl, ap}
 use mathlib.Core.Bool.{Bool, true, false, not}
 use mathlib.Core.List.{List}
 use Rattle.format.specs.Messages as messages

@@ -1,0 +1,10 @@
+use mathlib.Core.Path.{refl, ◌∙◌}
+use Rattle.format.proofs.Codec.{never, same-value}
+use Rattle.truth.proofs.Values.{number_is}
+use Rattle.truth.proofs.number_at.Goals as goal
+
+pub returns-in_default : goal.returns-in_default
+returns-in_default c = absurd (never (rw (c.in_default.is, c.value_at.ensures) at c.dword-step.ensures ∙ (number_is _ _ _ refl c.requires.lies c.requires.at_value).1))
+
+pub returns : goal.returns
+returns c = same-value (rw (c.in-Got.is, c.value_at.ensures) at c.dword-step.ensures ∙ (number_is _ _ _ refl c.requires.lies c.requires.at_value).1)
