@@ -1,0 +1,13 @@
+-- write_number_tag promises the write that it works out; by `as-tried` it is the one that is owed.
+use mathlib.Core.Path.{refl}
+use native.Mathlib.Omega.{arith}
+use Rattle.wire.proofs.Replies.{slice-bytes}
+use Rattle.write_items.proofs.Answers.{as-tried}
+use Rattle.write_items.proofs.Item.{float-ready}
+use Rattle.write_items.proofs.items.write_float_tag.Goals as goal
+
+pub returns : goal.returns
+returns c =
+    let name = c.args.name.now in
+    let ready = float-ready name (slice-bytes name c.type_inv.name) refl c.args.bits (omega (arith, c.well_formed)) in
+    as-tried _ ready c.write_number_tag.ensures
