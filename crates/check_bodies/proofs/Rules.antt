@@ -25,9 +25,6 @@ use Rattle.records.specs.declared.Record.{Record}
 use Rattle.records.specs.RecordAnswers.{record_in}
 use Rattle.bodies.specs.declared.Body.{Body}
 use Rattle.bodies.specs.declared.Form.{Form}
-use Rattle.bodies.specs.declared.RequestParts.{RequestParts}
-use Rattle.bodies.specs.declared.SendingPart.{SendingPart}
-use Rattle.bodies.specs.declared.StatusRequest.{StatusRequest}
 use Rattle.bodies.specs.BodyAnswers.{body_in, form_meaning}
 use Rattle.write_items.specs.There.{both_there, hash_there, items_there, place_there}
 use Rattle.write_items.proofs.There.{there-at, both_first, both-last, run-size, valid-hash}
