@@ -65,7 +65,7 @@ there-writes (refused f) output t = absurd t
 there-writes (got u next) output t = refl
 
 module _ (s : List ℕ) (hb : Bytes s) (output : List ℕ) where
-  pub record-writes : {w : Written} (r : Record) → Dword r.tags.count → WritesBody s (Body.Record r) output w → w ≡ spec_write_record s r output
+  pub record-writes : (r : Record) {w : Written} → Dword r.tags.count → WritesBody s (Body.Record r) output w → w ≡ spec_write_record s r output
   unfolding spec_write_record
   record-writes r few (absent f e) = rw e refl
   record-writes r few (overflows t f) =
@@ -74,7 +74,7 @@ module _ (s : List ℕ) (hb : Bytes s) (output : List ℕ) where
       absurd (f (tags-fit (items_in decode_tag s r.tags) (omega (arith, x.count), x.valid)))
   record-writes r few (tries t f) = there-writes (record_there s r) output t
 
-  pub records-writes : {w : Written} (l : Items) → Dword l.count → WritesBody s (Body.Records l) output w → w ≡ spec_write_records s l output
+  pub records-writes : (l : Items) {w : Written} → Dword l.count → WritesBody s (Body.Records l) output w → w ≡ spec_write_records s l output
   unfolding spec_write_records
   records-writes l few (absent f e) = rw e refl
   records-writes l few (overflows t f) =
@@ -82,7 +82,7 @@ module _ (s : List ℕ) (hb : Bytes s) (output : List ℕ) where
       absurd (f (omega (arith, x.count), records-fit (items_in decode_record s l) x.valid))
   records-writes l few (tries t f) = there-writes (items_there decode_record s l) output t
 
-  pub addresses-writes : {w : Written} (l : Items) → WritesBody s (Body.Addresses l) output w → w ≡ spec_write_addresses s l output
+  pub addresses-writes : (l : Items) {w : Written} → WritesBody s (Body.Addresses l) output w → w ≡ spec_write_addresses s l output
   unfolding spec_write_addresses
   addresses-writes l (absent f e) = rw e refl
   addresses-writes l (overflows t f) =
