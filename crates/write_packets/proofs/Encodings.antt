@@ -1,7 +1,7 @@
 -- The encoding of a packet whose places lie in a slice is made of bytes.
 use mathlib.Core.Path.{◌≡◌, refl}
 use mathlib.Core.List.{List, ◌++◌}
-use Prim.Native.Nat.{ℕ, ◌+◌, ◌-◌}
+use Prim.Native.Nat.{ℕ, ◌-◌}
 use Rattle.format.specs.Messages as messages
 use Rattle.format.specs.Layout.{encode, encode_address, encode_all, encode_body, encode_extended_status, encode_file_status, encode_query, encode_record, encode_request_parts, encode_sending_part, encode_string, encode_tags, encode_tcp, encode_triple, encode_udp, little_endian}
 use Rattle.format.specs.Rules.{Bytes}
