@@ -1,0 +1,14 @@
+-- A block and the closing mark: `after` of the output's laws.
+use mathlib.Core.Path.{ap, sym, ◌∙◌}
+use mathlib.Core.List.{◌++◌, append_assoc}
+use Rattle.format.specs.Layout.{byte}
+use Rattle.format.specs.Writing.{overwritten}
+use Rattle.output.proofs.Laws.{after}
+use Rattle.write_part.proofs.AreaBytes.{block_size}
+use Rattle.write_part.proofs.areas.put_last.Goals as goal
+
+pub returns-clause-output : goal.returns-clause-output
+returns-clause-output c =
+    let a = c.args in
+    let all = after (byte 1 ++ a.hashes.now) (byte 0) _ _ _ _ (block_size a.hashes.now ∙ sym c.put_block-at.ensures.written) c.put_block-at.ensures.output c.put_byte.ensures in
+    all ∙ ap (λ bytes. overwritten bytes a.out.now) (append_assoc (byte 1) a.hashes.now (byte 0))
