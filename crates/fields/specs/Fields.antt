@@ -14,7 +14,6 @@ use Rattle.records.specs.declared.Address.{Address}
 use Rattle.records.specs.declared.Record.{Record}
 use Rattle.bodies.specs.declared.Triple.{Triple}
 use Rattle.bodies.specs.declared.Form.{Form}
-use Rattle.bodies.specs.declared.StatusRequest.{StatusRequest}
 use Rattle.bodies.specs.declared.Body.{Body}
 use Rattle.packets.specs.declared.Packet.{Packet}
 use Rattle.met.specs.declared.FileEntry.{FileEntry}
