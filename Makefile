@@ -1,6 +1,6 @@
 # make            the proved archive and the command
-# make test       what the gate (.ci/run) runs, but for `rt ci`, which proves every crate from
-#                 nothing
+# make test       what the gate (.ci/run) runs, but for `rt ci`, which proves every crate and tries
+#                 every edit
 # make install    archive, header, ed2k.pc, command, manual page and bash completion under PREFIX
 #                 (with DESTDIR before it)
 # make uninstall  takes them away again
@@ -20,7 +20,9 @@ endif
 BUILT := $(if $(filter /%,$(CARGO_TARGET_DIR)),$(CARGO_TARGET_DIR),rust/$(or $(CARGO_TARGET_DIR),target))
 COMMAND := $(BUILT)/release/ed2k
 ARCHIVE := $(or $(ED2K_ARCHIVE),target/staticlib/libed2k.a)
-SOURCES := $(shell find crates crates.txt rust/src rust/build.rs rust/Cargo.toml rust/Cargo.lock -type f)
+# Not what `rt` leaves in crates/*/out.
+CRATES := $(wildcard crates/*/src crates/*/specs crates/*/proofs)
+SOURCES := $(shell find $(CRATES) crates.txt rust/src rust/build.rs rust/Cargo.toml rust/Cargo.lock -type f)
 VERSION := $(shell sed -n 's/^version = "\(.*\)"/\1/p' rust/Cargo.toml)
 
 BIN = $(DESTDIR)$(PREFIX)/bin
@@ -39,14 +41,13 @@ $(COMMAND): $(SOURCES) $(ED2K_ARCHIVE)
 
 # Made when the command was; it may have been removed since.
 target/staticlib/libed2k.a: | $(COMMAND)
-	test -f "$@" || rt staticlib ed2k
+	test -f "$@" || { (cd crates/ed2k && rt lib) && mkdir -p "$(@D)" && cp crates/ed2k/out/libed2k.a "$@"; }
 
 # One of the tests runs the reading program. The bench is reported and not tested: times are no test.
 test:
-	rt fmt --check
 	cd rust && cargo fmt --check
 	cd bench && cargo fmt --check
-	rt check reading
+	cd crates/reading && rt run < stdin > /dev/null
 	cd rust && cargo clippy --release --all-targets --locked -- -D warnings
 	cd rust && cargo test --release --locked
 	bash examples/run

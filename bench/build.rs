@@ -1,4 +1,4 @@
-//! Links the archive that ED2K_ARCHIVE names, or the one that `rt staticlib ed2k` made in the
+//! Links the archive that ED2K_ARCHIVE names, or the one that a build of the Rust crate made in the
 //! repository.
 
 use std::path::PathBuf;
@@ -12,7 +12,7 @@ fn main() {
     let folder = PathBuf::from(env::var_os("OUT_DIR").expect("cargo sets OUT_DIR"));
     if let Err(error) = fs::copy(&archive, folder.join("libed2k_proved.a")) {
         let archive = archive.display();
-        panic!("the archive {archive} cannot be read ({error}); `rt staticlib ed2k` makes it");
+        panic!("the archive {archive} cannot be read ({error}); `cargo build` in rust/ makes it");
     }
     println!("cargo:rustc-link-search=native={}", folder.display());
     println!("cargo:rustc-link-lib=static=ed2k_proved");

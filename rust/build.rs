@@ -1,4 +1,5 @@
-//! Makes the archive of the proved library, target/staticlib/libed2k.a of the repository, and links it.
+//! Makes the archive of the proved library, target/staticlib/libed2k.a of the repository, and links it. `rt lib` makes it in
+//! crates/ed2k/out, where other commands of the kit work too, so it is copied to a place of its own.
 //!
 //! Builds at the same time, as those of two profiles or of an editor and a terminal, wait for each other at target/archive.lock.
 //! The archive is made only if it is not the one that this `rt` last made of these sources: target/staticlib/libed2k.stamp says
@@ -53,7 +54,7 @@ fn given_archive(given: OsString) -> PathBuf {
         let candidates: Vec<String> = candidates.iter().map(|path| path.display().to_string()).collect();
         fail(&format!(
             "ED2K_ARCHIVE names an archive that is not there: {}\n\
-             Name one that `rt staticlib ed2k` made, or unset ED2K_ARCHIVE to have it made.",
+             Name one that `rt lib` made, or unset ED2K_ARCHIVE to have it made.",
             candidates.join(", and not ")
         ));
     };
@@ -81,8 +82,7 @@ impl Repository {
         must(locked, &path)
     }
 
-    /// Has `rt` prove the library and write its archive, unless that is done. `rt check` proves crates side by side, and
-    /// `rt staticlib` one after the other: what the library is made of is proved before.
+    /// Has `rt` prove the library, with all that it is made of, and write its archive, unless that is done.
     fn archive(&self) -> PathBuf {
         let archive = self.root.join("target/staticlib/libed2k.a");
         let stamp_path = archive.with_extension("stamp");
@@ -91,10 +91,10 @@ impl Repository {
         if fs::read_to_string(&stamp_path).is_ok_and(|stamp| stamp == stamped(&sources, &archive)) {
             return archive;
         }
-        let mut check = vec!["check"];
-        check.extend(parts.iter().map(String::as_str).filter(|part| *part != "ed2k"));
-        self.rt(&check);
-        self.rt(&["staticlib", "ed2k"]);
+        self.rt(&["lib"], "crates/ed2k");
+        let made = self.root.join("crates/ed2k/out/libed2k.a");
+        let folder = archive.parent().expect("the archive is in a folder");
+        must(fs::create_dir_all(folder).and_then(|()| fs::copy(&made, &archive)), &made);
         must(fs::write(&stamp_path, stamped(&sources, &archive)), &stamp_path);
         archive
     }
@@ -107,12 +107,12 @@ impl Repository {
         let mut parts = BTreeSet::new();
         let mut found = vec!["ed2k".to_string()];
         while let Some(name) = found.pop() {
-            let line = lines.lines().find_map(|line| line.strip_prefix(&format!("{name}:")));
+            let libraries = lines.lines().find_map(|line| libraries_of(&name, line));
             // What the list does not have is a library of the kit.
-            if let Some(line) = line
+            if let Some(libraries) = libraries
                 && parts.insert(name)
             {
-                found.extend(line.split_whitespace().map(String::from));
+                found.extend(libraries.split_whitespace().map(String::from));
             }
         }
         if parts.is_empty() {
@@ -133,7 +133,7 @@ impl Repository {
                 }
             }
         }
-        format!("{} sources {:016x}", self.rt(&["version"]).trim(), digest.finish())
+        format!("{} sources {:016x}", self.rt(&["version"], "").trim(), digest.finish())
     }
 
     /// Takes up the names and the bytes of all files of a folder, in the order of their names.
@@ -155,29 +155,30 @@ impl Repository {
         }
     }
 
-    /// Runs `rt`, and returns what it printed.
-    fn rt(&self, words: &[&str]) -> String {
-        match Command::new("rt")
-            .args(words)
-            .current_dir(&self.root)
-            .stderr(process::Stdio::inherit())
-            .output()
-        {
+    /// Runs `rt` in a folder of the repository, and returns what it printed.
+    fn rt(&self, words: &[&str], folder: &str) -> String {
+        let folder = self.root.join(folder);
+        let mut command = Command::new("rt");
+        command.args(words).current_dir(&folder).stderr(process::Stdio::inherit());
+        match command.output() {
             Ok(output) if output.status.success() => String::from_utf8_lossy(&output.stdout).into_owned(),
             Ok(output) => {
                 eprint!("{}", String::from_utf8_lossy(&output.stdout));
-                fail(&format!(
-                    "`rt {}` failed in {}: {}",
-                    words.join(" "),
-                    self.root.display(),
-                    output.status
-                ))
+                let words = words.join(" ");
+                fail(&format!("`rt {words}` failed in {}: {}", folder.display(), output.status))
             }
             Err(error) => fail(&format!(
                 "`rt` cannot be run ({error}): the Rattle kit makes the archive, or ED2K_ARCHIVE names one"
             )),
         }
     }
+}
+
+/// The libraries of a crate, if this line of the list names it. A word after its name, as `staticlib`, says what it is.
+fn libraries_of<'a>(name: &str, line: &'a str) -> Option<&'a str> {
+    let said = line.split('#').next()?;
+    let (words, libraries) = said.split_once(':').unwrap_or((said, ""));
+    (words.split_whitespace().next() == Some(name)).then_some(libraries)
 }
 
 /// What the stamp of an archive says: what it was made of, and which it is.

@@ -1,7 +1,7 @@
 //! The build script: builds at the same time, an archive that is up to date, and ED2K_ARCHIVE.
 //!
-//! It runs in a small repository of the test's own, where a script stands in for `rt`: it notes how it was called, and puts the
-//! sources together as the archive.
+//! It runs in a small repository of the test's own, where a script stands in for `rt`: it notes how and where it was called, and puts
+//! the sources together as the archive.
 
 use std::fs::{self, Permissions};
 use std::os::unix::fs::PermissionsExt;
@@ -13,21 +13,24 @@ use std::{env, iter};
 const RT: &str = r#"#!/bin/sh
 [ "$1" != version ] || { echo "kit ${KIT:-1}"; exit; }
 mkdir "$ROOM/busy" || echo "not alone" >> "$ROOM/calls"
-echo "$*" >> "$ROOM/calls"
-archive=target/staticlib/libed2k.a
+echo "$* in $(basename "$(pwd)")" >> "$ROOM/calls"
+archive=out/libed2k.a
 sleep 0.5
 rmdir "$ROOM/busy"
 [ ! -e "$ROOM/broken" ] || { echo "wire NOT PROVED"; exit 1; }
-[ "$1" != staticlib ] || { mkdir -p target/staticlib && rm -f $archive && ar qc $archive crates/*/src/lib.rt; }
+mkdir -p out && rm -f $archive && ar qc $archive ../*/src/lib.rt
 "#;
 
 const CRATES: &str = "\
 # What the library is made of, and a program.
-format:
-wire: format
-ed2k: wire
+format
+wire: format # bytes
+ed2k staticlib: wire
 reading: wire io
 ";
+
+/// How the archive is made.
+const MADE: [&str; 1] = ["lib in ed2k"];
 
 /// A repository with the package in its folder rust/, and a folder where `rt` is.
 struct Room {
@@ -111,7 +114,7 @@ impl Room {
         assert!(output.status.success(), "{output:?}");
         assert_eq!(fs::read(self.path("out/libed2k_proved.a")).unwrap(), self.archive());
         let calls = self.calls();
-        assert!(calls.is_empty() || calls == ["check format wire", "staticlib ed2k"], "{calls:?}");
+        assert!(calls.is_empty() || calls == MADE, "{calls:?}");
         !calls.is_empty()
     }
 }
@@ -139,7 +142,7 @@ fn builds_at_the_same_time_make_the_archive_once() {
         assert!(output.status.success(), "{output:?}");
         assert_eq!(fs::read(room.path(&build).join("libed2k_proved.a")).unwrap(), room.archive());
     }
-    assert_eq!(room.calls(), ["check format wire", "staticlib ed2k"]);
+    assert_eq!(room.calls(), MADE);
 }
 
 /// A terminal and an editor, each with a profile of its own.
@@ -160,7 +163,7 @@ fn cargo_builds_of_two_profiles_at_the_same_time_make_the_archive_once() {
         let output = child.wait_with_output().unwrap();
         assert!(output.status.success(), "{}", text(&output.stderr));
     }
-    assert_eq!(room.calls(), ["check format wire", "staticlib ed2k"]);
+    assert_eq!(room.calls(), MADE);
     assert!(cargo(&["build", "--release", "--target-dir", "terminal"]).wait().unwrap().success());
     assert_eq!(room.calls(), [""; 0]);
 }
@@ -180,8 +183,9 @@ fn an_archive_that_is_up_to_date_is_not_made_again() {
         .unwrap();
     assert!(room.makes() && !room.makes());
     room.write("crates.txt", &CRATES.replace("wire: format", "wire: "));
-    room.build();
-    assert_eq!(room.calls(), ["check wire", "staticlib ed2k"]);
+    assert!(room.makes() && !room.makes());
+    room.write("crates/format/src/lib.rt", "no part of it ");
+    assert!(!room.makes());
     room.write("crates.txt", CRATES);
     assert!(room.makes() && !room.makes());
 }
@@ -197,7 +201,7 @@ fn an_archive_that_is_another_is_made_again() {
     fs::remove_dir_all(room.path("target")).unwrap();
     assert!(room.makes() && !room.makes());
     assert!(room.script("out").env("KIT", "2").output().unwrap().status.success());
-    assert_eq!(room.calls(), ["check format wire", "staticlib ed2k"]);
+    assert_eq!(room.calls(), MADE);
     assert!(room.script("out").env("KIT", "2").output().unwrap().status.success());
     assert_eq!(room.calls(), [""; 0]);
 }
@@ -209,19 +213,16 @@ fn what_is_not_proved_is_not_linked() {
     for _ in 0..2 {
         let output = room.build();
         assert!(!output.status.success());
-        assert!(
-            text(&output.stdout).contains("cargo::error=`rt check format wire` failed in "),
-            "{output:?}"
-        );
+        assert!(text(&output.stdout).contains("cargo::error=`rt lib` failed in "), "{output:?}");
         assert!(text(&output.stderr).contains("wire NOT PROVED"), "{output:?}");
-        assert_eq!(room.calls(), ["check format wire"]);
+        assert_eq!(room.calls(), MADE);
     }
     fs::remove_file(room.path("broken")).unwrap();
     assert!(room.makes());
     room.write("crates/wire/src/lib.rt", "wire, wrong ");
     room.write("broken", "");
     assert!(!room.build().status.success());
-    assert_eq!(room.calls(), ["check format wire"]);
+    assert_eq!(room.calls(), MADE);
     fs::remove_file(room.path("broken")).unwrap();
     assert!(room.makes());
 }

@@ -272,7 +272,7 @@ fn truth() {
 }
 
 fn reading_program() -> PathBuf {
-    PathBuf::from(concat!(env!("CARGO_MANIFEST_DIR"), "/../target/bin/reading"))
+    PathBuf::from(concat!(env!("CARGO_MANIFEST_DIR"), "/../crates/reading/out/reading"))
 }
 
 /// The program's line under a limit of its whole stack; none where it could not be started or was ended.
@@ -306,7 +306,7 @@ fn least_limit(input: &[u8]) -> (usize, String) {
 fn reading_program_within_its_limit() {
     assert!(
         reading_program().exists(),
-        "{} is not there: `rt check reading` makes it, and this test needs it",
+        "{} is not there: `rt ci`, or `rt run` in crates/reading, makes it, and this test needs it",
         reading_program().display()
     );
     let (alone, line) = least_limit(b"");
