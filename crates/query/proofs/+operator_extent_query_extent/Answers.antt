@@ -19,7 +19,7 @@ operator_extent-join_extent-requires-clause-second_bound t c =
 pub operator_extent-returns : goal.operator_extent-returns
 operator_extent-returns t c =
     let start = c.args in
-    sides-span _ start.s.now start.at _ _ (omega (arith, c.if-s-at.false)) (omega (arith, c.if-operator-gt2.false))
+    sides-span _ start.s.now start.at _ _ (omega (arith, c.if-s-at.false)) (omega arith)
     (told c.query_extent-first.ensures c.if-first-eq0.false)
     (rw c.end_of.ensures at (told c.query_extent-second.ensures c.if-second-eq0.false))
     c.join_extent.ensures

@@ -1,5 +1,6 @@
 -- A WORD that is the length, its two tests, and the bytes.
 use mathlib.Core.Path.{◌≡◌, refl}
+use native.Mathlib.Omega.{arith}
 use borrow.Author.Tests.{lt-leb, le-leb, eq-eqb, ne_eqb}
 use Rattle.format.specs.Rules.{name_limit}
 use Rattle.format.specs.Decoding.{got}
@@ -21,8 +22,8 @@ returns-then-length-eq0-clause-result_value c = rw ((length-read (goal.at.return
 
 pub returns-then-length-gt-NAME_LIMIT-clause-result_value : goal.returns-then-length-gt-NAME_LIMIT-clause-result_value
 unfolding decode_name
-returns-then-length-gt-NAME_LIMIT-clause-result_value c = rw ((length-read (goal.at.returns-then-length-gt-NAME_LIMIT-clause-result_value c).In-Got), ne_eqb _ 0 c.if-length-eq0.false, lt-leb _ name_limit c.if-length-gt-NAME_LIMIT.true) refl
+returns-then-length-gt-NAME_LIMIT-clause-result_value c = rw ((length-read (goal.at.returns-then-length-gt-NAME_LIMIT-clause-result_value c).In-Got), ne_eqb c.in-Got.length 0 (λ e. omega (arith, e)), lt-leb _ name_limit c.if-length-gt-NAME_LIMIT.true) refl
 
 pub returns-clause-result_value : goal.returns-clause-result_value
 unfolding decode_name
-returns-clause-result_value c = rw ((length-read (goal.at.returns-clause-result_value c).In-Got), ne_eqb _ 0 c.if-length-eq0.false, le-leb _ name_limit c.if-length-gt-NAME_LIMIT.false) c.run.ensures.result_value
+returns-clause-result_value c = rw ((length-read (goal.at.returns-clause-result_value c).In-Got), ne_eqb c.in-Got.length 0 (λ e. omega (arith, e)), le-leb _ name_limit c.if-length-gt-NAME_LIMIT.false) c.run.ensures.result_value

@@ -37,4 +37,4 @@ pub returns-else-right_depth-ge-DEPTH_LIMIT : goal.returns-else-right_depth-ge-D
 unfolding spec_join_number
 returns-else-right_depth-ge-DEPTH_LIMIT c =
     let a = c.args in
-    rw (within (goal.at.returns-else-right_depth-ge-DEPTH_LIMIT c).Else-left-right, le-leb (suc (max a.left_depth a.right_depth)) 24 (omega (arith, c.if-left_depth-ge-DEPTH_LIMIT.false, c.if-right_depth-ge-DEPTH_LIMIT.false))) refl
+    rw (within (goal.at.returns-else-right_depth-ge-DEPTH_LIMIT c).Else-left-right, le-leb (suc (max a.left_depth a.right_depth)) 24 (omega arith)) refl
