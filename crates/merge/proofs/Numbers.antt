@@ -13,8 +13,8 @@ use Rattle.format.specs.Writing.{overwritten}
 use Rattle.format.proofs.PartMet.{size-dword}
 use Rattle.format.proofs.PartTags.{check-means, gaps-ordered}
 use Rattle.format.proofs.Regapped.{valid-tags}
-use Rattle.gaps.specs.GapRecords.{gap_of, gaps_of, spec_record_of}
-use Rattle.gap_numbers.specs.Numbers.{held, numbers_of, pair_numbers, pairs_in}
+use Rattle.gaps.specs.GapRecords.{gap_of, spec_record_of}
+use Rattle.gap_numbers.specs.Numbers.{numbers_of, pair_numbers, pairs_in}
 use Rattle.gap_numbers.specs.NumberSteps.{Holds, gap_number_list, gaps_in}
 use Rattle.gap_numbers.proofs.Numbers.{length-gap-numbers, record-numbers}
 use Rattle.part_tags.specs.Pairs.{first_gaps}

@@ -1,0 +1,24 @@
+-- Sizes and hashes are compared one after the other (the laws of Models).
+use Rattle.merge.proofs.Models.{first-hash, first-size, one-model, second-size}
+use Rattle.merge.proofs.Numbers.{sized-as, sized_of}
+use mathlib.Core.Path.{sym, ◌∙◌}
+use Rattle.merge.proofs.is_one_model.Goals as goal
+
+pub returns-then-one-size : goal.returns-then-one-size
+returns-then-one-size c = first-size _ _ _ _ _ (sized_of _ _ c.requires.1) c.if-one-size.true
+
+pub returns-then-other-size : goal.returns-then-other-size
+returns-then-other-size c = second-size _ _ _ _ _ (sized_of _ _ c.requires.2) c.if-other-size.true
+
+pub returns-then-not-same_hash : goal.returns-then-not-same_hash
+returns-then-not-same_hash c = first-hash _ _ _ _ (sym c.same_hash.ensures ∙ c.if-not-same_hash.true)
+
+pub returns : goal.returns
+returns c =
+    let e = c.requires in
+    one-model _ _ _ _
+    (sized_of _ _ e.0)
+    (sized-as _ _ e.1 _ c.if-one-size.false)
+    (sized-as _ _ e.2 _ c.if-other-size.false)
+    (sym c.same_hash.ensures ∙ c.if-not-same_hash.false)
+    _ c.same_hash-2.ensures
