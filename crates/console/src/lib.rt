@@ -1,45 +1,47 @@
-// What the programs share: reading a descriptor until a buffer is full, the inputs of a file, the fields of a file of cases, and printing
-// the line for some bytes.
+// What the programs share: reading until a buffer is full, the inputs of a file, the fields of a file of cases, and printing the line for
+// some bytes.
 //
-// No contract can say what is read or written, so these say how much was read at most, and those that print say nothing.
+// No contract can say what a file or a terminal gives or takes, so these say how much was read at most, and those that print say nothing.
+// A read or a write that fails gives its error.
 
 #![tactic(auto)]
 
-ghost use Rattle.std.specs.Prelude.{◌+◌, ◌≤◌, ◌<◌, length};
+ghost use Rattle.std.specs.Prelude.{◌+◌, ◌≤◌, ◌<◌, IfOk, length};
 
-use libc::STDOUT_FILENO;
 use read_any::Summary;
+use std::io;
+use std::io::Read;
 use wire::{ByteStep, Cursor, DwordStep};
 
-// One read: how many bytes came. None come at the end of the input, and where the read fails.
-pub fn read_some(fd: i32, out: &mut [u8]) -> usize
-    ensures { result ≤ length out.old }
+// One read: how many bytes came. None come at the end of the input.
+pub fn read_some<R: Read>(reader: &mut R, out: &mut [u8]) -> io::Result<usize>
+    ensures { IfOk result (λ count. count ≤ length out.old) }
 {
-    let got = libc::read(fd, out);
-    io::count(got, out)
+    reader.read(out)
 }
 
 // Reads until the buffer is full or the input ends, in as many pieces as it comes: how many bytes came.
-pub fn read_all(fd: i32, out: &mut [u8]) -> usize
-    ensures { result ≤ length out.old }
+pub fn read_all<R: Read>(reader: &mut R, out: &mut [u8]) -> io::Result<usize>
+    ensures { IfOk result (λ count. count ≤ length out.old) }
 {
     let mut at = 0;
     while at < out.len() {
-        let came = read_some(fd, &mut out[at..]);
+        let came = read_some(reader, &mut out[at..])?;
         if came == 0 {
-            return at;
+            return Ok(at);
         }
         at += came;
     }
-    at
+    Ok(at)
 }
 
 // Reads n bytes into the front of the buffer: whether it holds them and they come.
-fn read_front(fd: i32, out: &mut [u8], n: usize) -> bool {
+fn read_front<R: Read>(reader: &mut R, out: &mut [u8], n: usize) -> io::Result<bool> {
     if out.len() < n {
-        return false;
+        return Ok(false);
     }
-    read_all(fd, &mut out[..n]) == n
+    let came = read_all(reader, &mut out[..n])?;
+    Ok(came == n)
 }
 
 // An input of a file: a letter for its kind, and how many bytes it has.
@@ -51,24 +53,24 @@ pub enum Input {
 
 // A file of inputs is a run of them: a letter, a DWORD length, and as many bytes. The bytes of the next one fill the front of the
 // buffer. The run ends with the file, at an input that breaks off, and at one that the buffer does not hold.
-pub fn next_input(fd: i32, bytes: &mut [u8]) -> Input {
-    if !read_front(fd, bytes, 5) {
-        return Input::End;
+pub fn next_input<R: Read>(reader: &mut R, bytes: &mut [u8]) -> io::Result<Input> {
+    if !read_front(reader, bytes, 5)? {
+        return Ok(Input::End);
     }
     let first = Cursor { at: 0 };
     let letter_step = first.byte(bytes);
     let ByteStep::Got(letter, after) = letter_step else {
-        return Input::End;
+        return Ok(Input::End);
     };
     let count_step = after.dword(bytes);
     let DwordStep::Got(count, _) = count_step else {
-        return Input::End;
+        return Ok(Input::End);
     };
     let length = count as usize;
-    if !read_front(fd, bytes, length) {
-        return Input::End;
+    if !read_front(reader, bytes, length)? {
+        return Ok(Input::End);
     }
-    Input::Of(letter, length)
+    Ok(Input::Of(letter, length))
 }
 
 // A file of cases is lines of fields, with a space after each but the last. Bytes are a field of two hexadecimal digits each; `-` is no
@@ -129,25 +131,19 @@ pub fn read_hex(field: &[u8], out: &mut [u8]) -> usize
 }
 
 // `refused`, with the number of the refusal.
-pub fn print_refused(number: u8) {
-    io::write_all(STDOUT_FILENO, b"refused ");
-    io::print_decimal(STDOUT_FILENO, number as u64);
-    io::write_all(STDOUT_FILENO, b"\n");
+pub fn print_refused(rt: &impl Print, number: u8) -> io::Result<()> {
+    println!(rt; "refused {number}")
 }
 
 // `accepted`, with the opcode or opening byte, and the length.
-fn print_accepted(code: u8, length: usize) {
-    io::write_all(STDOUT_FILENO, b"accepted ");
-    io::print_decimal(STDOUT_FILENO, code as u64);
-    io::write_all(STDOUT_FILENO, b" ");
-    io::print_decimal(STDOUT_FILENO, length as u64);
-    io::write_all(STDOUT_FILENO, b"\n");
+fn print_accepted(rt: &impl Print, code: u8, length: usize) -> io::Result<()> {
+    println!(rt; "accepted {code} {length}")
 }
 
-pub fn print_summary(s: Summary) {
+pub fn print_summary(rt: &impl Print, s: Summary) -> io::Result<()> {
     if s.number == 0 {
-        print_accepted(s.code, s.length);
+        print_accepted(rt, s.code, s.length)
     } else {
-        print_refused(s.number);
+        print_refused(rt, s.number)
     }
 }

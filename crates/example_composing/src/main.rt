@@ -3,12 +3,13 @@
 
 #![tactic(auto)]
 
-ghost use Rattle.std.specs.Prelude.{◌≤◌, length};
+ghost use Rattle.std.specs.Prelude.{◌≤◌, IfOk, length};
 
 use bodies::Body;
 use packets::{Link, Packet, PacketAnswer, opcode, read_packet};
 use query::{Bound, Operator, Query};
 use records::{Record, RecordStep, read_record};
+use std::io;
 use tags::{TagStep, TagValue, read_tag};
 use truth::truth_of;
 use wire::{Cursor, Items, bytes_at};
@@ -26,10 +27,8 @@ const SIZE: [u8; 1] = [0x02];
 // The tags of a file stand after its hash.
 const TAGS_AT: usize = 16;
 
-fn say(words: &[u8], n: u64) {
-    io::write_all(1, words);
-    io::print_decimal(1, n);
-    io::write_all(1, b"\n");
+fn say(rt: &impl Print, words: &str, n: u64) -> io::Result<()> {
+    println!(rt; "{words}{n}")
 }
 
 // n, or the size where that is less.
@@ -67,8 +66,13 @@ fn file_tags(tags_end: usize) -> Items {
 }
 
 // A file's record, at the front of what is lent: how many bytes it has.
-fn put_file(scratch: &[u8], tags: Items, out: &mut [u8]) -> usize
-    ensures { result ≤ length out.old }
+fn put_file(
+    rt: &impl Print,
+    scratch: &[u8],
+    tags: Items,
+    out: &mut [u8],
+) -> io::Result<usize>
+    ensures { IfOk result (λ count. count ≤ length out.old) }
 {
     let record = Record {
         hash: 0,
@@ -77,25 +81,31 @@ fn put_file(scratch: &[u8], tags: Items, out: &mut [u8]) -> usize
         tags,
     };
     let wrote = write_record(scratch, record, out);
-    say(b"record written; bytes: ", wrote.length as u64);
-    within(wrote.length, out.len())
+    say(rt, "record written; bytes: ", wrote.length as u64)?;
+    Ok(within(wrote.length, out.len()))
 }
 
 // The records of two files, one after the other: how many bytes they have.
 fn put_files(
+    rt: &impl Print,
     first: &[u8],
     first_end: usize,
     second: &[u8],
     second_end: usize,
     out: &mut [u8],
-) -> usize {
-    let at = put_file(first, file_tags(first_end), out);
-    let more = put_file(second, file_tags(second_end), &mut out[at..]);
-    at + more
+) -> io::Result<usize> {
+    let at = put_file(rt, first, file_tags(first_end), out)?;
+    let more = put_file(rt, second, file_tags(second_end), &mut out[at..])?;
+    Ok(at + more)
 }
 
 // The offer of two files, over the records of both.
-fn put_offer(records: &[u8], records_end: usize, out: &mut [u8]) -> usize {
+fn put_offer(
+    rt: &impl Print,
+    records: &[u8],
+    records_end: usize,
+    out: &mut [u8],
+) -> io::Result<usize> {
     let list = Items {
         at: 0,
         end: records_end,
@@ -107,8 +117,8 @@ fn put_offer(records: &[u8], records_end: usize, out: &mut [u8]) -> usize {
         body: Body::Records(list),
     };
     let wrote = write_packet(records, Link::Server, packet, out);
-    say(b"offer written; bytes: ", wrote.length as u64);
-    wrote.length
+    say(rt, "offer written; bytes: ", wrote.length as u64)?;
+    Ok(wrote.length)
 }
 
 // A query for files whose name has `left` in it and that have at least 20,000,000 bytes.
@@ -123,7 +133,7 @@ fn put_query(out: &mut [u8]) -> usize {
     join.length
 }
 
-fn put_search(query: &[u8], out: &mut [u8]) -> usize {
+fn put_search(rt: &impl Print, query: &[u8], out: &mut [u8]) -> io::Result<usize> {
     let whole = Query {
         at: 0,
         end: 0,
@@ -135,117 +145,135 @@ fn put_search(query: &[u8], out: &mut [u8]) -> usize {
         body: Body::Query(whole),
     };
     let wrote = write_packet(query, Link::Server, packet, out);
-    say(b"search written; bytes: ", wrote.length as u64);
-    wrote.length
+    say(rt, "search written; bytes: ", wrote.length as u64)?;
+    Ok(wrote.length)
 }
 
 // Reading back
 
-fn show_text(s: &[u8], at: usize, length: usize) {
-    io::write_all(1, b"  name: ");
-    io::write_all(1, bytes_at(s, at, length));
-    io::write_all(1, b"\n");
+fn show_text(rt: &impl Print, s: &[u8], at: usize, length: usize) -> io::Result<()> {
+    print!(rt; "  name: ")?;
+    rt.write_all(bytes_at(s, at, length))?;
+    println!(rt)
 }
 
-fn show_value(s: &[u8], value: TagValue) {
+fn show_value(rt: &impl Print, s: &[u8], value: TagValue) -> io::Result<()> {
     match value {
-        TagValue::Text(p) => show_text(s, p.at, p.len),
-        TagValue::Dword(n) => say(b"  size: ", n as u64),
-        TagValue::Hash(at) => say(b"  hash at ", at as u64),
-        TagValue::Float(bits) => say(b"  float bits ", bits as u64),
+        TagValue::Text(p) => show_text(rt, s, p.at, p.len),
+        TagValue::Dword(n) => say(rt, "  size: ", n as u64),
+        TagValue::Hash(at) => say(rt, "  hash at ", at as u64),
+        TagValue::Float(bits) => say(rt, "  float bits ", bits as u64),
     }
 }
 
 // The tag at an offset: the offset after it.
-fn show_tag(s: &[u8], at: usize) -> usize {
+fn show_tag(rt: &impl Print, s: &[u8], at: usize) -> io::Result<usize> {
     let tag_step = read_tag(s, Cursor { at });
     let TagStep::Got(tag, next) = tag_step else {
-        say(b"  tag refused: ", tag_step.fault().number() as u64);
-        return at;
+        say(rt, "  tag refused: ", tag_step.fault().number() as u64)?;
+        return Ok(at);
     };
     let value = tag.value;
-    show_value(s, value);
-    next.at
+    show_value(rt, s, value)?;
+    Ok(next.at)
 }
 
 // The record of a file at an offset, with its two tags: the offset after it.
-fn show_record(s: &[u8], at: usize) -> usize {
+fn show_record(rt: &impl Print, s: &[u8], at: usize) -> io::Result<usize> {
     let record_step = read_record(s, Cursor { at });
     let RecordStep::Got(record, next) = record_step else {
-        say(b"record refused: ", record_step.fault().number() as u64);
-        return at;
+        say(rt, "record refused: ", record_step.fault().number() as u64)?;
+        return Ok(at);
     };
     let tags = record.tags;
-    let second = show_tag(s, tags.at);
-    show_tag(s, second);
-    next.at
+    let second = show_tag(rt, s, tags.at)?;
+    show_tag(rt, s, second)?;
+    Ok(next.at)
 }
 
-fn show_body(s: &[u8], body: Body) {
+fn show_body(rt: &impl Print, s: &[u8], body: Body) -> io::Result<()> {
     match body {
         Body::Records(l) => {
-            say(b"files offered: ", l.count as u64);
-            let second = show_record(s, l.at);
-            show_record(s, second);
+            say(rt, "files offered: ", l.count as u64)?;
+            let second = show_record(rt, s, l.at)?;
+            show_record(rt, s, second)?;
+            Ok(())
         }
-        Body::Query(q) => say(b"query of depth ", q.depth as u64),
-        _ => {}
+        Body::Query(q) => say(rt, "query of depth ", q.depth as u64),
+        _ => Ok(()),
     }
 }
 
-fn show_packet(s: &[u8]) {
+fn show_packet(rt: &impl Print, s: &[u8]) -> io::Result<()> {
     let answer = read_packet(s, Link::Server);
     let PacketAnswer::Accepted(packet) = answer else {
-        io::write_all(1, b"packet refused\n");
-        return;
+        return println!(rt; "packet refused");
     };
-    say(b"read back; opcode: ", packet.opcode as u64);
+    say(rt, "read back; opcode: ", packet.opcode as u64)?;
     let body = packet.body;
-    show_body(s, body);
+    show_body(rt, s, body)
 }
 
 // Whether the query finds a file by its tags.
-fn show_truth(query: &[u8], scratch: &[u8], tags: Items) {
+fn show_truth(rt: &impl Print, query: &[u8], scratch: &[u8], tags: Items) -> io::Result<()> {
     let mut list = [0u8; 128];
     let wrote = write_tag_list(scratch, tags, &mut list);
     let truth = truth_of(query, bytes_at(&list, 0, wrote.length));
     if truth.holds {
-        io::write_all(1, b"the search finds the file\n");
+        println!(rt; "the search finds the file")
     } else {
-        io::write_all(1, b"the search does not find the file\n");
+        println!(rt; "the search does not find the file")
     }
 }
 
 // Composes the offer and reads it back.
-fn offer(first: &[u8], first_end: usize, second: &[u8], second_end: usize) {
+fn offer(
+    rt: &impl Print,
+    first: &[u8],
+    first_end: usize,
+    second: &[u8],
+    second_end: usize,
+) -> io::Result<()> {
     let mut records = [0u8; 256];
     let mut packet = [0u8; 256];
-    let end = put_files(first, first_end, second, second_end, &mut records);
-    let size = put_offer(&records, end, &mut packet);
-    show_packet(bytes_at(&packet, 0, size));
+    let end = put_files(rt, first, first_end, second, second_end, &mut records)?;
+    let size = put_offer(rt, &records, end, &mut packet)?;
+    show_packet(rt, bytes_at(&packet, 0, size))
 }
 
 // Composes the search, reads it back, and asks it of both files.
-fn search(first: &[u8], first_end: usize, second: &[u8], second_end: usize) {
+fn search(
+    rt: &impl Print,
+    first: &[u8],
+    first_end: usize,
+    second: &[u8],
+    second_end: usize,
+) -> io::Result<()> {
     let mut query = [0u8; 64];
     let mut packet = [0u8; 256];
     let query_length = put_query(&mut query);
     let asked = bytes_at(&query, 0, query_length);
-    let size = put_search(asked, &mut packet);
-    show_packet(bytes_at(&packet, 0, size));
-    show_truth(asked, first, file_tags(first_end));
-    show_truth(asked, second, file_tags(second_end));
+    let size = put_search(rt, asked, &mut packet)?;
+    show_packet(rt, bytes_at(&packet, 0, size))?;
+    show_truth(rt, asked, first, file_tags(first_end))?;
+    show_truth(rt, asked, second, file_tags(second_end))
 }
 
-fn show(first: &[u8], first_end: usize, second: &[u8], second_end: usize) {
-    offer(first, first_end, second, second_end);
-    search(first, first_end, second, second_end);
+fn show(
+    rt: &impl Print,
+    first: &[u8],
+    first_end: usize,
+    second: &[u8],
+    second_end: usize,
+) -> io::Result<()> {
+    offer(rt, first, first_end, second, second_end)?;
+    search(rt, first, first_end, second, second_end)
 }
 
-fn main() {
+fn main(rt: HostRuntime) -> io::Result<()> {
     let mut first = [0xA1u8; 128];
     let mut second = [0xB2u8; 128];
     let first_end = put_file_tags(&mut first, b"last 41 left.stl", 48211004);
     let second_end = put_file_tags(&mut second, b"last 41 right.stl", 48307212);
-    show(&first, first_end, &second, second_end);
+    show(&rt, &first, first_end, &second, second_end)
 }

@@ -10,6 +10,7 @@ use met::read_gaps;
 use output::{WriteAnswer, same};
 use put_gaps::put_gaps;
 use save::{save, save_strict};
+use std::io;
 use wire::bytes_at;
 
 // The part.met of a model of 100 bytes, all missing, with a tag for its priority.
@@ -23,99 +24,116 @@ const OPENED: [u8; 61] = [
 // The offset of the priority in it.
 const PRIORITY: usize = 39;
 
-fn say(words: &[u8], n: u64) {
-    io::write_all(1, words);
-    io::print_decimal(1, n);
-    io::write_all(1, b"\n");
+fn say(rt: &impl Print, words: &str, n: u64) -> io::Result<()> {
+    println!(rt; "{words}{n}")
 }
 
 // What a window makes of the opened file when the bytes from start up to end arrive: how many bytes it wants to save.
-fn edit(opened: &[u8], start: u64, end: u64, out: &mut [u8]) -> usize {
+fn edit(
+    rt: &impl Print,
+    opened: &[u8],
+    start: u64,
+    end: u64,
+    out: &mut [u8],
+) -> io::Result<usize> {
     let read = read_gaps(opened);
     let given = read.gaps;
     let marked = mark(given, start, end);
     let after = marked.after;
-    say(b"window marks; bytes missing: ", marked.missing);
+    say(rt, "window marks; bytes missing: ", marked.missing)?;
     let wrote = put_gaps(opened, after, out);
-    say(b"window puts its gaps; answer: ", wrote.number as u64);
-    wrote.length
+    say(rt, "window puts its gaps; answer: ", wrote.number as u64)?;
+    Ok(wrote.length)
 }
 
 // Both saves of what a window made say what they answer.
-fn save_window(stored: &[u8], opened: &[u8], made: &[u8], out: &mut [u8]) -> WriteAnswer {
+fn save_window(
+    rt: &impl Print,
+    stored: &[u8],
+    opened: &[u8],
+    made: &[u8],
+    out: &mut [u8],
+) -> io::Result<WriteAnswer> {
     let saved = save(stored, opened, made, out);
-    say(b"save: answer ", saved.number as u64);
-    saved
+    say(rt, "save: answer ", saved.number as u64)?;
+    Ok(saved)
 }
 
-fn save_window_strictly(stored: &[u8], opened: &[u8], made: &[u8], out: &mut [u8]) -> WriteAnswer {
+fn save_window_strictly(
+    rt: &impl Print,
+    stored: &[u8],
+    opened: &[u8],
+    made: &[u8],
+    out: &mut [u8],
+) -> io::Result<WriteAnswer> {
     let saved = save_strict(stored, opened, made, out);
-    say(b"strict save: answer ", saved.number as u64);
-    saved
+    say(rt, "strict save: answer ", saved.number as u64)?;
+    Ok(saved)
 }
 
-fn show_same(a: &[u8], b: &[u8]) {
+fn show_same(rt: &impl Print, a: &[u8], b: &[u8]) -> io::Result<()> {
     if same(a, b) {
-        io::write_all(1, b"the stored file is the first window's\n");
+        println!(rt; "the stored file is the first window's")
     } else {
-        io::write_all(1, b"the stored file is another\n");
+        println!(rt; "the stored file is another")
     }
 }
 
-fn show_order(one: &[u8], other: &[u8]) {
+fn show_order(rt: &impl Print, one: &[u8], other: &[u8]) -> io::Result<()> {
     if same(one, other) {
-        io::write_all(1, b"in the other order the same file is stored\n");
+        println!(rt; "in the other order the same file is stored")
     } else {
-        io::write_all(1, b"in the other order another file is stored\n");
+        println!(rt; "in the other order another file is stored")
     }
 }
 
-fn show_missing(file: &[u8]) {
+fn show_missing(rt: &impl Print, file: &[u8]) -> io::Result<()> {
     let read = read_gaps(file);
     say(
-        b"bytes missing in the stored file: ",
+        rt,
+        "bytes missing in the stored file: ",
         count_missing(read.gaps),
-    );
+    )
 }
 
 // Two windows mark different ranges of the model that is stored.
-fn mark_in_two_windows(stored: &[u8]) {
+fn mark_in_two_windows(rt: &impl Print, stored: &[u8]) -> io::Result<()> {
     let mut first = [0; 128];
     let mut second = [0; 128];
-    let first_length = edit(stored, 0, 40, &mut first);
-    let second_length = edit(stored, 60, 100, &mut second);
+    let first_length = edit(rt, stored, 0, 40, &mut first)?;
+    let second_length = edit(rt, stored, 60, 100, &mut second)?;
     let mine = bytes_at(&first, 0, first_length);
     let yours = bytes_at(&second, 0, second_length);
     let mut after_first = [0; 128];
-    let saved = save_window(stored, stored, mine, &mut after_first);
+    let saved = save_window(rt, stored, stored, mine, &mut after_first)?;
     let now = bytes_at(&after_first, 0, saved.length);
-    show_same(now, mine);
+    show_same(rt, now, mine)?;
     let mut after_second = [0; 128];
-    let refused = save_window_strictly(now, stored, yours, &mut after_second);
-    say(b"bytes written by it: ", refused.length as u64);
-    let merged = save_window(now, stored, yours, &mut after_second);
+    let refused = save_window_strictly(rt, now, stored, yours, &mut after_second)?;
+    say(rt, "bytes written by it: ", refused.length as u64)?;
+    let merged = save_window(rt, now, stored, yours, &mut after_second)?;
     let both = bytes_at(&after_second, 0, merged.length);
-    show_missing(both);
+    show_missing(rt, both)?;
     let mut in_other_order = [0; 128];
-    let exchanged = save_window(yours, stored, mine, &mut in_other_order);
-    show_order(both, bytes_at(&in_other_order, 0, exchanged.length));
+    let exchanged = save_window(rt, yours, stored, mine, &mut in_other_order)?;
+    show_order(rt, both, bytes_at(&in_other_order, 0, exchanged.length))
 }
 
 // Two windows set its priority in two ways.
-fn set_in_two_windows() {
+fn set_in_two_windows(rt: &impl Print) -> io::Result<()> {
     let mut first = OPENED;
     let mut second = OPENED;
     first[PRIORITY] = 1;
     second[PRIORITY] = 2;
     let mut out = [0; 128];
-    let refused = save_window(&first, &OPENED, &second, &mut out);
-    say(b"bytes written by it: ", refused.length as u64);
+    let refused = save_window(rt, &first, &OPENED, &second, &mut out)?;
+    say(rt, "bytes written by it: ", refused.length as u64)
 }
 
-fn main() {
+fn main(rt: HostRuntime) -> io::Result<()> {
     let nothing: [u8; 0] = [];
     let mut stored = [0; 128];
-    let saved = save_window_strictly(&nothing, &nothing, &OPENED, &mut stored);
-    mark_in_two_windows(bytes_at(&stored, 0, saved.length));
-    set_in_two_windows();
+    let saved = save_window_strictly(&rt, &nothing, &nothing, &OPENED, &mut stored)?;
+    mark_in_two_windows(&rt, bytes_at(&stored, 0, saved.length))?;
+    set_in_two_windows(&rt)
 }

@@ -7,51 +7,50 @@
 ghost use Rattle.std.specs.Prelude.{◌<◌, length};
 
 use console::{print_refused, print_summary, read_all, read_some};
-use libc::STDIN_FILENO;
 use read_any::{Kind, Lettered, kind_of_letter, summarize};
+use std::io;
+use std::io::Read;
 
 // Whether more comes after the n bytes that were read. Where they fill the buffer, the next one is read into the first
 // place, which is restored.
-fn more_comes(bytes: &mut [u8], n: usize) -> bool
+fn more_comes<R: Read>(input: &mut R, bytes: &mut [u8], n: usize) -> io::Result<bool>
     requires { 0 < length bytes.old }
 {
     if n < bytes.len() {
-        return false;
+        return Ok(false);
     }
     let first = bytes[0];
-    let more = read_some(STDIN_FILENO, &mut bytes[..1]);
+    let more = read_some(input, &mut bytes[..1]);
     bytes[0] = first;
-    more != 0
+    Ok(more? != 0)
 }
 
-fn print_bytes(kind: Kind, bytes: &mut [u8])
+fn print_bytes<R: Read>(rt: &impl Print, input: &mut R, kind: Kind, bytes: &mut [u8]) -> io::Result<()>
     requires { 0 < length bytes.old }
 {
-    let n = read_all(STDIN_FILENO, bytes);
-    if more_comes(bytes, n) {
-        print_refused(6);
-        return;
+    let n = read_all(input, bytes)?;
+    if more_comes(input, bytes, n)? {
+        return print_refused(rt, 6);
     }
-    print_summary(summarize(kind, &bytes[..n]));
+    print_summary(rt, summarize(kind, &bytes[..n]))
 }
 
-fn print_line(bytes: &mut [u8])
+fn print_line<R: Read>(rt: &impl Print, input: &mut R, bytes: &mut [u8]) -> io::Result<()>
     requires { 0 < length bytes.old }
 {
-    let n = read_some(STDIN_FILENO, &mut bytes[..1]);
+    let n = read_some(input, &mut bytes[..1])?;
     if n == 0 {
-        print_refused(1);
-        return;
+        return print_refused(rt, 1);
     }
     let lettered = kind_of_letter(bytes[0]);
     let Lettered::Is(kind) = lettered else {
-        print_refused(4);
-        return;
+        return print_refused(rt, 4);
     };
-    print_bytes(kind, bytes);
+    print_bytes(rt, input, kind, bytes)
 }
 
-fn main() {
+fn main(rt: HostRuntime) -> io::Result<()> {
     let mut bytes = [0u8; 65536];
-    print_line(&mut bytes);
+    let mut input = rt.stdin();
+    print_line(&rt, &mut input, &mut bytes)
 }

@@ -7,22 +7,22 @@
 ghost use Rattle.std.specs.Prelude.{◌≤◌, ◌<◌};
 
 use console::{field_end, read_all, read_hex};
-use libc::STDOUT_FILENO;
+use std::fs::File;
+use std::io;
 use truth::truth_of;
 use wire::bytes_at;
 
 // The room for the text of all cases.
 const ROOM: usize = 32768;
 
-fn print_truth(words: &[u8], query: &[u8], tags: &[u8]) {
+fn print_truth(rt: &impl Print, words: &[u8], query: &[u8], tags: &[u8]) -> io::Result<()> {
     let truth = truth_of(query, tags);
-    io::write_all(STDOUT_FILENO, words);
-    io::write_all(STDOUT_FILENO, b": ");
-    io::print_decimal(STDOUT_FILENO, truth.number as u64);
+    rt.write_all(words)?;
+    print!(rt; ": {}", truth.number)?;
     if truth.holds {
-        io::write_all(STDOUT_FILENO, b" yes\n");
+        println!(rt; " yes")
     } else {
-        io::write_all(STDOUT_FILENO, b" no\n");
+        println!(rt; " no")
     }
 }
 
@@ -45,7 +45,7 @@ fn line_at(text: &[u8; ROOM], at: usize) -> Line
 }
 
 // Prints the case whose line begins at an offset.
-fn print_case(text: &[u8; ROOM], at: usize, line: Line)
+fn print_case(rt: &impl Print, text: &[u8; ROOM], at: usize, line: Line) -> io::Result<()>
     requires { (at ≤ line.query) × (line.query < line.tags) × (line.tags < line.end) × (line.end < 262144) }
 {
     let mut query = [0u8; 128];
@@ -55,32 +55,29 @@ fn print_case(text: &[u8; ROOM], at: usize, line: Line)
     let query_length = read_hex(bytes_at(text, at, line.query - at), &mut query);
     let tags_length = read_hex(bytes_at(text, tags_at, line.tags - tags_at), &mut tags);
     print_truth(
+        rt,
         bytes_at(text, words_at, line.end - words_at),
         bytes_at(&query, 0, query_length),
         bytes_at(&tags, 0, tags_length),
-    );
+    )
 }
 
 // Prints the cases whose lines are the first bytes of the text.
-fn print_cases(text: &[u8; ROOM], length: usize)
+fn print_cases(rt: &impl Print, text: &[u8; ROOM], length: usize) -> io::Result<()>
     requires { length ≤ 32768 }
 {
     let mut at = 0;
     while at < length {
         let line = line_at(text, at);
-        print_case(text, at, line);
+        print_case(rt, text, at, line)?;
         at = line.end + 1;
     }
+    Ok(())
 }
 
-fn main() {
-    let fd = os::open_read(b"cases.txt");
-    if fd < 0 {
-        os::fail(b"cases.txt");
-        return;
-    }
+fn main(rt: HostRuntime) -> io::Result<()> {
+    let mut file = File::open(&rt, "cases.txt")?;
     let mut text = [0u8; ROOM];
-    let length = read_all(fd, &mut text);
-    libc::close(fd);
-    print_cases(&text, length);
+    let length = read_all(&mut file, &mut text)?;
+    print_cases(&rt, &text, length)
 }

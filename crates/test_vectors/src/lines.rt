@@ -1,41 +1,42 @@
 // Prints the line that the reader gives for each input of the two files.
 use console::{Input, next_input, print_summary};
 use read_any::{Lettered, kind_of_letter, summarize};
+use std::fs::File;
+use std::io;
+use std::io::Read;
+use std::rt::Files;
 use wire::bytes_at;
 
 // Prints the line for the next input of a file: whether there is one.
-fn print_next(fd: i32, bytes: &mut [u8]) -> bool {
-    let input = next_input(fd, bytes);
+fn print_next<R: Read>(rt: &impl Print, file: &mut R, bytes: &mut [u8]) -> io::Result<bool> {
+    let input = next_input(file, bytes)?;
     let Input::Of(letter, length) = input else {
-        return false;
+        return Ok(false);
     };
     let lettered = kind_of_letter(letter);
     let Lettered::Is(kind) = lettered else {
-        return false;
+        return Ok(false);
     };
-    print_summary(summarize(kind, bytes_at(bytes, 0, length)));
-    true
+    print_summary(rt, summarize(kind, bytes_at(bytes, 0, length)))?;
+    Ok(true)
 }
 
-// A loop must end, and nothing says that a file does: it counts its turns down, from a number that no file uses up.
-fn print_all(fd: i32, bytes: &mut [u8]) {
-    let mut turns = u64::MAX;
-    while turns > 0 && print_next(fd, bytes) {
-        turns -= 1;
+// A loop must end, and nothing says that a file does: it counts its turns, up to a number that no file uses up.
+fn print_all<R: Read>(rt: &impl Print, file: &mut R, bytes: &mut [u8]) -> io::Result<()> {
+    for _ in 0..u64::MAX {
+        if !print_next(rt, file, bytes)? {
+            break;
+        }
     }
+    Ok(())
 }
 
-fn print_file(path: &[u8], bytes: &mut [u8]) {
-    let fd = os::open_read(path);
-    if fd < 0 {
-        os::fail(path);
-        return;
-    }
-    print_all(fd, bytes);
-    libc::close(fd);
+fn print_file(rt: &(impl Files + Print), path: &str, bytes: &mut [u8]) -> io::Result<()> {
+    let mut file = File::open(rt, path)?;
+    print_all(rt, &mut file, bytes)
 }
 
-pub fn print_files(bytes: &mut [u8]) {
-    print_file(b"vectors.bin", bytes);
-    print_file(b"samples.bin", bytes);
+pub fn print_files(rt: &(impl Files + Print), bytes: &mut [u8]) -> io::Result<()> {
+    print_file(rt, "vectors.bin", bytes)?;
+    print_file(rt, "samples.bin", bytes)
 }

@@ -4,14 +4,15 @@
 #![tactic(auto)]
 
 use lines::print_files;
+use std::io;
 use written_back::print_written_back;
 
 mod lines;
 mod written_back;
 
-fn main() {
+fn main(rt: HostRuntime) -> io::Result<()> {
     let mut bytes = [0u8; 65536];
     let mut out = [0u8; 65536];
-    print_files(&mut bytes);
-    print_written_back(&mut bytes, &mut out);
+    print_files(&rt, &mut bytes)?;
+    print_written_back(&rt, &mut bytes, &mut out)
 }

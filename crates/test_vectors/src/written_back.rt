@@ -1,11 +1,13 @@
 // Writes again each packet and file that is read from the two files. Prints for each kind how many were read, and how many of them
 // were written as the same bytes.
 use console::{Input, next_input};
-use libc::STDOUT_FILENO;
 use output::{WriteAnswer, same};
 use packets::{Link, Packet};
 use read_any::{Answer, Kind, Message, read};
-use std::num::wrapping_add_u64;
+use std::fs::File;
+use std::io;
+use std::io::Read;
+use std::rt::Files;
 use wire::bytes_at;
 use write_met::{write_known_met, write_server_met};
 use write_packets::write_packet;
@@ -43,12 +45,12 @@ fn tally_message(tally: Tally, kind: Kind, s: &[u8], out: &mut [u8]) -> Tally {
         return tally;
     };
     let written = write_message(kind, s, message, out);
-    let read = wrapping_add_u64(tally.read, 1);
+    let read = tally.read.wrapping_add(1);
     let length = written.length;
     if written.number == 0 && same(bytes_at(out, 0, length), s) {
         return Tally {
             read,
-            same: wrapping_add_u64(tally.same, 1),
+            same: tally.same.wrapping_add(1),
         };
     }
     Tally {
@@ -65,21 +67,20 @@ fn tally_input(tally: Tally, of_kind: bool, kind: Kind, s: &[u8], out: &mut [u8]
     tally
 }
 
-// A loop must end, and nothing says that a file does: it counts its turns down, from a number that no file uses up.
-fn tally_inputs(
+// A loop must end, and nothing says that a file does: it counts its turns, up to a number that no file uses up.
+fn tally_inputs<R: Read>(
     tally: Tally,
-    fd: i32,
+    file: &mut R,
     letter: u8,
     kind: Kind,
     bytes: &mut [u8],
     out: &mut [u8],
-) -> Tally {
+) -> io::Result<Tally> {
     let mut so_far = tally;
-    let mut turns = u64::MAX;
-    while turns > 0 {
-        let input = next_input(fd, bytes);
+    for _ in 0..u64::MAX {
+        let input = next_input(file, bytes)?;
         let Input::Of(found, length) = input else {
-            return so_far;
+            return Ok(so_far);
         };
         so_far = tally_input(
             so_far,
@@ -88,54 +89,54 @@ fn tally_inputs(
             bytes_at(bytes, 0, length),
             out,
         );
-        turns -= 1;
     }
-    so_far
+    Ok(so_far)
 }
 
 fn tally_file(
+    rt: &impl Files,
     tally: Tally,
-    path: &[u8],
+    path: &str,
     letter: u8,
     kind: Kind,
     bytes: &mut [u8],
     out: &mut [u8],
-) -> Tally {
-    let fd = os::open_read(path);
-    if fd < 0 {
-        os::fail(path);
-        return tally;
-    }
-    let after = tally_inputs(tally, fd, letter, kind, bytes, out);
-    libc::close(fd);
-    after
+) -> io::Result<Tally> {
+    let mut file = File::open(rt, path)?;
+    tally_inputs(tally, &mut file, letter, kind, bytes, out)
 }
 
-fn print_kind(name: &[u8], letter: u8, kind: Kind, bytes: &mut [u8], out: &mut [u8]) {
+fn print_kind(
+    rt: &(impl Files + Print),
+    name: &str,
+    letter: u8,
+    kind: Kind,
+    bytes: &mut [u8],
+    out: &mut [u8],
+) -> io::Result<()> {
     let none = Tally { read: 0, same: 0 };
-    let made = tally_file(none, b"vectors.bin", letter, kind, bytes, out);
-    let all = tally_file(made, b"samples.bin", letter, kind, bytes, out);
-    io::write_all(STDOUT_FILENO, name);
-    io::write_all(STDOUT_FILENO, b": ");
-    io::print_decimal(STDOUT_FILENO, all.read);
-    io::write_all(STDOUT_FILENO, b" read, ");
-    io::print_decimal(STDOUT_FILENO, all.same);
-    io::write_all(STDOUT_FILENO, b" written the same\n");
+    let made = tally_file(rt, none, "vectors.bin", letter, kind, bytes, out)?;
+    let all = tally_file(rt, made, "samples.bin", letter, kind, bytes, out)?;
+    println!(rt; "{name}: {} read, {} written the same", all.read, all.same)
 }
 
-fn print_links(bytes: &mut [u8], out: &mut [u8]) {
-    print_kind(b"server link", b's', Kind::ServerLink, bytes, out);
-    print_kind(b"client link", b'c', Kind::ClientLink, bytes, out);
-    print_kind(b"UDP", b'u', Kind::UdpLink, bytes, out);
+fn print_links(rt: &(impl Files + Print), bytes: &mut [u8], out: &mut [u8]) -> io::Result<()> {
+    print_kind(rt, "server link", b's', Kind::ServerLink, bytes, out)?;
+    print_kind(rt, "client link", b'c', Kind::ClientLink, bytes, out)?;
+    print_kind(rt, "UDP", b'u', Kind::UdpLink, bytes, out)
 }
 
-fn print_met_files(bytes: &mut [u8], out: &mut [u8]) {
-    print_kind(b"known.met", b'k', Kind::KnownMet, bytes, out);
-    print_kind(b"server.met", b'v', Kind::ServerMet, bytes, out);
-    print_kind(b"part.met", b'p', Kind::PartMet, bytes, out);
+fn print_met_files(rt: &(impl Files + Print), bytes: &mut [u8], out: &mut [u8]) -> io::Result<()> {
+    print_kind(rt, "known.met", b'k', Kind::KnownMet, bytes, out)?;
+    print_kind(rt, "server.met", b'v', Kind::ServerMet, bytes, out)?;
+    print_kind(rt, "part.met", b'p', Kind::PartMet, bytes, out)
 }
 
-pub fn print_written_back(bytes: &mut [u8], out: &mut [u8]) {
-    print_links(bytes, out);
-    print_met_files(bytes, out);
+pub fn print_written_back(
+    rt: &(impl Files + Print),
+    bytes: &mut [u8],
+    out: &mut [u8],
+) -> io::Result<()> {
+    print_links(rt, bytes, out)?;
+    print_met_files(rt, bytes, out)
 }

@@ -3,25 +3,25 @@
 
 #![tactic(auto)]
 
-ghost use Rattle.std.specs.Prelude.{◌≡◌, ◌<◌};
+ghost use Rattle.std.specs.Prelude.{◌≡◌, ◌<◌, IfOk};
 ghost use Rattle.test_walker.specs.Stops.{stops_after};
 
+use std::io;
 use tag_walker::{WalkStep, new, next};
 use tags::{Tag, TagValue};
 use wire::bytes_at;
 
-fn write(bytes: &[u8]) {
-    io::write_all(1, bytes);
+fn write(rt: &impl Print, bytes: &[u8]) -> io::Result<()> {
+    rt.write_all(bytes)
 }
 
-fn write_line(bytes: &[u8]) {
-    write(bytes);
-    write(b"\n");
+fn write_line(rt: &impl Print, bytes: &[u8]) -> io::Result<()> {
+    write(rt, bytes)?;
+    println!(rt)
 }
 
-fn write_number(n: u64) {
-    io::print_decimal(1, n);
-    write(b"\n");
+fn write_number(rt: &impl Print, n: u64) -> io::Result<()> {
+    println!(rt; "{n}")
 }
 
 fn wide(n: u32) -> u64 {
@@ -32,91 +32,96 @@ fn byte_wide(n: u8) -> u64 {
     n as u64
 }
 
-fn show_tag(list: &[u8], tag: Tag) {
+fn show_tag(rt: &impl Print, list: &[u8], tag: Tag) -> io::Result<()> {
     let name = bytes_at(list, tag.name_at, tag.name_len);
-    write(b"  tag ");
-    write(name);
+    write(rt, b"  tag ")?;
+    write(rt, name)?;
     let value = tag.value;
     match value {
         TagValue::Hash(at) => {
-            write(b", hash ");
-            write_line(bytes_at(list, at, 16));
+            write(rt, b", hash ")?;
+            write_line(rt, bytes_at(list, at, 16))
         }
         TagValue::Text(p) => {
-            write(b", string ");
-            write_line(bytes_at(list, p.at, p.len));
+            write(rt, b", string ")?;
+            write_line(rt, bytes_at(list, p.at, p.len))
         }
         TagValue::Dword(n) => {
-            write(b", number ");
-            write_number(wide(n));
+            write(rt, b", number ")?;
+            write_number(rt, wide(n))
         }
         TagValue::Float(n) => {
-            write(b", bits of a float ");
-            write_number(wide(n));
+            write(rt, b", bits of a float ")?;
+            write_number(rt, wide(n))
         }
     }
 }
 
 // Prints a step, and counts those that are no tag.
-fn show(list: &[u8], step: WalkStep, stops: u8) -> u8
+fn show(rt: &impl Print, list: &[u8], step: WalkStep, stops: u8) -> io::Result<u8>
     requires { stops < 2 }
-    ensures { result ≡ stops_after step stops }
+    ensures { IfOk result (λ count. count ≡ stops_after step stops) }
 {
     match step {
         WalkStep::Tag(tag) => {
-            show_tag(list, tag);
-            stops
+            show_tag(rt, list, tag)?;
+            Ok(stops)
         }
         WalkStep::End => {
-            write(b"  end\n");
-            stops + 1
+            write(rt, b"  end\n")?;
+            Ok(stops + 1)
         }
         WalkStep::Refused(n) => {
-            write(b"  refused ");
-            write_number(byte_wide(n));
-            stops + 1
+            write(rt, b"  refused ")?;
+            write_number(rt, byte_wide(n))?;
+            Ok(stops + 1)
         }
     }
 }
 
 // Asks a walker until it has twice given no tag.
-fn walk(list: &[u8]) {
+fn walk(rt: &impl Print, list: &[u8]) -> io::Result<()> {
     let mut w = new(list);
     let mut stops = 0;
     while stops < 2 {
-        stops = show(list, next(&mut w), stops);
+        stops = show(rt, list, next(&mut w), stops)?;
     }
+    Ok(())
 }
 
-fn show_walk(words: &[u8], list: &[u8]) {
-    write_line(words);
-    walk(list);
+fn show_walk(rt: &impl Print, words: &[u8], list: &[u8]) -> io::Result<()> {
+    write_line(rt, words)?;
+    walk(rt, list)
 }
 
-fn main() {
-    show_walk(b"the empty list", b"\x00\x00\x00\x00");
+fn main(rt: HostRuntime) -> io::Result<()> {
+    show_walk(&rt, b"the empty list", b"\x00\x00\x00\x00")?;
     show_walk(
+        &rt,
         b"a tag of each type",
         b"\x04\x00\x00\x00\
         \x02\x06\x00Artist\x08\x00Coltrane\
         \x03\x07\x00bitrate\xc0\x00\x00\x00\
         \x01\x06\x00source0123456789abcdef\
         \x04\x05\x00girth\x00\x00\x80\x3f",
-    );
+    )?;
     show_walk(
+        &rt,
         b"a byte left after the last tag",
         b"\x01\x00\x00\x00\x03\x04\x00size\x05\x00\x00\x00\x00",
-    );
+    )?;
     show_walk(
+        &rt,
         b"a second tag that is cut short",
         b"\x02\x00\x00\x00\x03\x04\x00size\x05\x00\x00\x00\x03\x04\x00size\x05\x00\x00",
-    );
+    )?;
     show_walk(
+        &rt,
         b"a second tag of a wrong type",
         b"\x02\x00\x00\x00\x03\x04\x00size\x05\x00\x00\x00\x05\x04\x00size\x05\x00\x00\x00",
-    );
-    show_walk(b"a name of 256 bytes", b"\x01\x00\x00\x00\x03\x00\x01");
-    show_walk(b"no bytes", b"");
-    show_walk(b"65,537 bytes", &[0u8; 65537]);
-    show_walk(b"65,536 bytes", &[0u8; 65536]);
+    )?;
+    show_walk(&rt, b"a name of 256 bytes", b"\x01\x00\x00\x00\x03\x00\x01")?;
+    show_walk(&rt, b"no bytes", b"")?;
+    show_walk(&rt, b"65,537 bytes", &[0u8; 65537])?;
+    show_walk(&rt, b"65,536 bytes", &[0u8; 65536])
 }

@@ -7,6 +7,7 @@ use bodies::{Body, Form, StatusRequest};
 use met::{HashBlocks, PartE1, PartMet};
 use output::{WriteAnswer, same};
 use packets::{Link, Packet, opcode};
+use std::io;
 use wire::{Items, bytes_at};
 use write_packets::write_packet;
 use write_part::write_part_met;
@@ -23,21 +24,24 @@ fn items(at: usize, count: u32) -> Items {
 }
 
 // Prints an answer; where it is a refusal, also whether a byte of the output, which held 0 before, has changed.
-fn show(words: &[u8], answer: WriteAnswer, out: &[u8]) {
-    io::write_all(1, words);
-    io::write_all(1, b": answer ");
-    io::print_decimal(1, answer.number as u64);
-    io::write_all(1, b", bytes ");
-    io::print_decimal(1, answer.length as u64);
+fn show(rt: &impl Print, words: &str, answer: WriteAnswer, out: &[u8]) -> io::Result<()> {
+    print!(rt; "{words}: answer {}, bytes {}", answer.number, answer.length)?;
     let before = [0u8; 64];
     if answer.number != 0 && !same(out, bytes_at(&before, 0, out.len())) {
-        io::write_all(1, b", output changed");
+        print!(rt; ", output changed")?;
     }
-    io::write_all(1, b"\n");
+    println!(rt)
 }
 
 // A packet into an output of 64 bytes.
-fn show_packet(words: &[u8], src: &[u8], link: Link, code: u8, body: Body) {
+fn show_packet(
+    rt: &impl Print,
+    words: &str,
+    src: &[u8],
+    link: Link,
+    code: u8,
+    body: Body,
+) -> io::Result<()> {
     let mut out = [0u8; 64];
     let packet = Packet {
         opening: 0xE3,
@@ -45,10 +49,10 @@ fn show_packet(words: &[u8], src: &[u8], link: Link, code: u8, body: Body) {
         body,
     };
     let answer = write_packet(src, link, packet, &mut out);
-    show(words, answer, &out);
+    show(rt, words, answer, &out)
 }
 
-fn show_short_room() {
+fn show_short_room(rt: &impl Print) -> io::Result<()> {
     let mut out = [0u8; 13];
     let packet = Packet {
         opening: 0xE3,
@@ -56,10 +60,10 @@ fn show_short_room() {
         body: Body::TwoDwords(3, 5),
     };
     let answer = write_packet(&SOURCE, Link::Server, packet, &mut out);
-    show(b"two numbers into 13 bytes", answer, &out);
+    show(rt, "two numbers into 13 bytes", answer, &out)
 }
 
-fn show_opening() {
+fn show_opening(rt: &impl Print) -> io::Result<()> {
     let mut out = [0u8; 64];
     let packet = Packet {
         opening: 0xC5,
@@ -67,23 +71,29 @@ fn show_opening() {
         body: Body::TwoDwords(3, 5),
     };
     let answer = write_packet(&SOURCE, Link::Server, packet, &mut out);
-    show(b"a packet that opens with C5", answer, &out);
+    show(rt, "a packet that opens with C5", answer, &out)
 }
 
 // 96 with a number: whether it is the plain or the extended request is in the number.
-fn show_status_request(words: &[u8], form: Form, number: u32) {
+fn show_status_request(
+    rt: &impl Print,
+    words: &str,
+    form: Form,
+    number: u32,
+) -> io::Result<()> {
     let request = StatusRequest { form, number };
     show_packet(
+        rt,
         words,
         &SOURCE,
         Link::Udp,
         opcode::UDP_SERVER_STATUS_REQUEST,
         Body::StatusRequest(request),
-    );
+    )
 }
 
 // A part.met of 972,800 bytes with these blocks.
-fn show_part(words: &[u8], blocks: HashBlocks) {
+fn show_part(rt: &impl Print, words: &str, blocks: HashBlocks) -> io::Result<()> {
     let mut out = [0u8; 64];
     let tags = items(16, 1);
     let part = PartE1 {
@@ -93,85 +103,92 @@ fn show_part(words: &[u8], blocks: HashBlocks) {
         blocks,
     };
     let answer = write_part_met(&SOURCE, PartMet::E1(part), &mut out);
-    show(words, answer, &out);
+    show(rt, words, answer, &out)
 }
 
-fn show_addresses(words: &[u8], count: u32) {
+fn show_addresses(rt: &impl Print, words: &str, count: u32) -> io::Result<()> {
     let source = [7u8; 1536];
     let list = items(0, count);
     show_packet(
+        rt,
         words,
         &source,
         Link::Server,
         opcode::SERVER_LIST,
         Body::Addresses(list),
-    );
+    )
 }
 
-fn show_packets() {
+fn show_packets(rt: &impl Print) -> io::Result<()> {
     show_packet(
-        b"two numbers",
+        rt,
+        "two numbers",
         &SOURCE,
         Link::Server,
         opcode::SERVER_STATUS,
         Body::TwoDwords(3, 5),
-    );
-    show_short_room();
-    show_opening();
+    )?;
+    show_short_room(rt)?;
+    show_opening(rt)?;
     show_packet(
-        b"one number where two belong",
+        rt,
+        "one number where two belong",
         &SOURCE,
         Link::Server,
         opcode::SERVER_STATUS,
         Body::Dword(3),
-    );
+    )?;
     show_packet(
-        b"an opcode that is not listed",
+        rt,
+        "an opcode that is not listed",
         &SOURCE,
         Link::Server,
         0x99,
         Body::Dword(3),
-    );
+    )?;
     show_packet(
-        b"a hash that is not there",
+        rt,
+        "a hash that is not there",
         &SOURCE,
         Link::Server,
         opcode::GET_SOURCES,
         Body::Hash(25),
-    );
+    )
 }
 
-fn show_counts() {
-    show_addresses(b"9 addresses", 9);
-    show_addresses(b"256 addresses", 256);
-    show_addresses(b"257 addresses where 256 are", 257);
+fn show_counts(rt: &impl Print) -> io::Result<()> {
+    show_addresses(rt, "9 addresses", 9)?;
+    show_addresses(rt, "256 addresses", 256)?;
+    show_addresses(rt, "257 addresses where 256 are", 257)
 }
 
-fn show_forms() {
-    show_status_request(b"a plain 96", Form::Plain, 0x01020304);
-    show_status_request(b"an extended 96", Form::Extended, 0x5AAA0102);
-    show_status_request(b"a plain 96 called extended", Form::Extended, 0x01020304);
-    show_status_request(b"an extended 96 called plain", Form::Plain, 0x5AAA0102);
+fn show_forms(rt: &impl Print) -> io::Result<()> {
+    show_status_request(rt, "a plain 96", Form::Plain, 0x01020304)?;
+    show_status_request(rt, "an extended 96", Form::Extended, 0x5AAA0102)?;
+    show_status_request(rt, "a plain 96 called extended", Form::Extended, 0x01020304)?;
+    show_status_request(rt, "an extended 96 called plain", Form::Plain, 0x5AAA0102)
 }
 
-fn show_parts() {
-    show_part(b"no blocks", HashBlocks::Nothing);
-    show_part(b"one part hash", HashBlocks::Parts(items(24, 1)));
-    show_part(b"two block hashes alone", HashBlocks::Blocks(items(24, 2)));
-    show_part(b"one block hash alone", HashBlocks::Blocks(items(24, 1)));
+fn show_parts(rt: &impl Print) -> io::Result<()> {
+    show_part(rt, "no blocks", HashBlocks::Nothing)?;
+    show_part(rt, "one part hash", HashBlocks::Parts(items(24, 1)))?;
+    show_part(rt, "two block hashes alone", HashBlocks::Blocks(items(24, 2)))?;
+    show_part(rt, "one block hash alone", HashBlocks::Blocks(items(24, 1)))?;
     show_part(
-        b"no part hash where one belongs",
+        rt,
+        "no part hash where one belongs",
         HashBlocks::Parts(items(24, 0)),
-    );
+    )?;
     show_part(
-        b"three block hashes where two belong",
+        rt,
+        "three block hashes where two belong",
         HashBlocks::Both(items(24, 1), items(0, 3)),
-    );
+    )
 }
 
-fn main() {
-    show_packets();
-    show_counts();
-    show_forms();
-    show_parts();
+fn main(rt: HostRuntime) -> io::Result<()> {
+    show_packets(&rt)?;
+    show_counts(&rt)?;
+    show_forms(&rt)?;
+    show_parts(&rt)
 }
