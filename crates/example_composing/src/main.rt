@@ -66,12 +66,7 @@ fn file_tags(tags_end: usize) -> Items {
 }
 
 // A file's record, at the front of what is lent: how many bytes it has.
-fn put_file(
-    rt: &impl Print,
-    scratch: &[u8],
-    tags: Items,
-    out: &mut [u8],
-) -> io::Result<usize>
+fn put_file(rt: &impl Print, scratch: &[u8], tags: Items, out: &mut [u8]) -> io::Result<usize>
     ensures { IfOk result (λ count. count ≤ length out.old) }
 {
     let record = Record {

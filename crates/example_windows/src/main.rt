@@ -29,13 +29,7 @@ fn say(rt: &impl Print, words: &str, n: u64) -> io::Result<()> {
 }
 
 // What a window makes of the opened file when the bytes from start up to end arrive: how many bytes it wants to save.
-fn edit(
-    rt: &impl Print,
-    opened: &[u8],
-    start: u64,
-    end: u64,
-    out: &mut [u8],
-) -> io::Result<usize> {
+fn edit(rt: &impl Print, opened: &[u8], start: u64, end: u64, out: &mut [u8]) -> io::Result<usize> {
     let read = read_gaps(opened);
     let given = read.gaps;
     let marked = mark(given, start, end);

@@ -25,7 +25,12 @@ fn more_comes<R: Read>(input: &mut R, bytes: &mut [u8], n: usize) -> io::Result<
     Ok(more? != 0)
 }
 
-fn print_bytes<R: Read>(rt: &impl Print, input: &mut R, kind: Kind, bytes: &mut [u8]) -> io::Result<()>
+fn print_bytes<R: Read>(
+    rt: &impl Print,
+    input: &mut R,
+    kind: Kind,
+    bytes: &mut [u8],
+) -> io::Result<()>
     requires { 0 < length bytes.old }
 {
     let n = read_all(input, bytes)?;

@@ -2,7 +2,7 @@
 
 #![tactic(auto)]
 
-ghost use Rattle.std.specs.Prelude.{◌≡◌, ◌+◌, ◌≤◌, ◌<◌};
+ghost use Rattle.std.specs.Prelude.{◌≡◌, ◌+◌, ◌≤◌, ◌<◌, IfOk};
 ghost use Rattle.format.specs.Gaps.{size_limit};
 ghost use Rattle.gaps.specs.Marking.{marked};
 ghost use Rattle.test_cases.specs.Orders.{MarkedInBothOrders, tallied};
@@ -10,40 +10,42 @@ ghost use Rattle.test_cases.specs.Orders.{MarkedInBothOrders, tallied};
 use gaps::{Gap, GapRecord, MarkAnswer, Marked, all_missing, mark, mark_in_place};
 use met::{block_count, part_count};
 use query::{QueryAnswer, read_lone_query};
+use std::io;
 
-fn say(words: &[u8], n: u64) {
-    io::write_all(1, words);
-    io::print_decimal(1, n);
-    io::write_all(1, b"\n");
+fn say(rt: &impl Print, words: &str, n: u64) -> io::Result<()> {
+    println!(rt; "{words}{n}")
 }
 
-fn show_query(bytes: &[u8]) {
+fn show_query(rt: &impl Print, bytes: &[u8]) -> io::Result<()> {
     let answer = read_lone_query(bytes);
     match answer {
-        QueryAnswer::Accepted(q) => say(b"query of depth ", q.depth as u64),
-        QueryAnswer::Refused(n) => say(b"query refused ", n as u64),
+        QueryAnswer::Accepted(q) => say(rt, "query of depth ", q.depth as u64),
+        QueryAnswer::Refused(n) => say(rt, "query refused ", n as u64),
     }
 }
 
 // The two search filters printed in source document 003: audio files, and "filename" with format "txt", of 1 to 5678 bytes.
-fn show_filters() {
+fn show_filters(rt: &impl Print) -> io::Result<()> {
     show_query(
+        rt,
         b"\x00\x00\x00\x00\x00\x00\x01\x04\x00file\
         \x02\x05\x00audio\x01\x00\x03\
         \x03\xD2\x04\x00\x00\x01\x01\x00\x02\
         \x03.\x16\x00\x00\x02\x01\x00\x02",
-    );
+    )?;
     show_query(
+        rt,
         b"\x00\x00\x00\x00\x00\x00\x01\x08\x00filename\
         \x02\x03\x00txt\x01\x00\x04\
         \x03\x01\x00\x00\x00\x01\x01\x00\x02\
         \x03.\x16\x00\x00\x02\x01\x00\x02",
-    );
+    )
 }
 
 // Operators one inside the other, each over the keyword "a" and the next: depth 24, and one operator more.
-fn show_depths() {
+fn show_depths(rt: &impl Print) -> io::Result<()> {
     show_query(
+        rt,
         b"\x00\x00\x01\x01\x00a\x00\x00\x01\x01\x00a\x00\x00\x01\x01\x00a\x00\x00\x01\x01\x00a\
         \x00\x00\x01\x01\x00a\x00\x00\x01\x01\x00a\x00\x00\x01\x01\x00a\x00\x00\x01\x01\x00a\
         \x00\x00\x01\x01\x00a\x00\x00\x01\x01\x00a\x00\x00\x01\x01\x00a\x00\x00\x01\x01\x00a\
@@ -51,8 +53,9 @@ fn show_depths() {
         \x00\x00\x01\x01\x00a\x00\x00\x01\x01\x00a\x00\x00\x01\x01\x00a\x00\x00\x01\x01\x00a\
         \x00\x00\x01\x01\x00a\x00\x00\x01\x01\x00a\x00\x00\x01\x01\x00a\
         \x01\x01\x00a",
-    );
+    )?;
     show_query(
+        rt,
         b"\x00\x00\x01\x01\x00a\x00\x00\x01\x01\x00a\x00\x00\x01\x01\x00a\x00\x00\x01\x01\x00a\
         \x00\x00\x01\x01\x00a\x00\x00\x01\x01\x00a\x00\x00\x01\x01\x00a\x00\x00\x01\x01\x00a\
         \x00\x00\x01\x01\x00a\x00\x00\x01\x01\x00a\x00\x00\x01\x01\x00a\x00\x00\x01\x01\x00a\
@@ -60,50 +63,44 @@ fn show_depths() {
         \x00\x00\x01\x01\x00a\x00\x00\x01\x01\x00a\x00\x00\x01\x01\x00a\x00\x00\x01\x01\x00a\
         \x00\x00\x01\x01\x00a\x00\x00\x01\x01\x00a\x00\x00\x01\x01\x00a\x00\x00\x01\x01\x00a\
         \x01\x01\x00a",
-    );
+    )
 }
 
-fn show_answer(words: &[u8], start: u64, end: u64, number: u8) {
-    io::write_all(1, words);
-    io::print_decimal(1, start);
-    io::write_all(1, b" to ");
-    io::print_decimal(1, end);
-    io::write_all(1, b": answer ");
-    io::print_decimal(1, number as u64);
+fn show_answer(rt: &impl Print, words: &str, start: u64, end: u64, number: u8) -> io::Result<()> {
+    print!(rt; "{words}{start} to {end}: answer {number}")
 }
 
 // Marks a range, and prints the number of the answer, how many gaps are left and how many bytes are missing.
-fn show_mark(g: GapRecord, start: u64, end: u64) -> GapRecord {
+fn show_mark(rt: &impl Print, g: GapRecord, start: u64, end: u64) -> io::Result<GapRecord> {
     let marked = mark(g, start, end);
     let after = marked.after;
-    show_answer(b"mark ", start, end, marked.number);
-    io::write_all(1, b", gaps ");
-    io::print_decimal(1, after.count as u64);
-    say(b", missing ", marked.missing);
-    after
+    show_answer(rt, "mark ", start, end, marked.number)?;
+    print!(rt; ", gaps {}", after.count)?;
+    say(rt, ", missing ", marked.missing)?;
+    Ok(after)
 }
 
-fn show_gap(g: GapRecord, i: usize) {
+fn show_gap(rt: &impl Print, g: GapRecord, i: usize) -> io::Result<()> {
     if i < 64 {
         let gap = g.gaps[i];
-        io::write_all(1, b"gap ");
-        io::print_decimal(1, gap.start);
-        say(b" to ", gap.end);
+        print!(rt; "gap {}", gap.start)?;
+        say(rt, " to ", gap.end)?;
     }
+    Ok(())
 }
 
-fn show_in_place(answer: MarkAnswer, start: u64, end: u64) {
-    show_answer(b"mark in place ", start, end, answer.number);
-    say(b", missing ", answer.missing);
+fn show_in_place(rt: &impl Print, answer: MarkAnswer, start: u64, end: u64) -> io::Result<()> {
+    show_answer(rt, "mark in place ", start, end, answer.number)?;
+    say(rt, ", missing ", answer.missing)
 }
 
 // Marks a range of a record that is lent to the marking call, and hands the record back as the call left it.
-fn mark_lent(mut g: GapRecord, start: u64, end: u64) -> GapRecord
-    ensures { result ≡ (marked size_limit g start end).after }
+fn mark_lent(rt: &impl Print, mut g: GapRecord, start: u64, end: u64) -> io::Result<GapRecord>
+    ensures { IfOk result (λ after. after ≡ (marked size_limit g start end).after) }
 {
     let answer = mark_in_place(&mut g, start, end);
-    show_in_place(answer, start, end);
-    g
+    show_in_place(rt, answer, start, end)?;
+    Ok(g)
 }
 
 fn is_same_gap(a: GapRecord, b: GapRecord, i: usize) -> bool {
@@ -135,11 +132,11 @@ fn is_same(a: GapRecord, b: GapRecord) -> bool {
     true
 }
 
-fn show_same(a: GapRecord, b: GapRecord) {
+fn show_same(rt: &impl Print, a: GapRecord, b: GapRecord) -> io::Result<()> {
     if is_same(a, b) {
-        io::write_all(1, b"the record is equal\n");
+        println!(rt; "the record is equal")
     } else {
-        io::write_all(1, b"the record differs\n");
+        println!(rt; "the record differs")
     }
 }
 
@@ -156,14 +153,14 @@ fn many_gaps() -> GapRecord {
 }
 
 // The marking in place: a refusal leaves the record equal.
-fn show_lent() {
-    let halves = mark_lent(all_missing(100), 40, 60);
-    show_gap(halves, 0);
-    show_gap(halves, 1);
-    show_same(halves, mark_lent(halves, 60, 60));
+fn show_lent(rt: &impl Print) -> io::Result<()> {
+    let halves = mark_lent(rt, all_missing(100), 40, 60)?;
+    show_gap(rt, halves, 0)?;
+    show_gap(rt, halves, 1)?;
+    show_same(rt, halves, mark_lent(rt, halves, 60, 60)?)?;
     let full = many_gaps();
-    say(b"gaps ", full.count as u64);
-    show_same(full, mark_lent(full, 3, 4));
+    say(rt, "gaps ", full.count as u64)?;
+    show_same(rt, full, mark_lent(rt, full, 3, 4)?)
 }
 
 // Two markings in each order: the number of the first one, and the answer of the last one.
@@ -299,7 +296,7 @@ fn add_pair(tally: Tally, pair: Pair) -> Tally
 }
 
 // Ranges and records that are drawn at random.
-fn show_pairs() {
+fn show_pairs(rt: &impl Print) -> io::Result<()> {
     let mut tally = Tally {
         accepted: 0,
         equal: 0,
@@ -311,54 +308,59 @@ fn show_pairs() {
         tally = add_pair(tally, random_pair(random));
         pairs += 1;
     }
-    say(b"pairs of ranges ", pairs);
-    say(b"pairs with no refusal in either order ", tally.accepted);
-    say(b"pairs that leave the same in either order ", tally.equal);
+    say(rt, "pairs of ranges ", pairs)?;
+    say(rt, "pairs with no refusal in either order ", tally.accepted)?;
+    say(
+        rt,
+        "pairs that leave the same in either order ",
+        tally.equal,
+    )
 }
 
 // In place too: the second order leaves the record of the first.
-fn show_lent_orders() {
+fn show_lent_orders(rt: &impl Print) -> io::Result<()> {
     let whole = all_missing(100);
-    let one = mark_lent(mark_lent(whole, 10, 30), 20, 50);
-    show_same(one, mark_lent(mark_lent(whole, 20, 50), 10, 30));
+    let one = mark_lent(rt, mark_lent(rt, whole, 10, 30)?, 20, 50)?;
+    show_same(
+        rt,
+        one,
+        mark_lent(rt, mark_lent(rt, whole, 20, 50)?, 10, 30)?,
+    )
 }
 
 // Why no call may be refused: at 64 gaps the first range makes one too many, unless the second has taken a whole gap away before.
-fn show_refused_order() {
+fn show_refused_order(rt: &impl Print) -> io::Result<()> {
     let full = many_gaps();
-    let one = show_mark(show_mark(full, 3, 4), 10, 19);
-    show_same(one, show_mark(show_mark(full, 10, 19), 3, 4));
+    let one = show_mark(rt, show_mark(rt, full, 3, 4)?, 10, 19)?;
+    show_same(rt, one, show_mark(rt, show_mark(rt, full, 10, 19)?, 3, 4)?)
 }
 
 // How many part hashes and block hashes a file of a size has.
-fn show_size(size: u32) {
-    io::write_all(1, b"size ");
-    io::print_decimal(1, size as u64);
-    io::write_all(1, b": parts ");
-    io::print_decimal(1, part_count(size) as u64);
-    say(b", blocks ", block_count(size) as u64);
+fn show_size(rt: &impl Print, size: u32) -> io::Result<()> {
+    print!(rt; "size {size}: parts {}", part_count(size))?;
+    say(rt, ", blocks ", block_count(size) as u64)
 }
 
-fn main() {
-    show_filters();
-    show_depths();
-    show_size(0);
-    show_size(972800);
-    show_size(9728000);
-    show_size(9728001);
-    show_size(4294967295);
+fn main(rt: HostRuntime) -> io::Result<()> {
+    show_filters(&rt)?;
+    show_depths(&rt)?;
+    show_size(&rt, 0)?;
+    show_size(&rt, 972800)?;
+    show_size(&rt, 9728000)?;
+    show_size(&rt, 9728001)?;
+    show_size(&rt, 4294967295)?;
     let whole = all_missing(100);
-    let halves = show_mark(whole, 40, 60);
-    show_gap(halves, 0);
-    show_gap(halves, 1);
-    show_gap(halves, 2);
-    let same = show_mark(halves, 60, 60);
-    let beyond = show_mark(same, 60, 101);
-    let first = show_mark(beyond, 0, 50);
-    show_gap(first, 0);
-    show_mark(first, 0, 100);
-    show_lent();
-    show_lent_orders();
-    show_refused_order();
-    show_pairs();
+    let halves = show_mark(&rt, whole, 40, 60)?;
+    show_gap(&rt, halves, 0)?;
+    show_gap(&rt, halves, 1)?;
+    show_gap(&rt, halves, 2)?;
+    let same = show_mark(&rt, halves, 60, 60)?;
+    let beyond = show_mark(&rt, same, 60, 101)?;
+    let first = show_mark(&rt, beyond, 0, 50)?;
+    show_gap(&rt, first, 0)?;
+    show_mark(&rt, first, 0, 100)?;
+    show_lent(&rt)?;
+    show_lent_orders(&rt)?;
+    show_refused_order(&rt)?;
+    show_pairs(&rt)
 }

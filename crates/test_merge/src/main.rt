@@ -9,10 +9,12 @@
 ghost use Rattle.std.specs.Prelude.{◌≤◌, ◌<◌};
 
 use console::{field_end, read_all, read_hex};
-use libc::STDOUT_FILENO;
 use merge::merge;
 use output::{WriteAnswer, copy, same};
 use save::save;
+use std::fs::File;
+use std::io;
+use std::rt::Files;
 use wire::bytes_at;
 
 // The room for the text of all cases, for the bytes of a file, and for an output: none of the outcomes has more.
@@ -84,6 +86,7 @@ fn answer_of(
 
 // Calls with the first bytes of an output, which holds the pattern.
 fn print_answer(
+    rt: &impl Print,
     call: Call,
     first: &[u8],
     second: &[u8],
@@ -91,16 +94,14 @@ fn print_answer(
     outcome: &[u8],
     output: &mut [u8],
     room: usize,
-) {
+) -> io::Result<()> {
     let taken = room_within(room, output.len());
     let answer = answer_of(call, first, second, third, &mut output[..taken]);
-    io::print_decimal(STDOUT_FILENO, answer.number as u64);
-    io::write_all(STDOUT_FILENO, b" ");
-    io::print_decimal(STDOUT_FILENO, answer.length as u64);
+    print!(rt; "{} {}", answer.number, answer.length)?;
     if is_as_told(output, outcome) {
-        io::write_all(STDOUT_FILENO, b" as told\n");
+        println!(rt; " as told")
     } else {
-        io::write_all(STDOUT_FILENO, b" otherwise\n");
+        println!(rt; " otherwise")
     }
 }
 
@@ -143,7 +144,7 @@ fn field_after(text: &[u8; TEXT], before: usize, end: usize) -> &[u8]
     bytes_at(text, before + 1, end - before - 1)
 }
 
-fn print_case(call: Call, text: &[u8; TEXT], line: Line)
+fn print_case(rt: &impl Print, call: Call, text: &[u8; TEXT], line: Line) -> io::Result<()>
     requires { (line.number < line.room) × (line.room < line.first) × (line.first < line.second) × (line.second < line.third)
         × (line.third < line.end) × (line.end < 8388608) }
 {
@@ -158,6 +159,7 @@ fn print_case(call: Call, text: &[u8; TEXT], line: Line)
     let third_length = read_hex(field_after(text, line.second, line.third), &mut third);
     let outcome_length = read_hex(field_after(text, line.third, line.end), &mut outcome);
     print_answer(
+        rt,
         call,
         bytes_at(&first, 0, first_length),
         bytes_at(&second, 0, second_length),
@@ -165,35 +167,31 @@ fn print_case(call: Call, text: &[u8; TEXT], line: Line)
         bytes_at(&outcome, 0, outcome_length),
         &mut output,
         room,
-    );
+    )
 }
 
 // Prints the cases whose lines are the first bytes of the text.
-fn print_cases(call: Call, text: &[u8; TEXT], length: usize)
+fn print_cases(rt: &impl Print, call: Call, text: &[u8; TEXT], length: usize) -> io::Result<()>
     requires { length ≤ 1048576 }
 {
     let mut at = 0;
     while at < length {
         let line = line_at(text, at);
-        print_case(call, text, line);
+        print_case(rt, call, text, line)?;
         at = line.end + 1;
     }
+    Ok(())
 }
 
-fn print_file(call: Call, name: &[u8]) {
-    let fd = os::open_read(name);
-    if fd < 0 {
-        os::fail(name);
-        return;
-    }
+fn print_file(rt: &(impl Files + Print), call: Call, name: &str) -> io::Result<()> {
+    let mut file = File::open(rt, name)?;
     let mut text = [0u8; TEXT];
-    let length = read_all(fd, &mut text);
-    libc::close(fd);
-    print_cases(call, &text, length);
+    let length = read_all(&mut file, &mut text)?;
+    print_cases(rt, call, &text, length)
 }
 
-fn main() {
-    print_file(Call::Merge, b"merges.txt");
-    print_file(Call::Save, b"saves.txt");
-    print_file(Call::MergeExchanged, b"merges.txt");
+fn main(rt: HostRuntime) -> io::Result<()> {
+    print_file(&rt, Call::Merge, "merges.txt")?;
+    print_file(&rt, Call::Save, "saves.txt")?;
+    print_file(&rt, Call::MergeExchanged, "merges.txt")
 }

@@ -25,7 +25,10 @@ fn items(at: usize, count: u32) -> Items {
 
 // Prints an answer; where it is a refusal, also whether a byte of the output, which held 0 before, has changed.
 fn show(rt: &impl Print, words: &str, answer: WriteAnswer, out: &[u8]) -> io::Result<()> {
-    print!(rt; "{words}: answer {}, bytes {}", answer.number, answer.length)?;
+    print!(rt;
+        "{words}: answer {}, bytes {}",
+        answer.number, answer.length
+    )?;
     let before = [0u8; 64];
     if answer.number != 0 && !same(out, bytes_at(&before, 0, out.len())) {
         print!(rt; ", output changed")?;
@@ -75,12 +78,7 @@ fn show_opening(rt: &impl Print) -> io::Result<()> {
 }
 
 // 96 with a number: whether it is the plain or the extended request is in the number.
-fn show_status_request(
-    rt: &impl Print,
-    words: &str,
-    form: Form,
-    number: u32,
-) -> io::Result<()> {
+fn show_status_request(rt: &impl Print, words: &str, form: Form, number: u32) -> io::Result<()> {
     let request = StatusRequest { form, number };
     show_packet(
         rt,
@@ -172,7 +170,11 @@ fn show_forms(rt: &impl Print) -> io::Result<()> {
 fn show_parts(rt: &impl Print) -> io::Result<()> {
     show_part(rt, "no blocks", HashBlocks::Nothing)?;
     show_part(rt, "one part hash", HashBlocks::Parts(items(24, 1)))?;
-    show_part(rt, "two block hashes alone", HashBlocks::Blocks(items(24, 2)))?;
+    show_part(
+        rt,
+        "two block hashes alone",
+        HashBlocks::Blocks(items(24, 2)),
+    )?;
     show_part(rt, "one block hash alone", HashBlocks::Blocks(items(24, 1)))?;
     show_part(
         rt,
