@@ -1,12 +1,13 @@
 // What the programs share: reading until a buffer is full, the inputs of a file, the fields of a file of cases, and printing the line for
 // some bytes.
 //
-// No contract can say what a file or a terminal gives or takes, so these say how much was read at most, and those that print say nothing.
-// A read or a write that fails gives its error.
+// No contract can say what a file or a terminal gives or takes. Those that read say how much came at most, and of a reader whose bytes are
+// known, as one over memory, which bytes came; those that print say nothing. A read or a write that fails gives its error.
 
 #![tactic(auto)]
 
-ghost use Rattle.std.specs.Prelude.{◌+◌, ◌≤◌, ◌<◌, IfOk, length};
+ghost use Rattle.std.specs.Prelude.{◌+◌, ◌≤◌, ◌<◌, IfOk, length, take};
+ghost use Rattle.std.specs.Io.KnownBytes.{Consumes, IsAtEnd, ReadConsumes};
 
 use read_any::Summary;
 use std::io;
@@ -15,14 +16,17 @@ use wire::{ByteStep, Cursor, DwordStep};
 
 // One read: how many bytes came. None come at the end of the input.
 pub fn read_some<R: Read>(reader: &mut R, out: &mut [u8]) -> io::Result<usize>
-    ensures { IfOk result (λ count. count ≤ length out.old) }
+    ensures fits { IfOk result (λ count. count ≤ length out.old) }
+    ensures bytes { ReadConsumes (R.remaining reader.old) (R.remaining reader.new) result out.new }
 {
     reader.read(out)
 }
 
 // Reads until the buffer is full or the input ends, in as many pieces as it comes: how many bytes came.
 pub fn read_all<R: Read>(reader: &mut R, out: &mut [u8]) -> io::Result<usize>
-    ensures { IfOk result (λ count. count ≤ length out.old) }
+    ensures fits { IfOk result (λ count. count ≤ length out.old) }
+    ensures bytes { IfOk result (λ count. Consumes (R.remaining reader.old) (R.remaining reader.new) (take count out.new)) }
+    ensures end { IfOk result (λ count. count < length out.old → IsAtEnd (R.remaining reader.new)) }
 {
     let mut at = 0;
     while at < out.len() {
