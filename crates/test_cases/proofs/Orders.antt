@@ -1,5 +1,5 @@
 -- The calls in both orders, by the theorems of the order (format's and gaps' specs/EitherOrder).
-use mathlib.Core.Path.{◌≡◌, sym, ap, ◌∙◌}
+use mathlib.Core.Path.{◌≡◌, ap, ◌∙◌}
 use Rattle.format.specs.Gaps.{size_limit}
 use Rattle.gaps.specs.declared.Gap.{Gap}
 use Rattle.gaps.specs.declared.GapRecord.{GapRecord}
