@@ -14,4 +14,4 @@ pub slice_bounds-read_all-end : goal.slice_bounds-read_all-end
 slice_bounds-read_all-end g c = counted 1048576
 
 pub print_cases-requires : goal.print_cases-requires
-print_cases-requires g c = within 1048576 c.in_ok-length.length c.in_ok-length.ensures
+print_cases-requires g c = within 1048576 c.in_ok-length.length c.in_ok-length.ensures.fits
