@@ -49,7 +49,7 @@ use Rattle.write_part.specs.PartWrites.{part_there}
 use Rattle.write_part.proofs.PartReadBack.{part-here}
 use Rattle.fields.specs.Fields.{filled, items_numbers, known_numbers, spec_packet_numbers, part_numbers, query_numbers, server_numbers}
 use Rattle.fields.specs.Given.{PacketFits, spec_items_at, spec_known_given, spec_packet_given, spec_part_given, spec_query_at, spec_server_given, spec_size_given}
-use Rattle.fields.proofs.Given as goal
+use Rattle.fields.proofs.Given as given
 use Rattle.fields.proofs.Given.{Found}
 use Rattle.fields.proofs.Fits.{known-fits, list-fits, packet-fits, part-fits, server-fits, size_fits}
 use Rattle.ed2k.specs.Calls.{GivenWrites, KindRead, KindWrites, Numbered, PacketWrites, KnownWrites, ServerWrites, PartWrites, QueryWrites, TagListWrites}
@@ -124,11 +124,11 @@ module _ (s : List ℕ) (bytes : Bytes s) where
     packet : (link : Link) (p : Packet) → LinkAccepts link s (packet_in s p) → IsThere (packet_there link s p) → PacketFits p →
         r ≡ fields_out (spec_packet_numbers p) old → PacketWrites link s r.numbers output w → Back
     packet Link.Server p read here h e write =
-        message-back server_link spec_packet_given spec_packet_numbers (packet_there Link.Server s) (packet_in s) p here read (λ rest. goal.packet-back rest p h) e write
+        message-back server_link spec_packet_given spec_packet_numbers (packet_there Link.Server s) (packet_in s) p here read (λ rest. given.packet-back rest p h) e write
     packet Link.Client p read here h e write =
-        message-back client_link spec_packet_given spec_packet_numbers (packet_there Link.Client s) (packet_in s) p here read (λ rest. goal.packet-back rest p h) e write
+        message-back client_link spec_packet_given spec_packet_numbers (packet_there Link.Client s) (packet_in s) p here read (λ rest. given.packet-back rest p h) e write
     packet Link.Udp p read here h e write =
-        message-back udp_link spec_packet_given spec_packet_numbers (packet_there Link.Udp s) (packet_in s) p here read (λ rest. goal.packet-back rest p h) e write
+        message-back udp_link spec_packet_given spec_packet_numbers (packet_there Link.Udp s) (packet_in s) p here read (λ rest. given.packet-back rest p h) e write
 
     link-answer : (link : Link) (a : Answer) → packet_answer s a ≡ some (link_reply link s) → AnswerPlaced s a → r ≡ message_read a old →
         PacketWrites link s r.numbers output w → Back
@@ -154,7 +154,7 @@ module _ (s : List ℕ) (bytes : Bytes s) where
         let read = (law (known_met_in s f)).0 refl in
         let here = known-here s (KnownAnswer.Accepted f) meaning h law f refl in
         let few = known-fits s f h read.1.content in
-        message-back known_met spec_known_given known_numbers (known_there s) (known_met_in s) f here read (λ rest. goal.known-back rest f few) e write
+        message-back known_met spec_known_given known_numbers (known_there s) (known_met_in s) f here read (λ rest. given.known-back rest f few) e write
     known-answer (Answer.Accepted (Message.ServerMet f)) m h e write = differ cc
     known-answer (Answer.Accepted (Message.PartMet f n)) m h e write = differ cc
     known-answer (Answer.Refused n) m h e write =
@@ -171,7 +171,7 @@ module _ (s : List ℕ) (bytes : Bytes s) where
         let read = (law (server_met_in s f)).0 refl in
         let here = server-here s (ServerAnswer.Accepted f) meaning h law f refl in
         let few = server-fits s f h read.1.content in
-        message-back server_met spec_server_given server_numbers (server_there s) (server_met_in s) f here read (λ rest. goal.server-back rest f few) e write
+        message-back server_met spec_server_given server_numbers (server_there s) (server_met_in s) f here read (λ rest. given.server-back rest f few) e write
     server-answer (Answer.Accepted (Message.PartMet f n)) m h e write = differ cc
     server-answer (Answer.Refused n) m h e write =
         let told : refused_with n ≡ reply (decode server_met s) = cc in
@@ -191,7 +191,7 @@ module _ (s : List ℕ) (bytes : Bytes s) where
         let few = part-fits s f h.0 read.1.content in
         let small = size_fits s f n h.1 read.1.content in
         message-back part_met {M = PartMet × ℕ} (λ f. (spec_part_given f, spec_size_given f)) (λ x. part_numbers x.0 x.1) (λ x. part_there s x.0) (λ x. part_met_in s x.0) (f, n) here read
-        (λ rest. goal.slice-bounds-back rest n small f few) e write
+        (λ rest. given.part-back rest n small f few) e write
     part-answer (Answer.Refused n) m h e write =
         let told : refused_with n ≡ reply (decode part_met s) = cc in
         refusal (decode part_met s) told e
@@ -200,7 +200,7 @@ module _ (s : List ℕ) (bytes : Bytes s) where
     query-answer : (a : QueryAnswer) → query_reply s a ≡ reply (decode lone_query s) → QueryAnswerPlaced s a → r ≡ query_read a old →
         QueryWrites s r.numbers output w → Back
     query-answer (QueryAnswer.Accepted q) meaning placed e write =
-        let h = taken (λ f. spec_query_at f 0) query_numbers (λ x. QueryWritten s x output) q (λ rest. goal.query-back rest q) e write in
+        let h = taken (λ f. spec_query_at f 0) query_numbers (λ x. QueryWritten s x output) q (λ rest. given.query-back rest q) e write in
         query-back s (QueryAnswer.Accepted q) meaning placed (exact lone_query meaning) q refl output w.output (record { number = w.number; length = w.length }) h.0 h.1 room
     query-answer (QueryAnswer.Refused n) meaning placed e write = refusal (decode lone_query s) meaning e
 
@@ -209,7 +209,7 @@ module _ (s : List ℕ) (bytes : Bytes s) where
     tags-answer (TagListAnswer.Accepted l) meaning placed e write =
         let law = exact lone_tags meaning in
         let few = list-fits s l placed ((law _).0 refl).1.content in
-        let h = taken (λ f. spec_items_at f 0) items_numbers (λ x. TagListWritten s x output) l (λ rest. goal.list_back rest l few) e write in
+        let h = taken (λ f. spec_items_at f 0) items_numbers (λ x. TagListWritten s x output) l (λ rest. given.list_back rest l few) e write in
         tag-list-back s (TagListAnswer.Accepted l) meaning placed law l refl output w.output (record { number = w.number; length = w.length }) h.0 h.1 room
     tags-answer (TagListAnswer.Refused n) meaning placed e write = refusal (decode lone_tags s) meaning e
 
