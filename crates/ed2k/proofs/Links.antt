@@ -5,7 +5,7 @@ use mathlib.Core.List.{List}
 use mathlib.Core.Option.{some}
 use Rattle.packets.specs.declared.Link.{Link}
 use Rattle.packets.specs.declared.PacketAnswer.{PacketAnswer}
-use Rattle.packets.specs.PacketAnswers.{PacketPlaced, answer_of, link_kind, link_reply, packet_reply}
+use Rattle.packets.specs.PacketAnswers.{PacketPlaced, link_kind, link_reply, packet_reply}
 use Rattle.format.specs.Messages.{known_met, server_met, part_met}
 use Rattle.format.specs.Decoding.{reply}
 use Rattle.format.specs.MetOrder.{decode}
@@ -30,9 +30,8 @@ link-read Link.Client s old (PacketAnswer.Refused n) r e h q = (spec_from_packet
 link-read Link.Udp s old (PacketAnswer.Accepted p) r e h q = (spec_from_packet (PacketAnswer.Accepted p), ap some e, h, q)
 link-read Link.Udp s old (PacketAnswer.Refused n) r e h q = (spec_from_packet (PacketAnswer.Refused n), ap some e, h, q)
 
-pub link-out : (link : Link) (s old old_reason : List ℕ) (r : Numbered) (reason : List ℕ) → PacketOut (PacketSource.Read link) s old old_reason r reason →
-    MessageRead (link_kind link) s old r
-link-out link s old old_reason r reason out = link-read link s old (answer_of out.step) r out.from.0 out.from.1.0 out.left
+pub link-out : (link : Link) (s old : List ℕ) (r : Numbered) → PacketOut (PacketSource.Read link) s old r → MessageRead (link_kind link) s old r
+link-out link s old r out = link-read link s old out.0 r out.1.0 out.1.1 out.2
 
 pub kind-read : (link : Link) {s old : List ℕ} {r : Numbered} → MessageRead (link_kind link) s old r → KindRead (link_kind link) s old r
 kind-read Link.Server h = h

@@ -39,8 +39,7 @@ sixteen o c (Body.ExtendedStatus e) = refl
 handed-whole : (f : List ℕ) → length f ≡ 16 → handed_out f (replicate 16 0) ≡ numbered 0 f
 handed-whole f e = rw e (ap (numbered 0) (append-nil f))
 
-pub packet-given : (p : Packet) (r : Numbered) (reason : List ℕ) → PacketOut (PacketSource.Given p) [] (replicate 16 0) [] r reason →
-    r.numbers ≡ filled 16 (spec_packet_numbers p)
-packet-given p r reason out =
-    let given : r ≡ handed_out (filled 16 (spec_packet_numbers p)) (replicate 16 0) = rw out.from at out.left in
+pub packet-given : (p : Packet) (r : Numbered) → PacketOut (PacketSource.Given p) [] (replicate 16 0) r → r.numbers ≡ filled 16 (spec_packet_numbers p)
+packet-given p r out =
+    let given : r ≡ handed_out (filled 16 (spec_packet_numbers p)) (replicate 16 0) = rw out.1 at out.2 in
     ap (λ n. n.numbers) (given ∙ handed-whole (filled 16 (spec_packet_numbers p)) (sixteen p.opening p.opcode p.body))

@@ -28,13 +28,16 @@ use Rattle.met.specs.declared.FileEntryStep.{FileEntryStep}
 use Rattle.met.specs.declared.ServerEntryStep.{ServerEntryStep}
 use Rattle.met.specs.MetAnswers.{file_entry_meaning, FileEntryStepPlaced, server_entry_meaning, ServerEntryStepPlaced, known_met_in, server_met_in, part_met_in}
 use Rattle.packets.specs.declared.Link.{Link}
+use Rattle.packets.specs.declared.PacketAnswer.{PacketAnswer}
 use Rattle.packets.specs.declared.PacketStep.{PacketStep}
-use Rattle.packets.specs.PacketAnswers.{PacketPlaced, answer_of, link_kind, link_reply, packet_reply, step_reason}
+use Rattle.packets.specs.PacketAnswers.{PacketPlaced, answer_of, link_reply, packet_reply, step_reason}
+pub use Rattle.packets.specs.PacketAnswers.{link_kind}
 use Rattle.read_any.specs.declared.Answer.{Answer}
 use Rattle.read_any.specs.declared.Message.{Message}
 use Rattle.read_any.specs.AnyAnswers.{answer_in, AnswerPlaced, spec_from_packet}
 use Rattle.write_items.specs.There.{items_there, no_places}
 use Rattle.format.specs.RoundTrip.{RoundTrip, WritesAt}
+use Rattle.write_packets.specs.Packets as packet_writes
 use Rattle.write_packets.specs.Packets.{packet_of, packet_there}
 use Rattle.write_met.specs.MetWrites.{known_there, server_there}
 use Rattle.write_part.specs.PartWrites.{part_there}
@@ -89,10 +92,18 @@ MessageRead k s old r =
     (a : Answer) × (answer_in k s a ≡ some (reply (decode k s))) × AnswerPlaced s a × (r ≡ message_read a old)
 
 -- A packet that bytes are on a link, as its reader ensures it, or one that was given.
-abbrev pub PacketFrom : PacketSource → List ℕ → PacketStep → Type 0
-PacketFrom (PacketSource.Read link) s a =
+abbrev pub PacketFrom : PacketSource → List ℕ → PacketAnswer → Type 0
+PacketFrom (PacketSource.Read link) s a = (packet_reply s a ≡ link_reply link s) × PacketPlaced s a
+PacketFrom (PacketSource.Given p) s a = a ≡ PacketAnswer.Accepted p
+
+abbrev pub PacketOut : PacketSource → List ℕ → List ℕ → Numbered → Type 0
+PacketOut source s old r = (a : PacketAnswer) × PacketFrom source s a × (r ≡ message_read (spec_from_packet a) old)
+
+-- The same of a step: where the bytes are no packet, its fault is the reason.
+abbrev pub StepFrom : PacketSource → List ℕ → PacketStep → Type 0
+StepFrom (PacketSource.Read link) s a =
     (packet_reply s (answer_of a) ≡ link_reply link s) × (PacketPlaced s (answer_of a) × Explains (link_kind link) s (step_reason a))
-PacketFrom (PacketSource.Given p) s a = a ≡ PacketStep.Got p
+StepFrom (PacketSource.Given p) s a = a ≡ PacketStep.Got p
 
 -- The numbers of a reason, as far as there is room for them; where there is none, all as it was.
 abbrev pub reason_left : Option decoding.Fault → List ℕ → List ℕ
@@ -100,9 +111,9 @@ reason_left none old = old
 reason_left (some f) old = (handed_out (spec_reason_numbers (some f)) old).numbers
 
 -- The packet's numbers, if there is room for them, or the numbers of the reason why it is none.
-pub record PacketOut (source : PacketSource) (s old old_reason : List ℕ) (r : Numbered) (reason : List ℕ) : Type 0 where
+pub record StepOut (source : PacketSource) (s old old_reason : List ℕ) (r : Numbered) (reason : List ℕ) : Type 0 where
   pub step : PacketStep
-  pub from : PacketFrom source s step
+  pub from : StepFrom source s step
   pub left : r ≡ message_read (spec_from_packet (answer_of step)) old
   pub because : reason ≡ reason_left (step_reason step) old_reason
 
@@ -207,7 +218,7 @@ JoinWritten o left right output w = WritesBack lone_query (sides_there left righ
 abbrev pub PacketWrites : Link → List ℕ → List ℕ → List ℕ → Written → Type 0
 PacketWrites link s given output w =
     let p = spec_packet_given given in
-    GivenWrites (spec_packet_numbers p) given output (WritesBack (link_kind link) (packet_there link s p) (packet_of link s p) output) w
+    GivenWrites (spec_packet_numbers p) given output (WritesBack (packet_writes.kind_of link) (packet_there link s p) (packet_of link s p) output) w
 
 abbrev pub KnownWrites : List ℕ → List ℕ → List ℕ → Written → Type 0
 KnownWrites s given output w =

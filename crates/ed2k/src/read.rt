@@ -5,8 +5,7 @@ ghost use Rattle.format.specs.Tables.{lookup};
 ghost use Rattle.format.specs.Messages.{known_met, server_met, part_met};
 ghost use Rattle.format.specs.Rules.{spec_part_count, spec_block_count};
 ghost use Rattle.format.specs.Order.{decode_address};
-ghost use Rattle.packets.specs.PacketAnswers.{link_kind};
-ghost use Rattle.ed2k.specs.Calls.{numbered, kinds, ReadOf, PacketFrom, PacketOut, MessageRead, QueryRead, TagListRead};
+ghost use Rattle.ed2k.specs.Calls.{numbered, kinds, ReadOf, PacketOut, StepFrom, StepOut, MessageRead, link_kind, QueryRead, TagListRead};
 ghost use Rattle.ed2k.specs.Calls.{TagRead, address_read, RecordRead, FileEntryRead, ServerEntryRead, NodeRead};
 
 use crate::{PacketSource, hand_out};
@@ -24,8 +23,8 @@ use wire::Cursor;
 // A message goes from its own reader straight to its fields, and not by way of the one call over the six kinds: each copy of an answer
 // is felt in short messages.
 
-fn packet_from(source: PacketSource, bytes: &[u8]) -> PacketStep
-    ensures { PacketFrom source bytes.now result }
+fn step_from(source: PacketSource, bytes: &[u8]) -> PacketStep
+    ensures { StepFrom source bytes.now result }
 {
     match source {
         PacketSource::Read(link) => packets::packet_step(bytes, link),
@@ -34,17 +33,17 @@ fn packet_from(source: PacketSource, bytes: &[u8]) -> PacketStep
 }
 
 // The numbers of a packet that is read, and of one that is to be written: a function with one caller is compiled into it, and here
-// the code of each shape goes straight on to its numbers, with no copy of the body in between. So the call that says why a packet is
+// the code of each shape goes straight on to its numbers, with no copy of the body in between. The call that says why a packet is
 // refused comes this way too: the numbers of a fault are left in `reason`, as far as there is room for them.
-pub fn hand_out_packet(
+pub fn hand_out_step(
     source: PacketSource,
     bytes: &[u8],
     fields: &mut [u64],
     reason: &mut [u64],
 ) -> u8
-    ensures { PacketOut source bytes.now fields.old reason.old (numbered result fields.new) reason.new }
+    ensures { StepOut source bytes.now fields.old reason.old (numbered result fields.new) reason.new }
 {
-    let step = packet_from(source, bytes);
+    let step = step_from(source, bytes);
     match step {
         PacketStep::Refused(fault) => {
             let numbers = why::reason_numbers(Reason::Refused(fault));
@@ -58,11 +57,18 @@ pub fn hand_out_packet(
     }
 }
 
+// The packet's numbers alone.
+pub fn hand_out_packet(source: PacketSource, bytes: &[u8], fields: &mut [u64]) -> u8
+    ensures { PacketOut source bytes.now fields.old (numbered result fields.new) }
+{
+    let mut no_reason: [u64; 0] = [];
+    hand_out_step(source, bytes, fields, &mut no_reason)
+}
+
 fn read_link(link: Link, bytes: &[u8], fields: &mut [u64]) -> u8
     ensures { MessageRead (link_kind link) bytes.now fields.old (numbered result fields.new) }
 {
-    let mut no_reason: [u64; 0] = [];
-    hand_out_packet(PacketSource::Read(link), bytes, fields, &mut no_reason)
+    hand_out_packet(PacketSource::Read(link), bytes, fields)
 }
 
 // The kinds up to this are packets of a link.

@@ -1,11 +1,10 @@
 // The call that says why a packet is refused (02, No. 7).
 ghost use Rattle.std.specs.Prelude.{◌≡◌};
 ghost use Rattle.format.specs.Tables.{lookup};
-ghost use Rattle.packets.specs.PacketAnswers.{link_kind};
-ghost use Rattle.ed2k.specs.Calls.{numbered};
+ghost use Rattle.ed2k.specs.Calls.{numbered, link_kind};
 ghost use Rattle.ed2k.specs.WhyCalls.{LinkWhy, WhyOf, links};
 
-use crate::read::hand_out_packet;
+use crate::read::hand_out_step;
 use crate::{PacketSource, hand_out};
 use output::KIND;
 use packets::Link;
@@ -15,7 +14,7 @@ fn why_on(link: Link, bytes: &[u8], why: &mut [u64]) -> u8
 {
     let mut packet: [u64; 16] = [0; 16];
     let mut reason: [u64; 4] = [0; 4];
-    hand_out_packet(PacketSource::Read(link), bytes, &mut packet, &mut reason);
+    hand_out_step(PacketSource::Read(link), bytes, &mut packet, &mut reason);
     hand_out(&reason, why)
 }
 

@@ -19,13 +19,7 @@ fn packet_numbers(packet: Packet) -> [u64; 16]
     ensures { result ≡ filled 16 (spec_packet_numbers packet) }
 {
     let mut numbers: [u64; 16] = [0; 16];
-    let mut no_reason: [u64; 0] = [];
-    hand_out_packet(
-        PacketSource::Given(packet),
-        b"",
-        &mut numbers,
-        &mut no_reason,
-    );
+    hand_out_packet(PacketSource::Given(packet), b"", &mut numbers);
     numbers
 }
 

@@ -4,7 +4,7 @@ use Rattle.std.specs.Prelude.{◌≡◌, Bool, false, not, List, ◌++◌, ℕ, 
 use Rattle.std.proofs.Math.Option.{Option, none, some}
 use Rattle.format.specs.Tables.{lookup, pick}
 use Rattle.format.specs.Messages as messages
-use Rattle.format.specs.Messages.{Message}
+use Rattle.format.specs.Messages.{Kind, Message}
 use Rattle.format.specs.Messages.{nothing_body, query_body, hash_body, dword_body, two_dwords_body, text_body, two_texts_body, address_body, addresses_body, hash_addresses_body, address_dword_body, hash_address_tags_body, record_body, records_body, records_flag_body, record_address_body, hello_body, hash_text_body, hashset_body, sending_part_body, request_parts_body, file_status_body, status_request_body, status_body}
 use Rattle.format.specs.Layout.{byte, dword}
 use Rattle.format.specs.Decoding.{Outcome, fault, kind, refused}
@@ -17,7 +17,10 @@ use Rattle.format.specs.RoundTrip.{IsThere}
 use Rattle.check_bodies.specs.declared.BodyCheck.{BodyCheck}
 use Rattle.check_bodies.specs.Bodies.{BodyEnds, BodyRule, body_there, bytes_of}
 
-abbrev pub packet_of : (link : Link) → List ℕ → Packet → Message (link_kind link)
+abbrev pub kind_of : Link → Kind
+kind_of = link_kind
+
+abbrev pub packet_of : (link : Link) → List ℕ → Packet → Message (kind_of link)
 packet_of Link.Server s p = packet_in s p
 packet_of Link.Client s p = packet_in s p
 packet_of Link.Udp s p = packet_in s p

@@ -13,8 +13,7 @@ ghost use Rattle.format.specs.Writing.{overwritten};
 ghost use Rattle.bodies.specs.BodyAnswers.{body_in, shape_of};
 ghost use Rattle.output.specs.WriteAnswers.{answered};
 ghost use Rattle.format.specs.RoundTrip.{RoundTrip, WritesAt};
-ghost use Rattle.packets.specs.PacketAnswers.{link_kind};
-ghost use Rattle.write_packets.specs.Packets.{Ready, spec_another_shape, head_bytes, spec_head_size, packet_of, packet_there, spec_reader_number, spec_shape_number};
+ghost use Rattle.write_packets.specs.Packets.{Ready, spec_another_shape, head_bytes, spec_head_size, kind_of, packet_of, packet_there, spec_reader_number, spec_shape_number};
 
 use bodies::{Body, Shape};
 use check_bodies::{BodyCheck, check_body};
@@ -174,9 +173,9 @@ fn write_ready(
     out: &mut [u8],
 ) -> WriteAnswer
     requires { Ready link src.now packet found }
-    ensures writes { WritesAt (link_kind link) (packet_there link src.now packet) (packet_of link src.now packet)
+    ensures writes { WritesAt (kind_of link) (packet_there link src.now packet) (packet_of link src.now packet)
         out.old (answered result out.new) }
-    ensures round { RoundTrip (link_kind link) (packet_there link src.now packet) (packet_of link src.now packet)
+    ensures round { RoundTrip (kind_of link) (packet_there link src.now packet) (packet_of link src.now packet)
         out.old (answered result out.new) }
 {
     let opening = packet.opening;
@@ -206,9 +205,9 @@ fn write_ready(
 // A packet of a link. Its offsets are in `src`, as the reader returns it. A body of another shape than that of its opcode, and an
 // offset at which an item is not encoded, are no message: they are refused first.
 pub fn write_packet(src: &[u8], link: Link, packet: Packet, out: &mut [u8]) -> WriteAnswer
-    ensures writes { WritesAt (link_kind link) (packet_there link src.now packet) (packet_of link src.now packet)
+    ensures writes { WritesAt (kind_of link) (packet_there link src.now packet) (packet_of link src.now packet)
         out.old (answered result out.new) }
-    ensures round { RoundTrip (link_kind link) (packet_there link src.now packet) (packet_of link src.now packet)
+    ensures round { RoundTrip (kind_of link) (packet_there link src.now packet) (packet_of link src.now packet)
         out.old (answered result out.new) }
 {
     if another_shape(link, packet) {
