@@ -22,8 +22,7 @@ use Rattle.packets.specs.declared.Link.{Link}
 use Rattle.packets.specs.declared.Packet.{Packet}
 use Rattle.write_items.proofs.Listed.{items-bytes}
 use Rattle.check_bodies.specs.Bodies.{bytes_of}
-use Rattle.packets.specs.PacketAnswers.{link_kind}
-use Rattle.write_packets.specs.Packets.{packet_of}
+use Rattle.write_packets.specs.Packets.{kind_of, packet_of}
 
 record Plain (l : List ℕ) : Type 0 where
   bytes : Bytes l
@@ -98,7 +97,7 @@ module _ (s : List ℕ) (hb : Bytes s) where
   body (Body.ExtendedStatus p) =
       joined (number 1 _) (joined (number 1 _) (joined (number 1 0xAA) (joined (number 1 0x5A) (triple (triple_of p.numbers)))))
 
-  pub packet-bytes : (link : Link) (p : Packet) → Bytes (encode (link_kind link) (packet_of link s p))
+  pub packet-bytes : (link : Link) (p : Packet) → Bytes (encode (kind_of link) (packet_of link s p))
   unfolding encode_tcp encode_udp encode_body
   packet-bytes Link.Server p = (joined (number 1 _) (joined (number 4 _) (joined (number 1 _) (body p.body)))).bytes
   packet-bytes Link.Client p = (joined (number 1 _) (joined (number 4 _) (joined (number 1 _) (body p.body)))).bytes

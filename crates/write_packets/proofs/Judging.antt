@@ -21,9 +21,9 @@ use Rattle.format.proofs.Packets.{length-tcp}
 use Rattle.bodies.specs.BodyAnswers.{body_in}
 use Rattle.packets.specs.declared.Link.{Link}
 use Rattle.packets.specs.declared.Packet.{Packet}
-use Rattle.packets.specs.PacketAnswers.{link_kind, packet_in}
+use Rattle.packets.specs.PacketAnswers.{packet_in}
 use Rattle.check_bodies.specs.Bodies.{BodyRule, breaks, bytes_of, differs, keeps}
-use Rattle.write_packets.specs.Packets.{spec_another_shape, spec_head_size, opcode_number, packet_of, spec_reader_number, unlike}
+use Rattle.write_packets.specs.Packets.{kind_of, opcode_number, packet_of, spec_another_shape, spec_head_size, spec_reader_number, unlike}
 use Rattle.write_packets.proofs.Frames.{Frame, tcp-frame, udp-frame, with_body}
 use Rattle.write_packets.proofs.Shapes.{same_shape}
 
@@ -102,7 +102,7 @@ module _ (s : List ℕ) (p : Packet) (ho : Byte p.opening) (hc : Byte p.opcode) 
   m = packet_in s p
 
   pub finished : (link : Link) → spec_another_shape link s p ≡ false →
-      Finished (link_kind link) (packet_of link s p) (spec_head_size link) size (spec_reader_number link p.opening p.opcode rule)
+      Finished (kind_of link) (packet_of link s p) (spec_head_size link) size (spec_reader_number link p.opening p.opcode rule)
   unfolding decode
   finished Link.Server own =
       finish server_link m 6 size _ refl fit (tcp-size m sized) (λ few. frame-says server_opcodes (tcp-frame server m ho hc few) few ho hc own r)

@@ -25,13 +25,13 @@ use Rattle.bodies.specs.BodyAnswers.{BodyPlaced, body_in}
 use Rattle.packets.specs.declared.Link.{Link}
 use Rattle.packets.specs.declared.Packet.{Packet}
 use Rattle.packets.specs.declared.PacketAnswer.{PacketAnswer}
-use Rattle.packets.specs.PacketAnswers.{LinkAccepts, PacketPlaced, link_kind, link_reply, packet_in, packet_reply}
+use Rattle.packets.specs.PacketAnswers.{LinkAccepts, PacketPlaced, link_reply, packet_in, packet_reply}
 use Rattle.output.specs.WriteAnswers.{answered}
 use Rattle.write_items.specs.There.{hash_there, items_there, place_there}
 use Rattle.write_items.proofs.There.{is-there}
 use Rattle.write_items.proofs.Back.{both-here, hash-here, items-here, place_here, query-here, written_back}
 use Rattle.check_bodies.specs.Bodies.{body_there, record_there}
-use Rattle.write_packets.specs.Packets.{spec_another_shape, packet_of, packet_there, spec_shape_number, unlike}
+use Rattle.write_packets.specs.Packets.{kind_of, packet_of, packet_there, spec_another_shape, spec_shape_number, unlike}
 
 -- A body that lies inside is there.
 module _ (s : List ℕ) where
@@ -94,15 +94,15 @@ module _ (s : List ℕ) (link : Link) (r : PacketAnswer)
 
   -- `a` and `out` are what `write_packet` leaves of it, by its two clauses, with room for s.
   module _ (output out : List ℕ) (a : WriteAnswer)
-      (writes : WritesAt (link_kind link) (packet_there link s p) (packet_of link s p) output (answered a out))
-      (round : RoundTrip (link_kind link) (packet_there link s p) (packet_of link s p) output (answered a out))
+      (writes : WritesAt (kind_of link) (packet_there link s p) (packet_of link s p) output (answered a out))
+      (round : RoundTrip (kind_of link) (packet_there link s p) (packet_of link s p) output (answered a out))
       (room : length s ≤ length output) where
     pub packet-back : (a.number ≡ 0) × ((a.length ≡ length s) × (out ≡ overwritten s output))
     packet-back = go link accepts packet-here writes round
       where
         go : (link : Link) → LinkAccepts link s (packet_in s p) → IsThere (packet_there link s p) →
-            WritesAt (link_kind link) (packet_there link s p) (packet_of link s p) output (answered a out) →
-            RoundTrip (link_kind link) (packet_there link s p) (packet_of link s p) output (answered a out) →
+            WritesAt (kind_of link) (packet_there link s p) (packet_of link s p) output (answered a out) →
+            RoundTrip (kind_of link) (packet_there link s p) (packet_of link s p) output (answered a out) →
             (a.number ≡ 0) × ((a.length ≡ length s) × (out ≡ overwritten s output))
         go Link.Server read here writes round =
             let e = written_back messages.server_link _ (packet_in s p) s output here read room writes round in

@@ -17,17 +17,17 @@ use Rattle.format.proofs.Writing.{number-some}
 use Rattle.bodies.specs.BodyAnswers.{body_in}
 use Rattle.packets.specs.declared.Link.{Link}
 use Rattle.packets.specs.declared.Packet.{Packet}
-use Rattle.packets.specs.PacketAnswers.{link_kind, packet_in}
+use Rattle.packets.specs.PacketAnswers.{packet_in}
 use Rattle.format.specs.RoundTrip.{IsThere, RoundTrip, WritesAt, absent, present}
 use Rattle.format.proofs.RoundTrip.{round_trip}
 use Rattle.check_bodies.specs.declared.BodyCheck.{BodyCheck}
 use Rattle.check_bodies.specs.Bodies as findings
 use Rattle.check_bodies.specs.Bodies.{BodyChecked, body_there, bytes_of}
-use Rattle.write_packets.specs.Packets.{Ready, spec_another_shape, head_bytes, spec_head_size, packet_of, packet_there, spec_reader_number}
+use Rattle.write_packets.specs.Packets.{Ready, head_bytes, kind_of, packet_of, packet_there, spec_another_shape, spec_head_size, spec_reader_number}
 use Rattle.write_packets.proofs.Encodings.{packet-bytes}
 use Rattle.write_packets.proofs.Judging.{Finished, finished}
 
-counts : (link : Link) (s : List ℕ) (p : Packet) → CountsFit (link_kind link) (packet_of link s p) → ValuesFit (body_in s p.body).0 (body_in s p.body).1
+counts : (link : Link) (s : List ℕ) (p : Packet) → CountsFit (kind_of link) (packet_of link s p) → ValuesFit (body_in s p.body).0 (body_in s p.body).1
 counts Link.Server s p h = h
 counts Link.Client s p h = h
 counts Link.Udp s p h = h
@@ -58,7 +58,7 @@ unfolding encode_udp encode_body
 udp-bytes m = sym (append_assoc (byte m.opening) (byte m.opcode) (bytes_of m.body))
 
 packet-encoding : (link : Link) (s : List ℕ) (p : Packet) (size : ℕ) → size ≡ length (bytes_of (body_in s p.body)) →
-    encode (link_kind link) (packet_of link s p) ≡ head_bytes link p.opening p.opcode size ++ bytes_of (body_in s p.body)
+    encode (kind_of link) (packet_of link s p) ≡ head_bytes link p.opening p.opcode size ++ bytes_of (body_in s p.body)
 packet-encoding Link.Server s p size e = tcp-bytes (packet_in s p) size e
 packet-encoding Link.Client s p size e = tcp-bytes (packet_in s p) size e
 packet-encoding Link.Udp s p size e = udp-bytes (packet_in s p)
@@ -76,15 +76,15 @@ head-length Link.Udp opening opcode size = simp (length-append, length-little_en
 -- Both promises of the writer.
 abbrev pub Promised : Link → List ℕ → Packet → (output : List ℕ) → Written → Type 0
 Promised link s p output w =
-    WritesAt (link_kind link) (packet_there link s p) (packet_of link s p) output w × RoundTrip (link_kind link) (packet_there link s p) (packet_of link s p) output w
+    WritesAt (kind_of link) (packet_there link s p) (packet_of link s p) output w × RoundTrip (kind_of link) (packet_there link s p) (packet_of link s p) output w
 
 module _ (link : Link) (s : List ℕ) (hb : Bytes s) (p : Packet) (output : List ℕ) where
-  promised : {w : Written} → WritesAt (link_kind link) (packet_there link s p) (packet_of link s p) output w → Promised link s p output w
-  promised w = (w, round_trip (link_kind link) (packet_of link s p) output (packet_there link s p) (λ h. packet-bytes s hb link p) w)
+  promised : {w : Written} → WritesAt (kind_of link) (packet_there link s p) (packet_of link s p) output w → Promised link s p output w
+  promised w = (w, round_trip (kind_of link) (packet_of link s p) output (packet_there link s p) (λ h. packet-bytes s hb link p) w)
 
   here : {w : Written} → spec_another_shape link s p ≡ false → IsThere (body_there s p.body) →
-      Writes (link_kind link) (packet_of link s p) output w → Promised link s p output w
-  here own h w = promised (rw own (write-there (link_kind link) (packet_of link s p) (body_there s p.body) h w))
+      Writes (kind_of link) (packet_of link s p) output w → Promised link s p output w
+  here own h w = promised (rw own (write-there (kind_of link) (packet_of link s p) (body_there s p.body) h w))
 
   pub other-shape : spec_another_shape link s p ≡ true → Promised link s p output (unwritten 4 output)
   other-shape e = promised (absent (fault kind 0 1) (rw e refl))
@@ -99,7 +99,7 @@ module _ (link : Link) (s : List ℕ) (hb : Bytes s) (p : Packet) (output : List
     abbrev number : ℕ
     number = spec_reader_number link p.opening p.opcode r.rule
 
-    done : Finished (link_kind link) (packet_of link s p) (spec_head_size link) r.size number
+    done : Finished (kind_of link) (packet_of link s p) (spec_head_size link) r.size number
     done = finished s p ho hc h.fit h.size h.rule link h.own
 
     pub over-ceiling : packet_ceiling < spec_head_size link + r.size → Promised link s p output (unwritten 6 output)
@@ -110,12 +110,12 @@ module _ (link : Link) (s : List ℕ) (hb : Bytes s) (p : Packet) (output : List
       faulty bad = here h.own h.there (refuses number (done.within short) bad)
 
       module _ (good : number ≡ 0) where
-        tried : Writes (link_kind link) (packet_of link s p) output (written_into (encode (link_kind link) (packet_of link s p)) output)
-        tried = tries (subst (Judged (link_kind link) (packet_of link s p)) good (done.within short))
+        tried : Writes (kind_of link) (packet_of link s p) output (written_into (encode (kind_of link) (packet_of link s p)) output)
+        tried = tries (subst (Judged (kind_of link) (packet_of link s p)) good (done.within short))
 
         pub no_room : length output < spec_head_size link + r.size → Promised link s p output (unwritten 10 output)
         no_room full =
-            let small = lt-leb (length (encode (link_kind link) (packet_of link s p))) (length output) (omega (arith, done.all)) in
+            let small = lt-leb (length (encode (kind_of link) (packet_of link s p))) (length output) (omega (arith, done.all)) in
             here h.own h.there (rw small at tried)
 
         pub wrote : spec_head_size link + r.size ≤ length output →
@@ -125,5 +125,5 @@ module _ (link : Link) (s : List ℕ) (hb : Bytes s) (p : Packet) (output : List
               output = overwritten (head_bytes link p.opening p.opcode r.size ++ bytes_of (body_in s p.body)) output;
             })
         wrote room =
-            let enough = le-leb (length (encode (link_kind link) (packet_of link s p))) (length output) (omega (arith, done.all)) in
+            let enough = le-leb (length (encode (kind_of link) (packet_of link s p))) (length output) (omega (arith, done.all)) in
             here h.own h.there (rw (← packet-encoding link s p r.size h.size, ← done.all) (rw enough at tried))
