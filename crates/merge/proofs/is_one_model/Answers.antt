@@ -1,4 +1,5 @@
 -- Sizes and hashes are compared one after the other (the laws of Models).
+use native.Mathlib.Omega.{arith}
 use Rattle.merge.proofs.Models.{first-hash, first-size, one-model, second-size}
 use Rattle.merge.proofs.Numbers.{sized-as, sized_of}
 use mathlib.Core.Path.{sym, ◌∙◌}
@@ -18,7 +19,7 @@ returns c =
     let e = c.requires in
     one-model _ _ _ _
     (sized_of _ _ e.0)
-    (sized-as _ _ e.1 _ c.if-one-size.false)
-    (sized-as _ _ e.2 _ c.if-other-size.false)
+    (sized-as _ _ e.1 c.args.base.gaps.size (omega arith))
+    (sized-as _ _ e.2 c.args.base.gaps.size (omega arith))
     (sym c.same_hash.ensures ∙ c.if-not-same_hash.false)
     _ c.same_hash-2.ensures
