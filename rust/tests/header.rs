@@ -247,11 +247,20 @@ fn values_stand_in_the_slots_that_the_header_names() {
     assert_eq!(read(Kind::Query, &packets::query()), query);
     assert_eq!(read(Kind::Tags, &packets::list(&packets::four_tags())), TAGS);
     let refused = read(Kind::ServerLink, &packets::packet(Link::Server, 0x34, &[0; 7]));
-    let meaning = "the bytes end before the item being read ends";
-    let why = format!("answer 1; rule 1; offset 10; size 4; {meaning}");
-    assert_eq!(refused, format!("refused 1: {meaning}; {why}"));
-    let refused = read(Kind::Tags, &[9]);
-    assert_eq!(refused, format!("refused 1: {meaning}; no reason: the opcode is not listed for the link"));
+    assert_eq!(refused, "refused 1: the bytes end before the item being read ends");
+}
+
+#[test]
+fn a_reason_stands_in_the_slots_that_the_header_names() {
+    let folder = Folder::new("reasons");
+    let program = folder.compiled(&repository("rust/tests/c/reasons.c"));
+    let why = |kind: Kind, bytes: &[u8]| {
+        let lines = printed(&program, &[(kind as u8).to_string()], bytes);
+        lines.trim_end().replace('\n', "; ")
+    };
+    let short = why(Kind::ServerLink, &packets::packet(Link::Server, 0x34, &[0; 7]));
+    assert_eq!(short, "answer 1; rule 1; offset 10; size 4; the bytes end before the item being read ends");
+    assert_eq!(why(Kind::Tags, &[9]), "no reason: the opcode is not listed for the link");
 }
 
 #[test]

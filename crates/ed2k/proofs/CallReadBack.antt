@@ -64,7 +64,7 @@ handed numbers old r e z = go (leb (length (filled 16 numbers)) (length old)) e
     go false e = let ten : r.number ≡ 10 = ap (λ r. r.number) e in absurd (omega (arith, ten, z))
 
 -- Numbers of a message are taken for it.
-heard : {numbers goal output : List ℕ} {Writes : Written → Type 0} {w : Written} → filled 16 numbers ≡ take 16 goal → GivenWrites numbers goal output Writes w → Writes w
+heard : {numbers given output : List ℕ} {Writes : Written → Type 0} {w : Written} → filled 16 numbers ≡ take 16 given → GivenWrites numbers given output Writes w → Writes w
 heard e (no_message f) = absurd (f e)
 heard e (meant _ h) = h
 

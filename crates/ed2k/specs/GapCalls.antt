@@ -1,4 +1,4 @@
--- The calls over a gap record as numbers (marking/specs/Numbers).
+-- The calls over a gap record as numbers (gap_numbers/specs/Numbers).
 use Rattle.std.specs.Prelude.{ℕ, ◌≡◌, List, length, leb, eqb}
 use Rattle.format.specs.Tables.{pick}
 use Rattle.format.specs.Gaps.{size_limit}

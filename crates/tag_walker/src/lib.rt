@@ -24,7 +24,7 @@ use tags::{Tag, TagStep, read_tag};
 use wire::{Cursor, DwordStep, PACKET_CEILING, Rule, number};
 
 // The offset 0 stands for the beginning, where the count is still to be read: no tag begins there. There `left` has no meaning.
-#[derive(Drop)]
+#[derive(Clone, Copy)]
 pub struct TagWalker<'a> {
     tags: &'a [u8],
     at: usize,

@@ -278,22 +278,6 @@ static void part_met(const uint64_t *fields)
         numbers("gap", gaps + ED2K_GAPS_FIRST + 2 * gap, 2);
 }
 
-/* Why a packet is refused; that of other bytes is not told. */
-static void reason(uint8_t kind)
-{
-    uint64_t why[ED2K_WHY_NUMBERS];
-    uint8_t answer = ed2k_why(kind, bytes, length, why, ED2K_WHY_NUMBERS);
-    if (answer != ED2K_ACCEPTED) {
-        printf("no reason: %s\n", ed2k_meaning(answer));
-        return;
-    }
-    number("answer", why[ED2K_WHY_ANSWER]);
-    number("rule", why[ED2K_WHY_RULE]);
-    number("offset", why[ED2K_WHY_OFFSET]);
-    number("size", why[ED2K_WHY_SIZE]);
-    puts(ed2k_rule_meaning(why[ED2K_WHY_RULE]));
-}
-
 int main(int count, char **words)
 {
     if (count != 2)
@@ -304,7 +288,6 @@ int main(int count, char **words)
     uint8_t answer = ed2k_read(kind, bytes, length, fields, ED2K_FIELDS);
     if (answer != ED2K_ACCEPTED) {
         printf("refused %u: %s\n", answer, ed2k_meaning(answer));
-        reason(kind);
         return 0;
     }
     switch (kind) {
