@@ -41,7 +41,7 @@ $(COMMAND): $(SOURCES) $(ED2K_ARCHIVE)
 
 # Made when the command was; it may have been removed since.
 target/staticlib/libed2k.a: | $(COMMAND)
-	test -f "$@" || { (cd crates/ed2k && rt lib) && mkdir -p "$(@D)" && cp crates/ed2k/out/libed2k.a "$@"; }
+	test -f "$@" || { (cd crates/ed2k_c && rt lib) && mkdir -p "$(@D)" && cp crates/ed2k_c/out/libed2k_c.a "$@"; }
 
 # One of the tests runs the reading program. The bench is reported and not tested: times are no test.
 test:

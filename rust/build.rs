@@ -1,5 +1,5 @@
 //! Makes the archive of the proved library, target/staticlib/libed2k.a of the repository, and links it. `rt lib` makes it in
-//! crates/ed2k/out, where other commands of the kit work too, so it is copied to a place of its own.
+//! crates/ed2k_c/out, where other commands of the kit work too, so it is copied to a place of its own.
 //!
 //! Builds at the same time, as those of two profiles or of an editor and a terminal, wait for each other at target/archive.lock.
 //! The archive is made only if it is not the one that this `rt` last made of these sources: target/staticlib/libed2k.stamp says
@@ -82,7 +82,7 @@ impl Repository {
         must(locked, &path)
     }
 
-    /// Has `rt` prove the library, with all that it is made of, and write its archive, unless that is done.
+    /// Has `rt` prove the C interface, with all that it is made of, and write its archive, unless that is done.
     fn archive(&self) -> PathBuf {
         let archive = self.root.join("target/staticlib/libed2k.a");
         let stamp_path = archive.with_extension("stamp");
@@ -91,21 +91,21 @@ impl Repository {
         if fs::read_to_string(&stamp_path).is_ok_and(|stamp| stamp == stamped(&sources, &archive)) {
             return archive;
         }
-        self.rt(&["lib"], "crates/ed2k");
-        let made = self.root.join("crates/ed2k/out/libed2k.a");
+        self.rt(&["lib"], "crates/ed2k_c");
+        let made = self.root.join("crates/ed2k_c/out/libed2k_c.a");
         let folder = archive.parent().expect("the archive is in a folder");
         must(fs::create_dir_all(folder).and_then(|()| fs::copy(&made, &archive)), &made);
         must(fs::write(&stamp_path, stamped(&sources, &archive)), &stamp_path);
         archive
     }
 
-    /// The crates that the library is made of, itself included, as the list of crates has them.
+    /// The crates that the archive is made of, the C interface included, as the list of crates has them.
     fn parts(&self) -> BTreeSet<String> {
         let list = self.root.join("crates.txt");
         println!("cargo:rerun-if-changed={}", list.display());
         let lines = must(fs::read_to_string(&list), &list);
         let mut parts = BTreeSet::new();
-        let mut found = vec!["ed2k".to_string()];
+        let mut found = vec!["ed2k_c".to_string()];
         while let Some(name) = found.pop() {
             let libraries = lines.lines().find_map(|line| libraries_of(&name, line));
             // What the list does not have is a library of the kit.
@@ -116,7 +116,7 @@ impl Repository {
             }
         }
         if parts.is_empty() {
-            fail(&format!("{} does not list ed2k", list.display()));
+            fail(&format!("{} does not list ed2k_c", list.display()));
         }
         parts
     }

@@ -14,7 +14,7 @@ const RT: &str = r#"#!/bin/sh
 [ "$1" != version ] || { echo "kit ${KIT:-1}"; exit; }
 mkdir "$ROOM/busy" || echo "not alone" >> "$ROOM/calls"
 echo "$* in $(basename "$(pwd)")" >> "$ROOM/calls"
-archive=out/libed2k.a
+archive=out/libed2k_c.a
 sleep 0.5
 rmdir "$ROOM/busy"
 [ ! -e "$ROOM/broken" ] || { echo "wire NOT PROVED"; exit 1; }
@@ -25,12 +25,13 @@ const CRATES: &str = "\
 # What the library is made of, and a program.
 format
 wire: format # bytes
-ed2k staticlib: wire
+ed2k: wire
+ed2k_c staticlib: ed2k
 reading: wire io
 ";
 
 /// How the archive is made.
-const MADE: [&str; 1] = ["lib in ed2k"];
+const MADE: [&str; 1] = ["lib in ed2k_c"];
 
 /// A repository with the package in its folder rust/, and a folder where `rt` is.
 struct Room {
@@ -43,7 +44,7 @@ impl Room {
         let number = NUMBER.fetch_add(1, Ordering::Relaxed);
         let folder = env::temp_dir().join(format!("ed2k building {} {number}", process::id()));
         let room = Room { folder };
-        for name in ["format", "wire", "ed2k", "reading"] {
+        for name in ["format", "wire", "ed2k", "ed2k_c", "reading"] {
             room.write(&format!("crates/{name}/src/lib.rt"), &format!("{name} "));
         }
         room.write("crates/format/specs/Layout.antt", "what is true");

@@ -20,8 +20,7 @@ use query::{Bound, Operator, Query};
 use records::{Address, Record};
 use wire::Items;
 
-#[unsafe(no_mangle)]
-pub extern "C" fn ed2k_truth(query: &[u8], tags: &[u8], truth: &mut u8) -> u8
+pub fn ed2k_truth(query: &[u8], tags: &[u8], truth: &mut u8) -> u8
     ensures { (result ≡ (format.truth query.now tags.now).number) × (truth.new ≡ truth_byte (format.truth query.now tags.now)) }
 {
     let answer = truth::truth_of(query, tags);
@@ -29,8 +28,7 @@ pub extern "C" fn ed2k_truth(query: &[u8], tags: &[u8], truth: &mut u8) -> u8
     answer.number
 }
 
-#[unsafe(no_mangle)]
-pub extern "C" fn ed2k_write_keyword(text: &[u8], output: &mut [u8], written: &mut usize) -> u8
+pub fn ed2k_write_keyword(text: &[u8], output: &mut [u8], written: &mut usize) -> u8
     ensures { PiecesWritten (keyword text.now) output.old (leaves result written.new output.new) }
 {
     let wrote = write_items::write_keyword(text, output);
@@ -38,13 +36,7 @@ pub extern "C" fn ed2k_write_keyword(text: &[u8], output: &mut [u8], written: &m
     wrote.number
 }
 
-#[unsafe(no_mangle)]
-pub extern "C" fn ed2k_write_field(
-    text: &[u8],
-    name: &[u8],
-    output: &mut [u8],
-    written: &mut usize,
-) -> u8
+pub fn ed2k_write_field(text: &[u8], name: &[u8], output: &mut [u8], written: &mut usize) -> u8
     ensures { PiecesWritten (field text.now name.now) output.old (leaves result written.new output.new) }
 {
     let wrote = write_items::write_field(text, name, output);
@@ -60,8 +52,7 @@ fn write_limit(number: u32, bound: Bound, name: &[u8], output: &mut [u8], writte
     wrote.number
 }
 
-#[unsafe(no_mangle)]
-pub extern "C" fn ed2k_write_limit(
+pub fn ed2k_write_limit(
     number: u32,
     bound: u8,
     name: &[u8],
@@ -96,8 +87,7 @@ fn write_join(
     wrote.number
 }
 
-#[unsafe(no_mangle)]
-pub extern "C" fn ed2k_write_join(
+pub fn ed2k_write_join(
     operation: u8,
     left: &[u8],
     right: &[u8],
@@ -119,13 +109,7 @@ pub extern "C" fn ed2k_write_join(
     }
 }
 
-#[unsafe(no_mangle)]
-pub extern "C" fn ed2k_write_text_tag(
-    name: &[u8],
-    text: &[u8],
-    output: &mut [u8],
-    written: &mut usize,
-) -> u8
+pub fn ed2k_write_text_tag(name: &[u8], text: &[u8], output: &mut [u8], written: &mut usize) -> u8
     ensures { WritesTag no_places (tag_of name.now string_type text.now) output.old (leaves result written.new output.new) }
 {
     let wrote = write_items::write_text_tag(name, text, output);
@@ -133,13 +117,7 @@ pub extern "C" fn ed2k_write_text_tag(
     wrote.number
 }
 
-#[unsafe(no_mangle)]
-pub extern "C" fn ed2k_write_dword_tag(
-    name: &[u8],
-    number: u32,
-    output: &mut [u8],
-    written: &mut usize,
-) -> u8
+pub fn ed2k_write_dword_tag(name: &[u8], number: u32, output: &mut [u8], written: &mut usize) -> u8
     ensures { WritesTag no_places (tag_of name.now dword_type number) output.old (leaves result written.new output.new) }
 {
     let wrote = write_items::write_dword_tag(name, number, output);
@@ -147,13 +125,7 @@ pub extern "C" fn ed2k_write_dword_tag(
     wrote.number
 }
 
-#[unsafe(no_mangle)]
-pub extern "C" fn ed2k_write_float_tag(
-    name: &[u8],
-    bits: u32,
-    output: &mut [u8],
-    written: &mut usize,
-) -> u8
+pub fn ed2k_write_float_tag(name: &[u8], bits: u32, output: &mut [u8], written: &mut usize) -> u8
     ensures { WritesTag no_places (tag_of name.now float_type bits) output.old (leaves result written.new output.new) }
 {
     let wrote = write_items::write_float_tag(name, bits, output);
@@ -161,13 +133,7 @@ pub extern "C" fn ed2k_write_float_tag(
     wrote.number
 }
 
-#[unsafe(no_mangle)]
-pub extern "C" fn ed2k_write_hash_tag(
-    name: &[u8],
-    hash: &[u8],
-    output: &mut [u8],
-    written: &mut usize,
-) -> u8
+pub fn ed2k_write_hash_tag(name: &[u8], hash: &[u8], output: &mut [u8], written: &mut usize) -> u8
     ensures { WritesTag (hash_there hash.now 0) (tag_of name.now hash_type (hash_at hash.now 0)) output.old
         (leaves result written.new output.new) }
 {
@@ -176,8 +142,7 @@ pub extern "C" fn ed2k_write_hash_tag(
     wrote.number
 }
 
-#[unsafe(no_mangle)]
-pub extern "C" fn ed2k_write_tag_list(
+pub fn ed2k_write_tag_list(
     bytes: &[u8],
     at: usize,
     count: u32,
@@ -191,13 +156,7 @@ pub extern "C" fn ed2k_write_tag_list(
     wrote.number
 }
 
-#[unsafe(no_mangle)]
-pub extern "C" fn ed2k_write_query(
-    bytes: &[u8],
-    at: usize,
-    output: &mut [u8],
-    written: &mut usize,
-) -> u8
+pub fn ed2k_write_query(bytes: &[u8], at: usize, output: &mut [u8], written: &mut usize) -> u8
     ensures { QueryWritten bytes.now (query_from at) output.old (leaves result written.new output.new) }
 {
     let query = Query {
@@ -212,13 +171,7 @@ pub extern "C" fn ed2k_write_query(
 
 // Entries, to compose lists. A list's end is not read: the list is read again.
 
-#[unsafe(no_mangle)]
-pub extern "C" fn ed2k_write_address(
-    ip: u32,
-    port: u16,
-    output: &mut [u8],
-    written: &mut usize,
-) -> u8
+pub fn ed2k_write_address(ip: u32, port: u16, output: &mut [u8], written: &mut usize) -> u8
     ensures { leaves result written.new output.new ≡ spec_write_address (record { ip = ip; port = port }) output.old }
 {
     let wrote = write_bodies::write_address(Address { ip, port }, output);
@@ -226,8 +179,7 @@ pub extern "C" fn ed2k_write_address(
     wrote.number
 }
 
-#[unsafe(no_mangle)]
-pub extern "C" fn ed2k_write_record(
+pub fn ed2k_write_record(
     bytes: &[u8],
     hash: usize,
     client: u32,
@@ -255,8 +207,7 @@ pub extern "C" fn ed2k_write_record(
     wrote.number
 }
 
-#[unsafe(no_mangle)]
-pub extern "C" fn ed2k_write_file_entry(
+pub fn ed2k_write_file_entry(
     bytes: &[u8],
     date: u32,
     hash: usize,
@@ -290,8 +241,7 @@ pub extern "C" fn ed2k_write_file_entry(
     wrote.number
 }
 
-#[unsafe(no_mangle)]
-pub extern "C" fn ed2k_write_server_entry(
+pub fn ed2k_write_server_entry(
     bytes: &[u8],
     ip: u32,
     port: u16,

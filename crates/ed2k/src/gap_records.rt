@@ -20,8 +20,7 @@ use met::PartRead;
 use output::{RANGE, ROOM};
 use put_gaps::put_gap_numbers;
 
-#[unsafe(no_mangle)]
-pub extern "C" fn ed2k_read_gaps(file: &[u8], gaps: &mut [u64]) -> u8
+pub fn ed2k_read_gaps(file: &[u8], gaps: &mut [u64]) -> u8
     ensures { numbered result gaps.new ≡ gaps_read (gaps_answer (reply (decode part_met file.now))) gaps.old }
 {
     let mut starts: [usize; 64] = [0; 64];
@@ -38,8 +37,7 @@ pub extern "C" fn ed2k_read_gaps(file: &[u8], gaps: &mut [u64]) -> u8
     }
 }
 
-#[unsafe(no_mangle)]
-pub extern "C" fn ed2k_all_missing(size: u64, gaps: &mut [u64]) -> u8
+pub fn ed2k_all_missing(size: u64, gaps: &mut [u64]) -> u8
     ensures { numbered result gaps.new ≡ all_missing_out size gaps.old }
 {
     if SIZE_LIMIT < size {
@@ -52,8 +50,7 @@ pub extern "C" fn ed2k_all_missing(size: u64, gaps: &mut [u64]) -> u8
     0
 }
 
-#[unsafe(no_mangle)]
-pub extern "C" fn ed2k_count_missing(gaps: &[u64], missing: &mut u64) -> u8
+pub fn ed2k_count_missing(gaps: &[u64], missing: &mut u64) -> u8
     ensures { Counts (record_in gaps.now) result missing.new }
 {
     let judged = judge_numbers(gaps);
@@ -61,8 +58,7 @@ pub extern "C" fn ed2k_count_missing(gaps: &[u64], missing: &mut u64) -> u8
     if judged.lawful { 0 } else { RANGE }
 }
 
-#[unsafe(no_mangle)]
-pub extern "C" fn ed2k_mark(gaps: &mut [u64], start: u64, end: u64, missing: &mut u64) -> u8
+pub fn ed2k_mark(gaps: &mut [u64], start: u64, end: u64, missing: &mut u64) -> u8
     ensures { MarksNumbers (marked size_limit (record_in gaps.old) start end) (counted result missing.new)
         gaps.old gaps.new }
 {
@@ -71,13 +67,7 @@ pub extern "C" fn ed2k_mark(gaps: &mut [u64], start: u64, end: u64, missing: &mu
     answer.number
 }
 
-#[unsafe(no_mangle)]
-pub extern "C" fn ed2k_put_gaps(
-    file: &[u8],
-    gaps: &[u64],
-    output: &mut [u8],
-    written: &mut usize,
-) -> u8
+pub fn ed2k_put_gaps(file: &[u8], gaps: &[u64], output: &mut [u8], written: &mut usize) -> u8
     ensures { leaves result written.new output.new ≡ spec_put_record file.now (record_in gaps.now) output.old }
 {
     let answer = put_gap_numbers(file, gaps, output);
@@ -85,8 +75,7 @@ pub extern "C" fn ed2k_put_gaps(
     answer.number
 }
 
-#[unsafe(no_mangle)]
-pub extern "C" fn ed2k_save(
+pub fn ed2k_save(
     stored: &[u8],
     opened: &[u8],
     saved: &[u8],
@@ -100,8 +89,7 @@ pub extern "C" fn ed2k_save(
     answer.number
 }
 
-#[unsafe(no_mangle)]
-pub extern "C" fn ed2k_save_strict(
+pub fn ed2k_save_strict(
     stored: &[u8],
     opened: &[u8],
     saved: &[u8],
@@ -115,8 +103,7 @@ pub extern "C" fn ed2k_save_strict(
     answer.number
 }
 
-#[unsafe(no_mangle)]
-pub extern "C" fn ed2k_merge(
+pub fn ed2k_merge(
     opened: &[u8],
     first: &[u8],
     second: &[u8],

@@ -150,8 +150,7 @@ fn read_lone_tags(bytes: &[u8], fields: &mut [u64]) -> u8
     }
 }
 
-#[unsafe(no_mangle)]
-pub extern "C" fn ed2k_read(kind: u8, bytes: &[u8], fields: &mut [u64]) -> u8
+pub fn ed2k_read(kind: u8, bytes: &[u8], fields: &mut [u64]) -> u8
     ensures { ReadOf (lookup kinds kind) bytes.now fields.old (numbered result fields.new) }
 {
     if kind <= LAST_LINK {
@@ -167,8 +166,7 @@ pub extern "C" fn ed2k_read(kind: u8, bytes: &[u8], fields: &mut [u64]) -> u8
     }
 }
 
-#[unsafe(no_mangle)]
-pub extern "C" fn ed2k_read_tag(bytes: &[u8], at: usize, fields: &mut [u64]) -> u8
+pub fn ed2k_read_tag(bytes: &[u8], at: usize, fields: &mut [u64]) -> u8
     ensures { TagRead bytes.now at fields.old (numbered result fields.new) }
 {
     let tag_step = tags::read_tag(bytes, Cursor { at });
@@ -179,8 +177,7 @@ pub extern "C" fn ed2k_read_tag(bytes: &[u8], at: usize, fields: &mut [u64]) -> 
     hand_out(&numbers, fields)
 }
 
-#[unsafe(no_mangle)]
-pub extern "C" fn ed2k_read_address(bytes: &[u8], at: usize, fields: &mut [u64]) -> u8
+pub fn ed2k_read_address(bytes: &[u8], at: usize, fields: &mut [u64]) -> u8
     ensures { numbered result fields.new ≡ address_read (decode_address bytes.now at) fields.old }
 {
     let address_step = records::read_address(bytes, Cursor { at });
@@ -191,8 +188,7 @@ pub extern "C" fn ed2k_read_address(bytes: &[u8], at: usize, fields: &mut [u64])
     hand_out(&numbers, fields)
 }
 
-#[unsafe(no_mangle)]
-pub extern "C" fn ed2k_read_record(bytes: &[u8], at: usize, fields: &mut [u64]) -> u8
+pub fn ed2k_read_record(bytes: &[u8], at: usize, fields: &mut [u64]) -> u8
     ensures { RecordRead bytes.now at fields.old (numbered result fields.new) }
 {
     let record_step = records::read_record(bytes, Cursor { at });
@@ -203,8 +199,7 @@ pub extern "C" fn ed2k_read_record(bytes: &[u8], at: usize, fields: &mut [u64]) 
     hand_out(&numbers, fields)
 }
 
-#[unsafe(no_mangle)]
-pub extern "C" fn ed2k_read_file_entry(bytes: &[u8], at: usize, fields: &mut [u64]) -> u8
+pub fn ed2k_read_file_entry(bytes: &[u8], at: usize, fields: &mut [u64]) -> u8
     ensures { FileEntryRead bytes.now at fields.old (numbered result fields.new) }
 {
     let entry_step = met::read_file_entry(bytes, Cursor { at });
@@ -215,8 +210,7 @@ pub extern "C" fn ed2k_read_file_entry(bytes: &[u8], at: usize, fields: &mut [u6
     hand_out(&numbers, fields)
 }
 
-#[unsafe(no_mangle)]
-pub extern "C" fn ed2k_read_server_entry(bytes: &[u8], at: usize, fields: &mut [u64]) -> u8
+pub fn ed2k_read_server_entry(bytes: &[u8], at: usize, fields: &mut [u64]) -> u8
     ensures { ServerEntryRead bytes.now at fields.old (numbered result fields.new) }
 {
     let entry_step = met::read_server_entry(bytes, Cursor { at });
@@ -227,8 +221,7 @@ pub extern "C" fn ed2k_read_server_entry(bytes: &[u8], at: usize, fields: &mut [
     hand_out(&numbers, fields)
 }
 
-#[unsafe(no_mangle)]
-pub extern "C" fn ed2k_read_query_node(bytes: &[u8], at: usize, fields: &mut [u64]) -> u8
+pub fn ed2k_read_query_node(bytes: &[u8], at: usize, fields: &mut [u64]) -> u8
     ensures { NodeRead bytes.now at fields.old (numbered result fields.new) }
 {
     let node_step = query::read_node(bytes, Cursor { at });
@@ -239,15 +232,13 @@ pub extern "C" fn ed2k_read_query_node(bytes: &[u8], at: usize, fields: &mut [u6
     hand_out(&numbers, fields)
 }
 
-#[unsafe(no_mangle)]
-pub extern "C" fn ed2k_part_count(size: u32) -> u32
+pub fn ed2k_part_count(size: u32) -> u32
     ensures { result ≡ spec_part_count size }
 {
     met::part_count(size)
 }
 
-#[unsafe(no_mangle)]
-pub extern "C" fn ed2k_block_count(size: u32) -> u32
+pub fn ed2k_block_count(size: u32) -> u32
     ensures { result ≡ spec_block_count size }
 {
     met::block_count(size)

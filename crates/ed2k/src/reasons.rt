@@ -18,8 +18,7 @@ fn why_on(link: Link, bytes: &[u8], why: &mut [u64]) -> u8
     hand_out(&reason, why)
 }
 
-#[unsafe(no_mangle)]
-pub extern "C" fn ed2k_why(kind: u8, bytes: &[u8], why: &mut [u64]) -> u8
+pub fn ed2k_why(kind: u8, bytes: &[u8], why: &mut [u64]) -> u8
     ensures { WhyOf (lookup links kind) bytes.now why.old (numbered result why.new) }
 {
     match kind {

@@ -108,8 +108,7 @@ fn write_lone_tags(bytes: &[u8], given: &[u64], output: &mut [u8], written: &mut
     wrote.number
 }
 
-#[unsafe(no_mangle)]
-pub extern "C" fn ed2k_write(
+pub fn ed2k_write(
     kind: u8,
     bytes: &[u8],
     given: &[u64],
