@@ -3,23 +3,17 @@ use Rattle.std.specs.Prelude.{ℕ, ◌+◌, ◌≡◌, Bool, List}
 use Rattle.std.proofs.Common.{inl, inr}
 use Rattle.format.specs.Messages as messages
 use Rattle.format.specs.Bits.{spec_packed_bytes, bits_in}
-use Rattle.format.specs.Decoding.{Outcome, refused, got, bytes_at, ends}
+use Rattle.format.specs.Decoding.{Outcome, got, bytes_at, ends}
 use Rattle.format.specs.Order.{decode_hash, decode_tag, decode_address, decode_record}
-use Rattle.wire.specs.declared.Fault.{Fault}
 use Rattle.format.specs.PacketOrder.{decode_bits}
-use Rattle.wire.specs.WireAnswers.{fault_meaning, hash_at, HashInside, Inside, place_bytes, PlaceInside, items_in, ItemsInside, spec_no_fault}
+use Rattle.wire.specs.WireAnswers.{Step, step_meaning, OfStep, hash_at, HashInside, Inside, place_bytes, PlaceInside, items_in, ItemsInside}
 use Rattle.query.specs.QueryAnswers.{query_in, QueryPlaced}
 use Rattle.records.specs.RecordAnswers.{address_of, record_in, RecordPlaced}
 use Rattle.bodies.specs.declared.Shape.{Shape}
 use Rattle.bodies.specs.declared.Triple.{Triple}
 use Rattle.bodies.specs.declared.Form.{Form}
+use Rattle.bodies.specs.declared.ExtendedStatus.{ExtendedStatus}
 use Rattle.bodies.specs.declared.Body.{Body}
-use Rattle.bodies.specs.declared.BodyStep.{BodyStep}
-use Rattle.bodies.specs.declared.RangeStep.{RangeStep}
-use Rattle.bodies.specs.declared.TripleStep.{TripleStep}
-use Rattle.bodies.specs.declared.RangesStep.{RangesStep}
-use Rattle.bodies.specs.declared.ExtendedStatusStep.{ExtendedStatusStep}
-use Rattle.bodies.specs.declared.BitsStep.{BitsStep}
 
 abbrev pub shape_of : Shape → messages.Shape
 shape_of Shape.Nothing = messages.nothing_body
@@ -54,6 +48,9 @@ form_meaning Form.Extended = messages.extended
 abbrev pub triple_of : Triple → messages.Triple
 triple_of t = (t.first, (t.second, t.third))
 
+abbrev pub extended_status_of : ExtendedStatus → messages.ExtendedStatus
+extended_status_of p = record { first = p.first; second = p.second; numbers = triple_of p.numbers }
+
 -- The bits of n parts whose bytes begin at a place.
 abbrev pub held_at : ℕ → List ℕ → ℕ → List Bool
 held_at n s at = bits_in n (bytes_at s at (spec_packed_bytes n))
@@ -87,12 +84,10 @@ body_in s (Body.FileStatus p) =
     (messages.file_status_body, record { hash = hash_at s p.hash; held = held_at p.parts s p.bits })
 body_in s (Body.StatusRequest p) = (messages.status_request_body, record { form = form_meaning p.form; number = p.number })
 body_in s (Body.Status t) = (messages.status_body, inl (triple_of t))
-body_in s (Body.ExtendedStatus p) =
-    (messages.status_body, inr (record { first = p.first; second = p.second; numbers = triple_of p.numbers }))
+body_in s (Body.ExtendedStatus p) = (messages.status_body, inr (extended_status_of p))
 
-abbrev pub body_meaning : List ℕ → BodyStep → Outcome ((shape : messages.Shape) × messages.Values shape)
-body_meaning s (BodyStep.Got b c) = got (body_in s b) c.at
-body_meaning s (BodyStep.Refused f) = refused (fault_meaning f)
+abbrev pub body_meaning : List ℕ → Step Body → Outcome ((shape : messages.Shape) × messages.Values shape)
+body_meaning s = step_meaning (body_in s)
 
 -- Status bits lie wholly inside the bytes, and are decoded there: the unused ones are 0.
 abbrev pub BitsInside : ℕ → List ℕ → ℕ → Type 0
@@ -126,58 +121,25 @@ BodyPlaced s (Body.StatusRequest p) = Unit {0}
 BodyPlaced s (Body.Status t) = Unit {0}
 BodyPlaced s (Body.ExtendedStatus p) = Unit {0}
 
-abbrev pub BodyStepPlaced : List ℕ → BodyStep → Type 0
-BodyStepPlaced s (BodyStep.Got b c) = BodyPlaced s b
-BodyStepPlaced s (BodyStep.Refused f) = Unit {0}
+abbrev pub BodyStepPlaced : List ℕ → Step Body → Type 0
+BodyStepPlaced s = OfStep (BodyPlaced s)
 
 -- Parts of bodies
 
-abbrev pub range_meaning : RangeStep → Outcome (ℕ × ℕ)
-range_meaning (RangeStep.Got a b c) = got (a, b) c.at
-range_meaning (RangeStep.Refused f) = refused (fault_meaning f)
+abbrev pub range_meaning : Step (ℕ × ℕ) → Outcome (ℕ × ℕ)
+range_meaning = step_meaning (λ r. r)
 
-abbrev pub triple_meaning : TripleStep → Outcome messages.Triple
-triple_meaning (TripleStep.Got t c) = got (triple_of t) c.at
-triple_meaning (TripleStep.Refused f) = refused (fault_meaning f)
+abbrev pub triple_meaning : Step Triple → Outcome messages.Triple
+triple_meaning = step_meaning triple_of
 
-abbrev pub ranges_meaning : RangesStep → Outcome (messages.Triple × messages.Triple)
-ranges_meaning (RangesStep.Got a b c) = got (triple_of a, triple_of b) c.at
-ranges_meaning (RangesStep.Refused f) = refused (fault_meaning f)
+abbrev pub ranges_meaning : Step (Triple × Triple) → Outcome (messages.Triple × messages.Triple)
+ranges_meaning = step_meaning (λ r. (triple_of r.0, triple_of r.1))
 
-abbrev pub bits_meaning : ℕ → List ℕ → BitsStep → Outcome (List Bool)
-bits_meaning n s (BitsStep.Got at c) = got (held_at n s at) c.at
-bits_meaning n s (BitsStep.Refused f) = refused (fault_meaning f)
+abbrev pub bits_meaning : ℕ → List ℕ → Step ℕ → Outcome (List Bool)
+bits_meaning n s = step_meaning (held_at n s)
 
-abbrev pub BitsStepInside : ℕ → List ℕ → BitsStep → Type 0
-BitsStepInside n s (BitsStep.Got at c) = BitsInside n s at
-BitsStepInside n s (BitsStep.Refused f) = Unit {0}
+abbrev pub BitsStepInside : ℕ → List ℕ → Step ℕ → Type 0
+BitsStepInside n s = OfStep (BitsInside n s)
 
-abbrev pub extended_status_meaning : ExtendedStatusStep → Outcome messages.ExtendedStatus
-extended_status_meaning (ExtendedStatusStep.Got p c) = got (record { first = p.first; second = p.second; numbers = triple_of p.numbers }) c.at
-extended_status_meaning (ExtendedStatusStep.Refused f) = refused (fault_meaning f)
-
--- What the methods `fault` propagate.
-
-abbrev pub body_fault : BodyStep → Fault
-body_fault (BodyStep.Got b c) = spec_no_fault
-body_fault (BodyStep.Refused f) = f
-
-abbrev pub range_fault : RangeStep → Fault
-range_fault (RangeStep.Got a b c) = spec_no_fault
-range_fault (RangeStep.Refused f) = f
-
-abbrev pub triple_fault : TripleStep → Fault
-triple_fault (TripleStep.Got t c) = spec_no_fault
-triple_fault (TripleStep.Refused f) = f
-
-abbrev pub ranges_fault : RangesStep → Fault
-ranges_fault (RangesStep.Got a b c) = spec_no_fault
-ranges_fault (RangesStep.Refused f) = f
-
-abbrev pub extended_status_fault : ExtendedStatusStep → Fault
-extended_status_fault (ExtendedStatusStep.Got p c) = spec_no_fault
-extended_status_fault (ExtendedStatusStep.Refused f) = f
-
-abbrev pub bits_fault : BitsStep → Fault
-bits_fault (BitsStep.Got at c) = spec_no_fault
-bits_fault (BitsStep.Refused f) = f
+abbrev pub extended_status_meaning : Step ExtendedStatus → Outcome messages.ExtendedStatus
+extended_status_meaning = step_meaning extended_status_of

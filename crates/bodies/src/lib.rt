@@ -7,7 +7,6 @@
 ghost use Rattle.std.specs.Prelude.{◌≡◌};
 ghost use Rattle.format.specs.PacketOrder.{decode_body};
 ghost use Rattle.bodies.specs.BodyAnswers.{shape_of, body_meaning, BodyStepPlaced};
-ghost use Rattle.bodies.specs.BodyAnswers.{range_fault, triple_fault, ranges_fault, bits_fault, extended_status_fault, body_fault};
 
 use crate::items::{
     read_address_body, read_address_dword, read_addresses_body, read_dword_body,
@@ -19,7 +18,7 @@ use crate::ranges::{read_request_parts, read_sending_part};
 use crate::status::{read_file_status, read_status, read_status_request};
 use query::Query;
 use records::{Address, Record};
-use wire::{Cursor, Fault, Items, Place, no_fault};
+use wire::{Cursor, Items, Place, Step};
 
 mod items;
 mod ranges;
@@ -29,7 +28,7 @@ pub use ranges::read_triple;
 pub use status::read_bits;
 
 // What a body holds.
-#[derive(Clone, Copy)]
+#[derive(Clone, Copy, PartialEq, Eq)]
 pub enum Shape {
     Nothing,
     Query,
@@ -140,116 +139,13 @@ pub enum Body {
     ExtendedStatus(ExtendedStatus),
 }
 
-#[derive(Clone, Copy)]
-pub enum BodyStep {
-    Got(Body, Cursor),
-    Refused(Fault),
-}
-
-#[derive(Clone, Copy)]
-pub enum RangeStep {
-    Got(u32, u32, Cursor),
-    Refused(Fault),
-}
-
-#[derive(Clone, Copy)]
-pub enum TripleStep {
-    Got(Triple, Cursor),
-    Refused(Fault),
-}
-
-#[derive(Clone, Copy)]
-pub enum RangesStep {
-    Got(Triple, Triple, Cursor),
-    Refused(Fault),
-}
-
-#[derive(Clone, Copy)]
-pub enum ExtendedStatusStep {
-    Got(ExtendedStatus, Cursor),
-    Refused(Fault),
-}
-
-// The place of the bytes that hold the status bits.
-#[derive(Clone, Copy)]
-pub enum BitsStep {
-    Got(usize, Cursor),
-    Refused(Fault),
-}
-
-impl BodyStep {
-    pub fn fault(self) -> Fault
-        ensures { result ≡ body_fault self }
-    {
-        match self {
-            BodyStep::Got(_, _) => no_fault(),
-            BodyStep::Refused(f) => f,
-        }
-    }
-}
-
-impl RangeStep {
-    pub fn fault(self) -> Fault
-        ensures { result ≡ range_fault self }
-    {
-        match self {
-            RangeStep::Got(_, _, _) => no_fault(),
-            RangeStep::Refused(f) => f,
-        }
-    }
-}
-
-impl TripleStep {
-    pub fn fault(self) -> Fault
-        ensures { result ≡ triple_fault self }
-    {
-        match self {
-            TripleStep::Got(_, _) => no_fault(),
-            TripleStep::Refused(f) => f,
-        }
-    }
-}
-
-impl RangesStep {
-    pub fn fault(self) -> Fault
-        ensures { result ≡ ranges_fault self }
-    {
-        match self {
-            RangesStep::Got(_, _, _) => no_fault(),
-            RangesStep::Refused(f) => f,
-        }
-    }
-}
-
-impl ExtendedStatusStep {
-    pub fn fault(self) -> Fault
-        ensures { result ≡ extended_status_fault self }
-    {
-        match self {
-            ExtendedStatusStep::Got(_, _) => no_fault(),
-            ExtendedStatusStep::Refused(f) => f,
-        }
-    }
-}
-
-impl BitsStep {
-    pub fn fault(self) -> Fault
-        ensures { result ≡ bits_fault self }
-    {
-        match self {
-            BitsStep::Got(_, _) => no_fault(),
-            BitsStep::Refused(f) => f,
-        }
-    }
-}
-
 // The body of a shape.
-pub fn read_body(s: &[u8], c: Cursor, shape: Shape) -> BodyStep
+pub fn read_body(s: &[u8], c: Cursor, shape: Shape) -> Step<Body>
     ensures meaning { body_meaning s.now result ≡ decode_body (shape_of shape) s.now c.at }
     ensures placed { BodyStepPlaced s.now result }
 {
     match shape {
-        Shape::Nothing => BodyStep::Got(Body::Nothing, c),
+        Shape::Nothing => Ok((Body::Nothing, c)),
         Shape::Query => read_query_body(s, c),
         Shape::Hash => read_hash_body(s, c),
         Shape::Dword => read_dword_body(s, c),

@@ -5,8 +5,8 @@ ghost use Rattle.format.specs.PacketOrder.{decode_range, decode_triple, decode_r
 ghost use Rattle.bodies.specs.BodyAnswers.{body_meaning, BodyStepPlaced};
 ghost use Rattle.bodies.specs.BodyAnswers.{range_meaning, triple_meaning, ranges_meaning};
 
-use crate::{Body, BodyStep, RangeStep, RangesStep, RequestParts, SendingPart, Triple, TripleStep};
-use wire::{Cursor, DwordStep, Fault, HashStep, Place, Rule};
+use crate::{Body, RequestParts, SendingPart, Triple};
+use wire::{Cursor, Fault, Place, Rule, Step};
 
 // The size of a range, a start and an end, and of three of them.
 const RANGE_SIZE: usize = 8;
@@ -16,19 +16,14 @@ const RANGES_SIZE: usize = 24;
 // 46
 
 // Start and end are checked together, by themselves and then by the number of bytes after them.
-fn read_range(s: &[u8], c: Cursor) -> RangeStep
+#[tactic(auto, unfolding(format::specs::PacketOrder::decode_range))]
+fn read_range(s: &[u8], c: Cursor) -> Step<(u32, u32)>
     ensures { range_meaning result ≡ decode_range s.now c.at }
 {
-    let start_step = c.dword(s);
-    let DwordStep::Got(start, after_start) = start_step else {
-        return RangeStep::Refused(start_step.fault());
-    };
-    let end_step = after_start.dword(s);
-    let DwordStep::Got(end, next) = end_step else {
-        return RangeStep::Refused(end_step.fault());
-    };
+    let (start, after_start) = c.dword(s)?;
+    let (end, next) = after_start.dword(s)?;
     if end < start {
-        return RangeStep::Refused(Fault {
+        return Err(Fault {
             rule: Rule::Order,
             at: c.at,
             size: RANGE_SIZE,
@@ -37,27 +32,22 @@ fn read_range(s: &[u8], c: Cursor) -> RangeStep
     let left = next.remaining(s);
     let wanted = (end - start) as usize;
     if left == wanted {
-        return RangeStep::Got(start, end, next);
+        return Ok(((start, end), next));
     }
-    RangeStep::Refused(Fault {
+    Err(Fault {
         rule: Rule::DataLength,
         at: c.at,
         size: RANGE_SIZE,
     })
 }
 
-pub fn read_sending_part(s: &[u8], c: Cursor) -> BodyStep
+#[tactic(auto, unfolding(format::specs::PacketOrder::decode_body, format::specs::PacketOrder::decode_sending_part))]
+pub fn read_sending_part(s: &[u8], c: Cursor) -> Step<Body>
     ensures meaning { body_meaning s.now result ≡ decode_body sending_part_body s.now c.at }
     ensures placed { BodyStepPlaced s.now result }
 {
-    let hash_step = c.hash(s);
-    let HashStep::Got(hash, after_hash) = hash_step else {
-        return BodyStep::Refused(hash_step.fault());
-    };
-    let range_step = read_range(s, after_hash);
-    let RangeStep::Got(start, end, next) = range_step else {
-        return BodyStep::Refused(range_step.fault());
-    };
+    let (hash, after_hash) = c.hash(s)?;
+    let ((start, end), next) = read_range(s, after_hash)?;
     let len = next.remaining(s);
     let data = Place { at: next.at, len };
     let part = SendingPart {
@@ -66,77 +56,52 @@ pub fn read_sending_part(s: &[u8], c: Cursor) -> BodyStep
         end,
         data,
     };
-    BodyStep::Got(Body::SendingPart(part), Cursor { at: s.len() })
+    Ok((Body::SendingPart(part), Cursor { at: s.len() }))
 }
 
 // 47
 
-pub fn read_triple(s: &[u8], c: Cursor) -> TripleStep
+#[tactic(auto, unfolding(format::specs::PacketOrder::decode_triple))]
+pub fn read_triple(s: &[u8], c: Cursor) -> Step<Triple>
     ensures { triple_meaning result ≡ decode_triple s.now c.at }
 {
-    let first_step = c.dword(s);
-    let DwordStep::Got(first, after_first) = first_step else {
-        return TripleStep::Refused(first_step.fault());
-    };
-    let second_step = after_first.dword(s);
-    let DwordStep::Got(second, after_second) = second_step else {
-        return TripleStep::Refused(second_step.fault());
-    };
-    let third_step = after_second.dword(s);
-    let DwordStep::Got(third, next) = third_step else {
-        return TripleStep::Refused(third_step.fault());
-    };
-    TripleStep::Got(
+    let (first, after_first) = c.dword(s)?;
+    let (second, after_second) = after_first.dword(s)?;
+    let (third, next) = after_second.dword(s)?;
+    Ok((
         Triple {
             first,
             second,
             third,
         },
         next,
-    )
+    ))
 }
 
 // All six numbers must be there before the pairs are checked.
-fn read_ranges(s: &[u8], c: Cursor) -> RangesStep
+#[tactic(auto, unfolding(format::specs::PacketOrder::decode_ranges))]
+fn read_ranges(s: &[u8], c: Cursor) -> Step<(Triple, Triple)>
     ensures { ranges_meaning result ≡ decode_ranges s.now c.at }
 {
-    let starts_step = read_triple(s, c);
-    let TripleStep::Got(starts, after_starts) = starts_step else {
-        return RangesStep::Refused(starts_step.fault());
-    };
-    let ends_step = read_triple(s, after_starts);
-    let TripleStep::Got(ends, next) = ends_step else {
-        return RangesStep::Refused(ends_step.fault());
-    };
-    let fault = Fault {
-        rule: Rule::Order,
-        at: c.at,
-        size: RANGES_SIZE,
-    };
-    if ends.first < starts.first {
-        return RangesStep::Refused(fault);
+    let (starts, after_starts) = read_triple(s, c)?;
+    let (ends, next) = read_triple(s, after_starts)?;
+    if ends.first < starts.first || ends.second < starts.second || ends.third < starts.third {
+        return Err(Fault {
+            rule: Rule::Order,
+            at: c.at,
+            size: RANGES_SIZE,
+        });
     }
-    if ends.second < starts.second {
-        return RangesStep::Refused(fault);
-    }
-    if ends.third < starts.third {
-        return RangesStep::Refused(fault);
-    }
-    RangesStep::Got(starts, ends, next)
+    Ok(((starts, ends), next))
 }
 
-pub fn read_request_parts(s: &[u8], c: Cursor) -> BodyStep
+#[tactic(auto, unfolding(format::specs::PacketOrder::decode_body, format::specs::PacketOrder::decode_request_parts))]
+pub fn read_request_parts(s: &[u8], c: Cursor) -> Step<Body>
     ensures meaning { body_meaning s.now result ≡ decode_body request_parts_body s.now c.at }
     ensures placed { BodyStepPlaced s.now result }
 {
-    let hash_step = c.hash(s);
-    let HashStep::Got(hash, after_hash) = hash_step else {
-        return BodyStep::Refused(hash_step.fault());
-    };
-    let ranges_step = read_ranges(s, after_hash);
-    let RangesStep::Got(starts, ends, next) = ranges_step else {
-        return BodyStep::Refused(ranges_step.fault());
-    };
+    let (hash, after_hash) = c.hash(s)?;
+    let ((starts, ends), next) = read_ranges(s, after_hash)?;
     let parts = RequestParts { hash, starts, ends };
-    BodyStep::Got(Body::RequestParts(parts), next)
+    Ok((Body::RequestParts(parts), next))
 }

@@ -8,11 +8,8 @@ ghost use Rattle.bodies.specs.BodyAnswers.{body_meaning, BodyStepPlaced};
 ghost use Rattle.bodies.specs.BodyAnswers.{form_meaning, bits_meaning, BitsStepInside, extended_status_meaning};
 
 use crate::ranges::read_triple;
-use crate::{
-    BitsStep, Body, BodyStep, ExtendedStatus, ExtendedStatusStep, FileStatus, Form, StatusRequest,
-    TripleStep,
-};
-use wire::{ByteStep, Cursor, DoneStep, DwordStep, Fault, HashStep, PlaceStep, Rule, WordStep};
+use crate::{Body, ExtendedStatus, FileStatus, Form, StatusRequest};
+use wire::{Cursor, Fault, Rule, Step};
 
 // 50
 
@@ -32,50 +29,39 @@ fn packed_bytes(parts: usize) -> usize
 }
 
 // The bits of so many parts. All their bytes must be there before the unused bits of the last one are checked.
-pub fn read_bits(s: &[u8], c: Cursor, parts: usize) -> BitsStep
+pub fn read_bits(s: &[u8], c: Cursor, parts: usize) -> Step<usize>
     ensures result_value { bits_meaning parts s.now result ≡ decode_bits parts s.now c.at }
     ensures inside { BitsStepInside parts s.now result }
 {
     let size = packed_bytes(parts);
-    let run_step = c.run(s, size);
-    let PlaceStep::Got(_, next) = run_step else {
-        return BitsStep::Refused(run_step.fault());
-    };
+    let (_, next) = c.run(s, size)?;
     let used = parts % 8;
     if used == 0 {
-        return BitsStep::Got(c.at, next);
+        return Ok((c.at, next));
     }
     let last = c.at + parts / 8;
     let byte = s[last];
     if (byte as usize) < power(used) {
-        return BitsStep::Got(c.at, next);
+        return Ok((c.at, next));
     }
-    BitsStep::Refused(Fault {
+    Err(Fault {
         rule: Rule::StatusBit,
         at: c.at,
         size,
     })
 }
 
-pub fn read_file_status(s: &[u8], c: Cursor) -> BodyStep
+#[tactic(auto, unfolding(format::specs::PacketOrder::decode_body, format::specs::PacketOrder::decode_file_status))]
+pub fn read_file_status(s: &[u8], c: Cursor) -> Step<Body>
     ensures meaning { body_meaning s.now result ≡ decode_body file_status_body s.now c.at }
     ensures placed { BodyStepPlaced s.now result }
 {
-    let hash_step = c.hash(s);
-    let HashStep::Got(hash, after_hash) = hash_step else {
-        return BodyStep::Refused(hash_step.fault());
-    };
-    let count_step = after_hash.word(s);
-    let WordStep::Got(count, after_count) = count_step else {
-        return BodyStep::Refused(count_step.fault());
-    };
+    let (hash, after_hash) = c.hash(s)?;
+    let (count, after_count) = after_hash.word(s)?;
     let parts = count as usize;
-    let bits_step = read_bits(s, after_count, parts);
-    let BitsStep::Got(bits, next) = bits_step else {
-        return BodyStep::Refused(bits_step.fault());
-    };
+    let (bits, next) = read_bits(s, after_count, parts)?;
     let status = FileStatus { hash, parts, bits };
-    BodyStep::Got(Body::FileStatus(status), next)
+    Ok((Body::FileStatus(status), next))
 }
 
 // 96 and 97
@@ -100,65 +86,44 @@ fn form_of(number: u32) -> Form
     Form::Plain
 }
 
-pub fn read_status_request(s: &[u8], c: Cursor) -> BodyStep
+#[tactic(auto, unfolding(format::specs::PacketOrder::decode_body, format::specs::PacketOrder::decode_status_request))]
+pub fn read_status_request(s: &[u8], c: Cursor) -> Step<Body>
     ensures meaning { body_meaning s.now result ≡ decode_body status_request_body s.now c.at }
     ensures placed { BodyStepPlaced s.now result }
 {
-    let number_step = c.dword(s);
-    let DwordStep::Got(number, next) = number_step else {
-        return BodyStep::Refused(number_step.fault());
-    };
+    let (number, next) = c.dword(s)?;
     let form = form_of(number);
     let request = StatusRequest { form, number };
-    BodyStep::Got(Body::StatusRequest(request), next)
+    Ok((Body::StatusRequest(request), next))
 }
 
-fn read_extended_status(s: &[u8], c: Cursor) -> ExtendedStatusStep
+#[tactic(auto, unfolding(format::specs::PacketOrder::decode_extended_status))]
+fn read_extended_status(s: &[u8], c: Cursor) -> Step<ExtendedStatus>
     ensures { extended_status_meaning result ≡ decode_extended_status s.now c.at }
 {
-    let first_step = c.byte(s);
-    let ByteStep::Got(first, after_first) = first_step else {
-        return ExtendedStatusStep::Refused(first_step.fault());
-    };
-    let second_step = after_first.byte(s);
-    let ByteStep::Got(second, after_second) = second_step else {
-        return ExtendedStatusStep::Refused(second_step.fault());
-    };
-    let first_mark_step = after_second.fixed(s, FIRST_MARK);
-    let DoneStep::Got(after_first_mark) = first_mark_step else {
-        return ExtendedStatusStep::Refused(first_mark_step.fault());
-    };
-    let second_mark_step = after_first_mark.fixed(s, SECOND_MARK);
-    let DoneStep::Got(after_marks) = second_mark_step else {
-        return ExtendedStatusStep::Refused(second_mark_step.fault());
-    };
-    let numbers_step = read_triple(s, after_marks);
-    let TripleStep::Got(numbers, next) = numbers_step else {
-        return ExtendedStatusStep::Refused(numbers_step.fault());
-    };
+    let (first, after_first) = c.byte(s)?;
+    let (second, after_second) = after_first.byte(s)?;
+    let after_first_mark = after_second.fixed(s, FIRST_MARK)?;
+    let after_marks = after_first_mark.fixed(s, SECOND_MARK)?;
+    let (numbers, next) = read_triple(s, after_marks)?;
     let status = ExtendedStatus {
         first,
         second,
         numbers,
     };
-    ExtendedStatusStep::Got(status, next)
+    Ok((status, next))
 }
 
 // A body of 12 bytes is always plain; any other is read as the longer form.
-pub fn read_status(s: &[u8], c: Cursor) -> BodyStep
+#[tactic(auto, unfolding(format::specs::PacketOrder::decode_body))]
+pub fn read_status(s: &[u8], c: Cursor) -> Step<Body>
     ensures meaning { body_meaning s.now result ≡ decode_body status_body s.now c.at }
     ensures placed { BodyStepPlaced s.now result }
 {
     if c.remaining(s) == PLAIN_STATUS_SIZE {
-        let numbers_step = read_triple(s, c);
-        let TripleStep::Got(numbers, next) = numbers_step else {
-            return BodyStep::Refused(numbers_step.fault());
-        };
-        return BodyStep::Got(Body::Status(numbers), next);
+        let (numbers, next) = read_triple(s, c)?;
+        return Ok((Body::Status(numbers), next));
     }
-    let status_step = read_extended_status(s, c);
-    let ExtendedStatusStep::Got(status, next) = status_step else {
-        return BodyStep::Refused(status_step.fault());
-    };
-    BodyStep::Got(Body::ExtendedStatus(status), next)
+    let (status, next) = read_extended_status(s, c)?;
+    Ok((Body::ExtendedStatus(status), next))
 }

@@ -1,6 +1,6 @@
 -- Laws of the extents of parts.
 use Prim.Native.Nat.{ℕ, ◌+◌, ◌-◌, ◌≤◌, ◌<◌}
-use mathlib.Core.Path.{◌≡◌, refl, sym, ap, ◌∙◌, subst}
+use mathlib.Core.Path.{◌≡◌, sym, ap, ◌∙◌, subst}
 use mathlib.Core.List.{List, [], ◌∷◌}
 use native.Mathlib.Omega.{arith}
 use lib.ListN.{length}
@@ -8,16 +8,21 @@ use Rattle.format.specs.Bits.{pack_bits, spec_packed_bytes}
 use Rattle.format.specs.Messages as messages
 use Rattle.format.specs.Layout.{encode_all, encode_query, encode_string}
 use Rattle.format.specs.Rules.{All, ValidRecord, Word}
-use Rattle.format.specs.Decoding.{Decoder, Fault, Outcome, bytes_at, ends, number, refused}
+use Rattle.format.specs.Decoding.{Decoder, Outcome, bytes_at, ends, refused}
 use Rattle.format.specs.Order.{decode_hash}
 use Rattle.format.specs.Writing.{QueryFits, RecordFits, StringFits, ValuesFit}
 use Rattle.format.proofs.Bits.{bits-length, packed-length}
 use Rattle.format.proofs.Writing.{query-fits, tags-fit}
 use Rattle.write_items.proofs.Pieces.{length-string}
 use Rattle.write_items.proofs.Listed.{Listed, run-few}
+use Rattle.std.specs.Prelude.{Result, Ok, Err, Some, None, IsErrAnd}
+use Rattle.wire.specs.declared.Fault.{Fault}
 use Rattle.wire.specs.declared.Items.{Items}
 use Rattle.wire.specs.declared.Place.{Place}
-use Rattle.wire.specs.WireAnswers.{hash_at, items_in, place_bytes}
+use Rattle.wire.specs.WireAnswers.{fault_meaning, hash_at, items_in, place_bytes}
+use Rattle.wire.proofs.Steps.{propagated}
+use Rattle.output.specs.declared.Refusal.{Refusal}
+use Rattle.output.specs.WriteAnswers.{number_of, refusal_of}
 use Rattle.query.specs.declared.Query.{Query}
 use Rattle.query.specs.QueryAnswers.{query_in}
 use Rattle.bodies.specs.declared.Body.{Body}
@@ -25,8 +30,8 @@ use Rattle.bodies.specs.BodyAnswers.{body_in, held_at}
 use Rattle.write_items.specs.There.{both_there, hash_there, items_there, place_there}
 use Rattle.write_items.proofs.There.{is-there, both-second, run-size}
 use Rattle.format.specs.RoundTrip.{IsThere}
-use Rattle.check_bodies.specs.declared.Extent.{Extent}
-use Rattle.check_bodies.specs.Extents.{Adds, BothAdd, Extends, NoEnd, absent, spec_bytes_after, both_extents, list_bound, sized, too_long}
+use Rattle.check_bodies.specs.Extents.{Adds, BothAdd, Extends, Extent, NoEnd, absent, spec_bytes_after, both_extents, list_bound, sized, too_long}
+use Rattle.check_bodies.specs.declared.BodyCheck.{BodyCheck}
 use Rattle.check_bodies.specs.Bodies.{BodyChecked, BodyEnds, BodyRule, EndsAt, body_there, bytes_of, query_there}
 use Rattle.check_bodies.proofs.Places.{QueryListed}
 
@@ -63,46 +68,49 @@ module _ {a b : Outcome (Unit {0})} {A B : Type 0} {m n : ℕ} {E F : ℕ → Ty
   both-extends (sized i end₁ t g s l p) (sized j end u h r k q) =
       sized (i + j) end (subst IsThere (sym (both-second a b t)) u) (g, h) (omega arith) (omega arith) q
 
--- A part that is not there.
-pub absent-extends : {A : Type 0} {o : Outcome A} {Fits : Type 0} {size : ℕ} {Ends : ℕ → Type 0} {bound : ℕ} (f : Fault) → refused f ≡ o →
-    Extends (ends o) Fits size Ends bound (Extent.Absent (number f.rule))
-unfolding ends
-absent-extends f e = absent f (rw (← e) refl)
+-- `?` passes on the fault of a part that is not there.
+module _ {Fits : Type 0} {size : ℕ} {Ends : ℕ → Type 0} {bound : ℕ} (f : Fault) (e : Extent) (passed : IsErrAnd e (λ g. g ≡ refusal_of f.rule)) where
+  pub absent-there : {there : Outcome (Unit {0})} → refused (fault_meaning f) ≡ there → Extends there Fits size Ends bound e
+  absent-there told = rw (propagated e passed) (absent f (sym told))
+
+  pub absent-extends : {A : Type 0} {o : Outcome A} → refused (fault_meaning f) ≡ o → Extends (ends o) Fits size Ends bound e
+  unfolding ends
+  absent-extends told = absent-there (ap ends told)
 
 -- A part that is there and has no list or query.
 pub plain-extends : {there : Outcome (Unit {0})} {Fits : Type 0} {size bound : ℕ} (n : ℕ) → IsThere there → Fits → n ≡ size → n ≤ bound →
-    Extends there Fits size NoEnd bound (Extent.Sized n 0)
+    Extends there Fits size NoEnd bound (Ok (Some (n, 0)))
 plain-extends n t f s b = sized n 0 t f s b tt
 
-pub hash-extends : (s : List ℕ) (at : ℕ) → IsThere (hash_there s at) → Extends (hash_there s at) (Unit {0}) (length (hash_at s at)) NoEnd 16 (Extent.Sized 16 0)
+pub hash-extends : (s : List ℕ) (at : ℕ) → IsThere (hash_there s at) → Extends (hash_there s at) (Unit {0}) (length (hash_at s at)) NoEnd 16 (Ok (Some (16, 0)))
 unfolding decode_hash
 hash-extends s at t = plain-extends 16 t tt (sym (run-size s at 16 t)) (omega arith)
 
 module _ (s : List ℕ) (p : Place) (t : IsThere (place_there s p)) where
-  pub place-extends : length s < 9223372036854775808 → Extends (place_there s p) (Unit {0}) (length (place_bytes s p)) NoEnd list_bound (Extent.Sized p.len 0)
+  pub place-extends : length s < 9223372036854775808 → Extends (place_there s p) (Unit {0}) (length (place_bytes s p)) NoEnd list_bound (Ok (Some (p.len, 0)))
   place-extends h =
       let size = run-size s p.at p.len t in
       plain-extends p.len t tt (sym size) (omega (arith, run-few s p.at p.len))
 
-  pub text-long : 65535 < p.len → Extends (place_there s p) (StringFits (place_bytes s p)) (length (encode_string (place_bytes s p))) NoEnd 65537 Extent.TooLong
+  pub text-long : 65535 < p.len → Extends (place_there s p) (StringFits (place_bytes s p)) (length (encode_string (place_bytes s p))) NoEnd 65537 (Ok None)
   text-long h = too_long t (λ f. omega (arith, run-size s p.at p.len t))
 
-  pub text-extends : p.len ≤ 65535 → Extends (place_there s p) (StringFits (place_bytes s p)) (length (encode_string (place_bytes s p))) NoEnd 65537 (Extent.Sized (2 + p.len) 0)
+  pub text-extends : p.len ≤ 65535 → Extends (place_there s p) (StringFits (place_bytes s p)) (length (encode_string (place_bytes s p))) NoEnd 65537 (Ok (Some (2 + p.len, 0)))
   text-extends h =
       let size = run-size s p.at p.len t in
       plain-extends (2 + p.len) t (omega arith) (omega (arith, length-string (place_bytes s p))) (omega arith)
 
 pub query-extends : (s : List ℕ) (q : Query) (end : ℕ) → QueryListed s q end → length s < 9223372036854775808 →
-    Extends (query_there s q) (QueryFits (query_in s q)) (length (encode_query (query_in s q))) (EndsAt (query_there s q)) list_bound (Extent.Sized (end - q.at) end)
+    Extends (query_there s q) (QueryFits (query_in s q)) (length (encode_query (query_in s q))) (EndsAt (query_there s q)) list_bound (Ok (Some (end - q.at, end)))
 query-extends s q end h few = sized (end - q.at) end (is-there h.there) (query-fits (query_in s q) h.valid.0) (sym h.size) (omega (arith, h.few)) h.there
 
 -- Lists: `head` is the size of the count.
 module _ {A : Type 0} {d : Decoder A} {encode : A → List ℕ} {Valid : A → Type 0} {s : List ℕ} {l : Items} {end : ℕ} (h : Listed d encode Valid s l end) where
-  pub list-long : {Fits : Type 0} {size : ℕ} → (Fits → ⊥) → Extends (items_there d s l) Fits size (EndsAt (items_there d s l)) list_bound Extent.TooLong
+  pub list-long : {Fits : Type 0} {size : ℕ} → (Fits → ⊥) → Extends (items_there d s l) Fits size (EndsAt (items_there d s l)) list_bound (Ok None)
   list-long f = too_long (is-there h.there) f
 
   pub list-extends : {Fits : Type 0} (head : ℕ) → head ≤ 4 → Fits → length s < 9223372036854775808 →
-      Extends (items_there d s l) Fits (head + length (encode_all encode (items_in d s l))) (EndsAt (items_there d s l)) list_bound (Extent.Sized (head + (end - l.at)) end)
+      Extends (items_there d s l) Fits (head + length (encode_all encode (items_in d s l))) (EndsAt (items_there d s l)) list_bound (Ok (Some (head + (end - l.at), end)))
   list-extends head small f few = sized (head + (end - l.at)) end (is-there h.there) f (ap (λ n. head + n) (sym h.size)) (omega (arith, h.few)) h.there
 
 -- The tags of records that lie somewhere fit.
@@ -121,17 +129,17 @@ module _ (n : ℕ) (s : List ℕ) (at : ℕ) where
   pub held_word : Word (length (held_at n s at)) → Word n
   held_word h = omega (arith, bits-length n (bytes_at s at (spec_packed_bytes n)))
 
-module _ {s : List ℕ} {b : Body} {Ends : ℕ → Type 0} {size bound : ℕ} where
-  pub absent-checked : {n : ℕ} → Extends (body_there s b) (ValuesFit (body_in s b).0 (body_in s b).1) size Ends bound (Extent.Absent n) →
-      BodyChecked s b (record { number = n; size = 0; end = 0; rule = 0 })
-  absent-checked (absent f p) = BodyChecked.absent f p
+-- The three extents of a body are the three findings.
+module _ {s : List ℕ} {b : Body} {size bound : ℕ} where
+  pub absent-checked : {refusal : Refusal} (answer : Result BodyCheck Refusal) → IsErrAnd answer (λ g. g ≡ refusal) →
+      Extends (body_there s b) (ValuesFit (body_in s b).0 (body_in s b).1) size (BodyEnds s b) bound (Err refusal) → BodyChecked s b answer
+  absent-checked answer passed (absent f p) = rw (propagated answer passed) (BodyChecked.absent f p)
 
-  pub long-checked : Extends (body_there s b) (ValuesFit (body_in s b).0 (body_in s b).1) size Ends bound Extent.TooLong →
-      BodyChecked s b (record { number = 6; size = 0; end = 0; rule = 0 })
+  pub long-checked : Extends (body_there s b) (ValuesFit (body_in s b).0 (body_in s b).1) size (BodyEnds s b) bound (Ok None) → BodyChecked s b (Err Refusal.Limit)
   long-checked (too_long t f) = BodyChecked.overflows t f
 
-pub sized-checked : {s : List ℕ} {b : Body} {bound n end rule : ℕ} →
-    (IsThere (body_there s b) → ValuesFit (body_in s b).0 (body_in s b).1 → BodyRule (body_in s b) rule) →
-    Extends (body_there s b) (ValuesFit (body_in s b).0 (body_in s b).1) (length (bytes_of (body_in s b))) (BodyEnds s b) bound (Extent.Sized n end) →
-    BodyChecked s b (record { number = 0; size = n; end = end; rule = rule })
-sized-checked rules (sized n end t f s b p) = BodyChecked.sized n end _ t f s p (rules t f)
+pub sized-checked : {s : List ℕ} {b : Body} {bound n end : ℕ} (rule : Result (Unit {0}) Refusal) →
+    (IsThere (body_there s b) → ValuesFit (body_in s b).0 (body_in s b).1 → BodyRule (body_in s b) (number_of rule)) →
+    Extends (body_there s b) (ValuesFit (body_in s b).0 (body_in s b).1) (length (bytes_of (body_in s b))) (BodyEnds s b) bound (Ok (Some (n, end))) →
+    BodyChecked s b (Ok (record { size = n; end = end; rule = rule }))
+sized-checked rule rules (sized n end t f s b p) = BodyChecked.sized n end rule t f s p (rules t f)

@@ -1,12 +1,16 @@
 -- What the writer of bodies finds out about a body before it is written, and the bytes that it writes.
-use Rattle.std.specs.Prelude.{◌≡◌, List, ℕ, ◌+◌, ◌≤◌, length, drop}
+use Rattle.std.specs.Prelude.{◌≡◌, List, ℕ, ◌+◌, ◌≤◌, length, drop, Result, Ok, Err}
 use Rattle.format.specs.Messages as messages
 use Rattle.format.specs.Layout.{encode_values}
 use Rattle.format.specs.Rules.{ValidValues}
-use Rattle.format.specs.Decoding.{Fault, Outcome, Rule, ends, fault, got, number, refused}
+use Rattle.format.specs.Decoding.{Outcome, Rule, ends, fault, got, number, refused}
 use Rattle.format.specs.Order.{decode_address, decode_hash, decode_query, decode_record, decode_tag}
 use Rattle.format.specs.PacketOrder.{decode_bits, decode_body}
 use Rattle.format.specs.Writing.{ValuesFit}
+use Rattle.wire.specs.declared.Fault.{Fault}
+use Rattle.wire.specs.WireAnswers.{fault_meaning}
+use Rattle.output.specs.declared.Refusal.{Refusal}
+use Rattle.output.specs.WriteAnswers.{number_of, refusal_of}
 use Rattle.query.specs.declared.Query.{Query}
 use Rattle.records.specs.declared.Record.{Record}
 use Rattle.bodies.specs.declared.Body.{Body}
@@ -93,10 +97,10 @@ pub data BodyRule (v : (shape : messages.Shape) × messages.Values shape) : ℕ 
   differs : (w : (shape : messages.Shape) × messages.Values shape) → (w ≡ v → ⊥) →
       ((s : List ℕ) (at : ℕ) → at ≤ length s → drop at s ≡ bytes_of v → decode_body v.0 s at ≡ got w (length s)) → BodyRule v 5
 
--- The findings: the number of a place that does not hold what it should; 6 for a text or list that its count field cannot hold; or the
+-- The findings: the refusal of a place that does not hold what it should; 6 for a text or list that its count field cannot hold; or the
 -- size of the bytes, the offset after the list, and what the reader says of the values.
-pub data BodyChecked (s : List ℕ) (b : Body) : BodyCheck → Type 0 where
-  absent : (f : Fault) → body_there s b ≡ refused f → BodyChecked s b (record { number = number f.rule; size = 0; end = 0; rule = 0 })
-  overflows : IsThere (body_there s b) → (ValuesFit (body_in s b).0 (body_in s b).1 → ⊥) → BodyChecked s b (record { number = 6; size = 0; end = 0; rule = 0 })
-  sized : (size end rule : ℕ) → IsThere (body_there s b) → ValuesFit (body_in s b).0 (body_in s b).1 → size ≡ length (bytes_of (body_in s b)) →
-      BodyEnds s b end → BodyRule (body_in s b) rule → BodyChecked s b (record { number = 0; size = size; end = end; rule = rule })
+pub data BodyChecked (s : List ℕ) (b : Body) : Result BodyCheck Refusal → Type 0 where
+  absent : (f : Fault) → body_there s b ≡ refused (fault_meaning f) → BodyChecked s b (Err (refusal_of f.rule))
+  overflows : IsThere (body_there s b) → (ValuesFit (body_in s b).0 (body_in s b).1 → ⊥) → BodyChecked s b (Err Refusal.Limit)
+  sized : (size end : ℕ) (rule : Result (Unit {0}) Refusal) → IsThere (body_there s b) → ValuesFit (body_in s b).0 (body_in s b).1 → size ≡ length (bytes_of (body_in s b)) →
+      BodyEnds s b end → BodyRule (body_in s b) (number_of rule) → BodyChecked s b (Ok (record { size = size; end = end; rule = rule }))

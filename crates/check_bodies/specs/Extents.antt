@@ -1,22 +1,29 @@
 -- What the functions for the parts of a body say: how many bytes a part takes, and the rule that values break.
-use Rattle.std.specs.Prelude.{ℕ, ◌+◌, ◌-◌, ◌/◌, ◌≤◌, ◌<◌, ◌≡◌, eqb, leb}
+use Rattle.std.specs.Prelude.{ℕ, ◌+◌, ◌-◌, ◌/◌, ◌≤◌, ◌<◌, ◌≡◌, eqb, leb, Result, Ok, Err, Option, Some, None}
 use Rattle.format.specs.Tables.{pick}
 use Rattle.format.specs.Rules.{Byte, Dword, ValidAddress, ValidExtendedStatus, ValidTriple, Word}
-use Rattle.format.specs.Decoding.{Fault, Outcome, number, refused}
+use Rattle.format.specs.Decoding.{Outcome, refused}
+use Rattle.wire.specs.declared.Fault.{Fault}
+use Rattle.wire.specs.WireAnswers.{fault_meaning}
+use Rattle.output.specs.declared.Refusal.{Refusal}
+use Rattle.output.specs.WriteAnswers.{refusal_of}
 use Rattle.records.specs.RecordAnswers.{address_of}
 use Rattle.bodies.specs.declared.Body.{Body}
 use Rattle.bodies.specs.declared.Form.{Form}
 use Rattle.bodies.specs.declared.Triple.{Triple}
 use Rattle.bodies.specs.BodyAnswers.{triple_of}
 use Rattle.format.specs.RoundTrip.{IsThere}
-use Rattle.check_bodies.specs.declared.Extent.{Extent}
 
--- The extent of a part: the number of a place that does not hold what it should; that a count field cannot hold it; or its size, which is
--- at most `bound`, and the offset after its list or query.
+-- How far a part extends: its size and the offset after its list or query; none, if a count field cannot hold it; or the refusal of a
+-- place that does not hold what it should. `Extent` of the code, since antt has no name for an alias.
+abbrev pub Extent : Type 0
+Extent = Result (Option (ℕ × ℕ)) Refusal
+
+-- The size is at most `bound`.
 pub data Extends (there : Outcome (Unit {0})) (Fits : Type 0) (size : ℕ) (Ends : ℕ → Type 0) (bound : ℕ) : Extent → Type 0 where
-  absent : (f : Fault) → there ≡ refused f → Extends there Fits size Ends bound (Extent.Absent (number f.rule))
-  too_long : IsThere there → (Fits → ⊥) → Extends there Fits size Ends bound Extent.TooLong
-  sized : (n end : ℕ) → IsThere there → Fits → n ≡ size → n ≤ bound → Ends end → Extends there Fits size Ends bound (Extent.Sized n end)
+  absent : (f : Fault) → there ≡ refused (fault_meaning f) → Extends there Fits size Ends bound (Err (refusal_of f.rule))
+  too_long : IsThere there → (Fits → ⊥) → Extends there Fits size Ends bound (Ok None)
+  sized : (n end : ℕ) → IsThere there → Fits → n ≡ size → n ≤ bound → Ends end → Extends there Fits size Ends bound (Ok (Some (n, end)))
 
 -- A part without a list or query has no such place.
 abbrev pub NoEnd : ℕ → Type 0
@@ -27,32 +34,31 @@ abbrev pub list_bound : ℕ
 list_bound = 9223372036854775812
 
 abbrev pub Adds : ℕ → Extent → Type 0
-Adds n (Extent.Absent k) = Unit {0}
-Adds n Extent.TooLong = Unit {0}
-Adds n (Extent.Sized m end) = n + m < 18446744073709551616
+Adds n (Err r) = Unit {0}
+Adds n (Ok None) = Unit {0}
+Adds n (Ok (Some (m, end))) = n + m < 18446744073709551616
 
 -- A part after n more bytes.
 abbrev pub spec_bytes_after : ℕ → Extent → Extent
-spec_bytes_after n (Extent.Absent k) = Extent.Absent k
-spec_bytes_after n Extent.TooLong = Extent.TooLong
-spec_bytes_after n (Extent.Sized m end) = Extent.Sized (n + m) end
+spec_bytes_after n (Err r) = Err r
+spec_bytes_after n (Ok None) = Ok None
+spec_bytes_after n (Ok (Some (m, end))) = Ok (Some (n + m, end))
 
 -- A part after one that is too long.
-abbrev pub spec_rest_too_long : Extent → Extent
-spec_rest_too_long (Extent.Absent k) = Extent.Absent k
-spec_rest_too_long Extent.TooLong = Extent.TooLong
-spec_rest_too_long (Extent.Sized m end) = Extent.TooLong
+abbrev pub rest_too_long : Extent → Extent
+rest_too_long (Err r) = Err r
+rest_too_long (Ok size) = Ok None
 
 abbrev pub BothAdd : Extent → Extent → Type 0
-BothAdd (Extent.Absent k) b = Unit {0}
-BothAdd Extent.TooLong b = Unit {0}
-BothAdd (Extent.Sized n end) b = Adds n b
+BothAdd (Err r) b = Unit {0}
+BothAdd (Ok None) b = Unit {0}
+BothAdd (Ok (Some (n, end))) b = Adds n b
 
 -- Two parts: a place that does not hold what it should comes before a count that does not fit.
 abbrev pub both_extents : Extent → Extent → Extent
-both_extents (Extent.Absent k) b = Extent.Absent k
-both_extents Extent.TooLong b = spec_rest_too_long b
-both_extents (Extent.Sized n end) b = spec_bytes_after n b
+both_extents (Err r) b = Err r
+both_extents (Ok None) b = rest_too_long b
+both_extents (Ok (Some (n, end))) b = spec_bytes_after n b
 
 -- The number of the rule that values break. Most bodies cannot break one: what lies at their places was decoded there.
 abbrev pub spec_flag_rule : ℕ → ℕ

@@ -3,7 +3,7 @@
 
 #![tactic(auto)]
 
-ghost use Rattle.std.specs.Prelude.{◌≡◌, ◌+◌, length};
+ghost use Rattle.std.specs.Prelude.{◌≡◌, ◌+◌, length, Ok, Some};
 ghost use Rattle.format.specs.Bits.{spec_packed_bytes};
 ghost use Rattle.format.specs.Layout.{encode_address, encode_all, encode_hash, encode_query, encode_record, encode_string, encode_tag};
 ghost use Rattle.format.specs.Rules.{Byte, Word};
@@ -11,19 +11,19 @@ ghost use Rattle.format.specs.Decoding.{ends};
 ghost use Rattle.format.specs.Order.{decode_address, decode_hash, decode_record, decode_tag};
 ghost use Rattle.format.specs.PacketOrder.{decode_bits};
 ghost use Rattle.format.specs.Writing.{QueryFits, RecordsFit, StringFits, TagsFit, ValuesFit};
+ghost use Rattle.output.specs.WriteAnswers.{number_of};
 ghost use Rattle.wire.specs.WireAnswers.{hash_at, items_in, place_bytes};
 ghost use Rattle.query.specs.QueryAnswers.{query_in};
 ghost use Rattle.bodies.specs.BodyAnswers.{body_in};
 ghost use Rattle.write_items.specs.There.{both_there, hash_there, items_there, place_there};
-ghost use Rattle.check_bodies.specs.Extents.{Adds, BothAdd, Extends, NoEnd, spec_bytes_after, spec_rest_too_long, both_extents, list_bound};
+ghost use Rattle.check_bodies.specs.Extents.{Adds, BothAdd, Extends, NoEnd, spec_bytes_after, both_extents, list_bound};
 ghost use Rattle.check_bodies.specs.Extents.{Bounded, spec_broken_rule, spec_flag_rule, spec_form_rule, spec_range_rule, spec_ranges_rule};
-ghost use Rattle.check_bodies.specs.declared.Extent.{Extent};
 ghost use Rattle.check_bodies.specs.Bodies.{BodyChecked, BodyEnds, EndsAt, body_there, bytes_of, query_there};
 
-use bodies::{BitsStep, Body, Form, Triple};
-use output::{CHOICE, LIMIT, RANGE};
-use query::{Query, QueryStep};
-use wire::{Cursor, DoneStep, HashStep, Items, ItemsStep, Place, PlaceStep};
+use bodies::{Body, Form, Triple};
+use output::Refusal;
+use query::Query;
+use wire::{Cursor, Items, Place};
 
 // The most bytes of a text or parts of a file, addresses and hashes that their count fields hold.
 const WORD_MOST: usize = 65535;
@@ -37,68 +37,48 @@ const HASH_BYTES: usize = 16;
 // The upper WORD of the number in an extended status request.
 const EXTENDED_MARK: u32 = 0x5AAA;
 
-// What check_body finds: the number of a refusal that comes before the byte ceiling, or 0; the size of the body's bytes; the
-// offset after its list or query; and the number of the rule that its values break, which comes after the byte ceiling.
+// What check_body finds: the size of the body's bytes; the offset after its list or query; and the rule that its values break, which
+// is refused after the byte ceiling.
 #[derive(Clone, Copy)]
 pub struct BodyCheck {
-    pub number: u8,
     pub size: usize,
     pub end: usize,
-    pub rule: u8,
+    pub rule: Result<(), Refusal>,
 }
 
-// How far a part of a body extends: the number of an offset at which it is not encoded; that the part is too long for its count
-// field; or its size and the offset after its list or query.
-#[derive(Clone, Copy)]
-enum Extent {
-    Absent(u8),
-    TooLong,
-    Sized(usize, usize),
-}
+// How far a part of a body extends: its size and the offset after its list or query; none, if the part is too long for its count
+// field; or the refusal of an offset at which it is not encoded.
+type Extent = Result<Option<(usize, usize)>, Refusal>;
 
 // So many bytes more.
 fn bytes_after(more: usize, part: Extent) -> Extent
     requires { Adds more part }
     ensures { result ≡ spec_bytes_after more part }
 {
-    match part {
-        Extent::Absent(number) => Extent::Absent(number),
-        Extent::TooLong => Extent::TooLong,
-        Extent::Sized(size, end) => Extent::Sized(more + size, end),
-    }
+    let Some((size, end)) = part? else {
+        return Ok(None);
+    };
+    Ok(Some((more + size, end)))
 }
 
-fn rest_too_long(part: Extent) -> Extent
-    ensures { result ≡ spec_rest_too_long part }
-{
-    match part {
-        Extent::Absent(number) => Extent::Absent(number),
-        Extent::TooLong => Extent::TooLong,
-        Extent::Sized(_, _) => Extent::TooLong,
-    }
-}
-
-// Two parts, of which only the second may have a list or query.
+// Two parts, of which only the second may have a list or query. That one is not encoded comes before that one is too long.
 fn both(first: Extent, second: Extent) -> Extent
     requires { BothAdd first second }
     ensures { result ≡ both_extents first second }
 {
-    match first {
-        Extent::Absent(number) => Extent::Absent(number),
-        Extent::TooLong => rest_too_long(second),
-        Extent::Sized(size, _) => bytes_after(size, second),
-    }
+    let Some((size, _)) = first? else {
+        second?;
+        return Ok(None);
+    };
+    bytes_after(size, second)
 }
 
 fn hash_extent(src: &[u8], at: usize) -> Extent
     ensures { Extends (hash_there src.now at) (Unit {0}) (length (hash_at src.now at)) NoEnd 16 result }
 {
     let cursor = Cursor { at };
-    let step = cursor.hash(src);
-    let HashStep::Got(_, _) = step else {
-        return Extent::Absent(step.fault().number());
-    };
-    Extent::Sized(HASH_BYTES, 0)
+    cursor.hash(src)?;
+    Ok(Some((HASH_BYTES, 0)))
 }
 
 fn place_extent(src: &[u8], place: Place) -> Extent
@@ -106,11 +86,8 @@ fn place_extent(src: &[u8], place: Place) -> Extent
 {
     let cursor = Cursor { at: place.at };
     let len = place.len;
-    let step = cursor.run(src, len);
-    let PlaceStep::Got(_, _) = step else {
-        return Extent::Absent(step.fault().number());
-    };
-    Extent::Sized(len, 0)
+    cursor.run(src, len)?;
+    Ok(Some((len, 0)))
 }
 
 fn text_extent(src: &[u8], text: Place) -> Extent
@@ -118,29 +95,23 @@ fn text_extent(src: &[u8], text: Place) -> Extent
 {
     let cursor = Cursor { at: text.at };
     let len = text.len;
-    let step = cursor.run(src, len);
-    let PlaceStep::Got(_, _) = step else {
-        return Extent::Absent(step.fault().number());
-    };
+    cursor.run(src, len)?;
     if WORD_MOST < len {
-        return Extent::TooLong;
+        return Ok(None);
     }
-    Extent::Sized(2 + len, 0)
+    Ok(Some((2 + len, 0)))
 }
 
 // The bits of so many parts, which a WORD counts.
 fn bits_extent(src: &[u8], at: usize, parts: usize) -> Extent
     ensures { Extends (ends (decode_bits parts src.now at)) (Word parts) (spec_packed_bytes parts) NoEnd 65537 result }
 {
-    let step = bodies::read_bits(src, Cursor { at }, parts);
-    let BitsStep::Got(_, _) = step else {
-        return Extent::Absent(step.fault().number());
-    };
+    bodies::read_bits(src, Cursor { at }, parts)?;
     if WORD_MOST < parts {
-        return Extent::TooLong;
+        return Ok(None);
     }
     let size = (parts + 7) / 8;
-    Extent::Sized(size, 0)
+    Ok(Some((size, 0)))
 }
 
 // Lists and queries are read again: the end that the body gives is not trusted.
@@ -150,13 +121,10 @@ fn query_extent(src: &[u8], q: Query) -> Extent
         (length (encode_query (query_in src.now q))) (EndsAt (query_there src.now q)) list_bound result }
 {
     let at = q.at;
-    let step = query::read_query(src, Cursor { at });
-    let QueryStep::Got(_, next) = step else {
-        return Extent::Absent(step.fault().number());
-    };
+    let (_, next) = query::read_query(src, Cursor { at })?;
     let end = next.at;
     let size = end - at;
-    Extent::Sized(size, end)
+    Ok(Some((size, end)))
 }
 
 // BYTE count, then the addresses.
@@ -166,16 +134,13 @@ fn addresses_extent(src: &[u8], list: Items) -> Extent
 {
     let at = list.at;
     let count = list.count;
-    let step = records::addresses_from(src, Cursor { at }, count);
-    let ItemsStep::Got(_, next) = step else {
-        return Extent::Absent(step.fault().number());
-    };
+    let (_, next) = records::addresses_from(src, Cursor { at }, count)?;
     if ADDRESSES_MOST < count {
-        return Extent::TooLong;
+        return Ok(None);
     }
     let end = next.at;
     let size = end - at;
-    Extent::Sized(1 + size, end)
+    Ok(Some((1 + size, end)))
 }
 
 // WORD count, then the hashes.
@@ -185,16 +150,13 @@ fn hashes_extent(src: &[u8], list: Items) -> Extent
 {
     let at = list.at;
     let count = list.count;
-    let step = records::hashes_from(src, Cursor { at }, count);
-    let ItemsStep::Got(_, next) = step else {
-        return Extent::Absent(step.fault().number());
-    };
+    let (_, next) = records::hashes_from(src, Cursor { at }, count)?;
     if HASHES_MOST < count {
-        return Extent::TooLong;
+        return Ok(None);
     }
     let end = next.at;
     let size = end - at;
-    Extent::Sized(2 + size, end)
+    Ok(Some((2 + size, end)))
 }
 
 // DWORD count, then the tags. Every count fits.
@@ -204,13 +166,10 @@ fn tags_extent(src: &[u8], list: Items) -> Extent
 {
     let at = list.at;
     let count = list.count;
-    let step = write_items::tags_end(src, Cursor { at }, count);
-    let DoneStep::Got(next) = step else {
-        return Extent::Absent(step.fault().number());
-    };
+    let next = write_items::tags_end(src, Cursor { at }, count)?;
     let end = next.at;
     let size = end - at;
-    Extent::Sized(4 + size, end)
+    Ok(Some((4 + size, end)))
 }
 
 // DWORD count, then the records.
@@ -220,99 +179,108 @@ fn records_extent(src: &[u8], list: Items) -> Extent
 {
     let at = list.at;
     let count = list.count;
-    let step = records::records_from(src, Cursor { at }, count);
-    let ItemsStep::Got(_, next) = step else {
-        return Extent::Absent(step.fault().number());
-    };
+    let (_, next) = records::records_from(src, Cursor { at }, count)?;
     let end = next.at;
     let size = end - at;
-    Extent::Sized(4 + size, end)
+    Ok(Some((4 + size, end)))
 }
 
 // The rules that the values of a body can break. What is encoded at its offsets was decoded there and keeps the rules.
 
-fn flag_rule(flag: u8) -> u8
-    ensures { result ≡ spec_flag_rule flag }
+fn flag_rule(flag: u8) -> Result<(), Refusal>
+    ensures { number_of result ≡ spec_flag_rule flag }
 {
-    if flag <= 1 { 0 } else { CHOICE }
+    if flag <= 1 {
+        Ok(())
+    } else {
+        Err(Refusal::Choice)
+    }
 }
 
-fn range_rule(start: u32, end: u32, size: usize) -> u8
-    ensures { result ≡ spec_range_rule start end size }
+fn range_rule(start: u32, end: u32, size: usize) -> Result<(), Refusal>
+    ensures { number_of result ≡ spec_range_rule start end size }
 {
     if end < start {
-        return RANGE;
+        return Err(Refusal::Data);
     }
     let wanted = (end - start) as usize;
-    if size == wanted { 0 } else { RANGE }
+    if size == wanted {
+        Ok(())
+    } else {
+        Err(Refusal::Data)
+    }
 }
 
-fn ranges_rule(starts: Triple, ends: Triple) -> u8
-    ensures { result ≡ spec_ranges_rule starts ends }
+fn ranges_rule(starts: Triple, ends: Triple) -> Result<(), Refusal>
+    ensures { number_of result ≡ spec_ranges_rule starts ends }
 {
     if ends.first < starts.first {
-        return RANGE;
+        return Err(Refusal::Data);
     }
     if ends.second < starts.second {
-        return RANGE;
+        return Err(Refusal::Data);
     }
-    if ends.third < starts.third { RANGE } else { 0 }
+    if ends.third < starts.third {
+        Err(Refusal::Data)
+    } else {
+        Ok(())
+    }
 }
 
-fn form_rule(form: Form, number: u32) -> u8
-    ensures { result ≡ spec_form_rule form number }
+fn form_rule(form: Form, number: u32) -> Result<(), Refusal>
+    ensures { number_of result ≡ spec_form_rule form number }
 {
     match form {
         Form::Plain => {
             if number / 65536 == EXTENDED_MARK {
-                return CHOICE;
+                return Err(Refusal::Choice);
             }
-            0
+            Ok(())
         }
         Form::Extended => {
             if number / 65536 == EXTENDED_MARK {
-                return 0;
+                return Ok(());
             }
-            CHOICE
+            Err(Refusal::Choice)
         }
     }
 }
 
-// The rule that a body of its shape breaks, or 0; most shapes have none. Numbers are bound, used or not, since that they keep to
+// The rule that a body of its shape breaks; most shapes have none. Numbers are bound, used or not, since that they keep to
 // their fields is known where they are.
-fn broken_rule(b: Body) -> u8
-    ensures rule { result ≡ spec_broken_rule b }
+fn broken_rule(b: Body) -> Result<(), Refusal>
+    ensures rule { number_of result ≡ spec_broken_rule b }
     ensures bounded { Bounded b }
 {
     match b {
-        Body::Nothing => 0,
-        Body::Query(_) => 0,
-        Body::Hash(_) => 0,
-        Body::Dword(_n) => 0,
-        Body::TwoDwords(_n, _m) => 0,
-        Body::Text(_) => 0,
-        Body::TwoTexts(_, _) => 0,
-        Body::Address(_a) => 0,
-        Body::Addresses(_) => 0,
-        Body::HashAddresses(_, _) => 0,
-        Body::AddressDword(_a, _n) => 0,
-        Body::HashAddressTags(_, _a, _) => 0,
-        Body::Record(_r) => 0,
-        Body::Records(_) => 0,
+        Body::Nothing => Ok(()),
+        Body::Query(_) => Ok(()),
+        Body::Hash(_) => Ok(()),
+        Body::Dword(_n) => Ok(()),
+        Body::TwoDwords(_n, _m) => Ok(()),
+        Body::Text(_) => Ok(()),
+        Body::TwoTexts(_, _) => Ok(()),
+        Body::Address(_a) => Ok(()),
+        Body::Addresses(_) => Ok(()),
+        Body::HashAddresses(_, _) => Ok(()),
+        Body::AddressDword(_a, _n) => Ok(()),
+        Body::HashAddressTags(_, _a, _) => Ok(()),
+        Body::Record(_r) => Ok(()),
+        Body::Records(_) => Ok(()),
         Body::RecordsFlag(_, flag) => flag_rule(flag),
-        Body::RecordAddress(_r, _a) => 0,
-        Body::Hello(_r, _a) => 0,
-        Body::HashText(_, _) => 0,
-        Body::Hashset(_, _) => 0,
+        Body::RecordAddress(_r, _a) => Ok(()),
+        Body::Hello(_r, _a) => Ok(()),
+        Body::HashText(_, _) => Ok(()),
+        Body::Hashset(_, _) => Ok(()),
         Body::SendingPart(p) => range_rule(p.start, p.end, p.data.len),
         Body::RequestParts(p) => ranges_rule(p.starts, p.ends),
-        Body::FileStatus(_) => 0,
+        Body::FileStatus(_) => Ok(()),
         Body::StatusRequest(p) => {
             let form = p.form;
             form_rule(form, p.number)
         }
-        Body::Status(_t) => 0,
-        Body::ExtendedStatus(_p) => 0,
+        Body::Status(_t) => Ok(()),
+        Body::ExtendedStatus(_p) => Ok(()),
     }
 }
 
@@ -330,9 +298,9 @@ fn entry_extent(src: &[u8], hash: usize, tags: Items) -> Extent
 
 // A part of numbers alone.
 fn fixed(size: usize) -> Extent
-    ensures { result ≡ Extent.Sized size 0 }
+    ensures { result ≡ Ok (Some (size, 0)) }
 {
-    Extent::Sized(size, 0)
+    Ok(Some((size, 0)))
 }
 
 fn body_extent(src: &[u8], b: Body) -> Extent
@@ -382,28 +350,12 @@ fn body_extent(src: &[u8], b: Body) -> Extent
 
 // What is checked of a body before it is written: whether its items are encoded at its offsets, whether its counts fit, how many
 // bytes it takes, and whether its values keep the rules.
-pub fn check_body(src: &[u8], b: Body) -> BodyCheck
+pub fn check_body(src: &[u8], b: Body) -> Result<BodyCheck, Refusal>
     ensures { BodyChecked src.now b result }
 {
-    let extent = body_extent(src, b);
-    match extent {
-        Extent::Absent(number) => BodyCheck {
-            number,
-            size: 0,
-            end: 0,
-            rule: 0,
-        },
-        Extent::TooLong => BodyCheck {
-            number: LIMIT,
-            size: 0,
-            end: 0,
-            rule: 0,
-        },
-        Extent::Sized(size, end) => BodyCheck {
-            number: 0,
-            size,
-            end,
-            rule: broken_rule(b),
-        },
-    }
+    let Some((size, end)) = body_extent(src, b)? else {
+        return Err(Refusal::Limit);
+    };
+    let rule = broken_rule(b);
+    Ok(BodyCheck { size, end, rule })
 }

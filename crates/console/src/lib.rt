@@ -12,7 +12,7 @@ ghost use Rattle.std.specs.Io.KnownBytes.{Consumes, IsAtEnd, ReadConsumes};
 use read_any::Summary;
 use std::io;
 use std::io::Read;
-use wire::{ByteStep, Cursor, DwordStep};
+use wire::Cursor;
 
 // One read: how many bytes came. None come at the end of the input.
 pub fn read_some<R: Read>(reader: &mut R, out: &mut [u8]) -> io::Result<usize>
@@ -41,40 +41,37 @@ pub fn read_all<R: Read>(reader: &mut R, out: &mut [u8]) -> io::Result<usize>
 
 // Reads n bytes into the front of the buffer: whether it holds them and they come.
 fn read_front<R: Read>(reader: &mut R, out: &mut [u8], n: usize) -> io::Result<bool> {
-    if out.len() < n {
+    let Some(front) = out.get_mut(..n) else {
         return Ok(false);
-    }
-    let came = read_all(reader, &mut out[..n])?;
-    Ok(came == n)
+    };
+    Ok(read_all(reader, front)? == n)
 }
 
 // An input of a file: a letter for its kind, and how many bytes it has.
 #[derive(Clone, Copy)]
-pub enum Input {
-    Of(u8, usize),
-    End,
+pub struct Input {
+    pub letter: u8,
+    pub length: usize,
 }
 
 // A file of inputs is a run of them: a letter, a DWORD length, and as many bytes. The bytes of the next one fill the front of the
 // buffer. The run ends with the file, at an input that breaks off, and at one that the buffer does not hold.
-pub fn next_input<R: Read>(reader: &mut R, bytes: &mut [u8]) -> io::Result<Input> {
+pub fn next_input<R: Read>(reader: &mut R, bytes: &mut [u8]) -> io::Result<Option<Input>> {
     if !read_front(reader, bytes, 5)? {
-        return Ok(Input::End);
+        return Ok(None);
     }
     let first = Cursor { at: 0 };
-    let letter_step = first.byte(bytes);
-    let ByteStep::Got(letter, after) = letter_step else {
-        return Ok(Input::End);
+    let Ok((letter, after)) = first.byte(bytes) else {
+        return Ok(None);
     };
-    let count_step = after.dword(bytes);
-    let DwordStep::Got(count, _) = count_step else {
-        return Ok(Input::End);
+    let Ok((count, _)) = after.dword(bytes) else {
+        return Ok(None);
     };
     let length = count as usize;
     if !read_front(reader, bytes, length)? {
-        return Ok(Input::End);
+        return Ok(None);
     }
-    Ok(Input::Of(letter, length))
+    Ok(Some(Input { letter, length }))
 }
 
 // A file of cases is lines of fields, with a space after each but the last. Bytes are a field of two hexadecimal digits each; `-` is no
@@ -85,53 +82,31 @@ pub fn next_input<R: Read>(reader: &mut R, bytes: &mut [u8]) -> io::Result<Input
 pub fn field_end(text: &[u8], at: usize, mark: u8) -> usize
     ensures { (at ≤ result) × (result ≤ at + length text.now) }
 {
-    let mut end = at;
-    while end < text.len() {
-        let byte = text[end];
-        if byte == mark {
-            return end;
-        }
-        if byte == b'\n' {
-            return end;
-        }
-        end += 1;
-    }
-    end
+    let rest = text.get(at..).unwrap_or_default();
+    let length = rest.iter().position(|byte| *byte == mark || *byte == b'\n');
+    at + length.unwrap_or(rest.len())
 }
 
 // The number of a hexadecimal digit; 0 for any other byte.
 fn digit(byte: u8) -> u8
     ensures { result < 16 }
 {
-    if byte < b'0' {
-        return 0;
+    match byte {
+        b'0'..=b'9' => byte - b'0',
+        b'a'..=b'f' => byte - b'a' + 10,
+        _ => 0,
     }
-    if byte <= b'9' {
-        return byte - b'0';
-    }
-    if byte < b'a' {
-        return 0;
-    }
-    if byte <= b'f' {
-        return byte - b'a' + 10;
-    }
-    0
 }
 
 // The bytes of a field, as many as the buffer holds: how many they are.
 pub fn read_hex(field: &[u8], out: &mut [u8]) -> usize
     ensures { result ≤ length out.old }
 {
-    let count = field.len() / 2;
-    let mut made = 0;
-    while made < count {
-        if made == out.len() {
-            return made;
-        }
-        out[made] = 16 * digit(field[2 * made]) + digit(field[2 * made + 1]);
-        made += 1;
+    let count = (field.len() / 2).min(out.len());
+    for i in 0..count {
+        out[i] = 16 * digit(field[2 * i]) + digit(field[2 * i + 1]);
     }
-    made
+    count
 }
 
 // `refused`, with the number of the refusal.

@@ -15,32 +15,26 @@ use Rattle.format.specs.Messages.{client, client_link, known_met, lone_query, lo
 use Rattle.format.specs.Layout.{encode}
 use Rattle.format.specs.Rules.{Bytes, Valid}
 use Rattle.format.specs.Decoding as decoding
-use Rattle.format.specs.Decoding.{Outcome, Reply, message, refused_with, reply}
+use Rattle.format.specs.Decoding.{Outcome, Reply, ends, message, refused_with, reply}
+use Rattle.format.specs.Order.{decode_query, decode_tag}
 use Rattle.format.specs.MetOrder.{decode}
 use Rattle.format.specs.Writing.{Written, overwritten}
 use Rattle.format.specs.RoundTrip.{IsThere}
 use Rattle.format.proofs.Differ.{differ}
 use Rattle.format.proofs.Acceptance.{accepts-reply}
 use Rattle.format.proofs.Writing.{number-some}
-use Rattle.tags.specs.declared.TagListAnswer.{TagListAnswer}
 use Rattle.tags.specs.TagAnswers.{TagListPlaced, tag_list_reply}
-use Rattle.query.specs.declared.QueryAnswer.{QueryAnswer}
 use Rattle.query.specs.QueryAnswers.{QueryAnswerPlaced, query_reply}
 use Rattle.bodies.specs.BodyAnswers.{BodyPlaced}
 use Rattle.packets.specs.declared.Link.{Link}
 use Rattle.packets.specs.declared.Packet.{Packet}
-use Rattle.packets.specs.declared.PacketAnswer.{PacketAnswer}
 use Rattle.packets.specs.PacketAnswers.{LinkAccepts, link_reply, packet_in, packet_reply}
-use Rattle.met.specs.declared.KnownAnswer.{KnownAnswer}
-use Rattle.met.specs.declared.PartAnswer.{PartAnswer}
 use Rattle.met.specs.declared.PartMet.{PartMet}
-use Rattle.met.specs.declared.ServerAnswer.{ServerAnswer}
 use Rattle.met.specs.MetAnswers.{known_met_in, known_reply, part_met_in, part_reply, server_met_in, server_reply}
-use Rattle.read_any.specs.declared.Answer.{Answer}
 use Rattle.read_any.specs.declared.Message.{Message}
 use Rattle.read_any.specs.AnyAnswers.{AnswerPlaced, known_answer, packet_answer, part_answer, server_answer}
-use Rattle.write_items.proofs.Back.{written_back}
-use Rattle.write_items.proofs.LoneReadBack.{query-back, tag-list-back}
+use Rattle.write_items.specs.There.{items_there}
+use Rattle.write_items.proofs.Back.{items-here, query-here, written_back}
 use Rattle.write_packets.specs.Packets.{packet_there}
 use Rattle.write_packets.proofs.PacketReadBack.{packet-here}
 use Rattle.write_met.specs.MetWrites.{known_there, server_there}
@@ -53,7 +47,13 @@ use Rattle.fields.proofs.Given as given
 use Rattle.fields.proofs.Given.{Found}
 use Rattle.fields.proofs.Fits.{known-fits, list-fits, packet-fits, part-fits, server-fits, size_fits}
 use Rattle.ed2k.specs.Calls.{GivenWrites, KindRead, KindWrites, Numbered, PacketWrites, KnownWrites, ServerWrites, PartWrites, QueryWrites, TagListWrites}
-use Rattle.ed2k.specs.Calls.{QueryWritten, ReadOf, TagListWritten, WriteOf, WritesBack, fields_out, kinds, message as meant, message_read, no_message, numbered, query_read, tag_list_read}
+use Rattle.ed2k.specs.Calls.{rule_number, QueryWritten, ReadOf, TagListWritten, WriteOf, WritesBack, fields_out, kinds, message as meant, message_read, no_message, numbered, query_read, tag_list_read}
+use Rattle.std.specs.Prelude.{Result, Ok, Err}
+use Rattle.wire.specs.declared.Rule.{Rule}
+use Rattle.wire.specs.declared.Items.{Items}
+use Rattle.wire.specs.WireAnswers.{items_in}
+use Rattle.query.specs.QueryAnswers.{query_in}
+use Rattle.query.specs.declared.Query.{Query}
 
 -- The numbers lie at the front of what was lent.
 handed : (numbers old : List ℕ) (r : Numbered) → r ≡ fields_out numbers old → r.number ≡ 0 → r.numbers ≡ overwritten (filled 16 numbers) old
@@ -130,88 +130,88 @@ module _ (s : List ℕ) (bytes : Bytes s) where
     packet Link.Udp p read here h e write =
         message-back udp_link spec_packet_given spec_packet_numbers (packet_there Link.Udp s) (packet_in s) p here read (λ rest. given.packet-back rest p h) e write
 
-    link-answer : (link : Link) (a : Answer) → packet_answer s a ≡ some (link_reply link s) → AnswerPlaced s a → r ≡ message_read a old →
+    link-answer : (link : Link) (a : Result Message Rule) → packet_answer s a ≡ some (link_reply link s) → AnswerPlaced s a → r ≡ message_read a old →
         PacketWrites link s r.numbers output w → Back
-    link-answer link (Answer.Accepted (Message.Packet p)) m h e write =
-        let meaning : packet_reply s (PacketAnswer.Accepted p) ≡ link_reply link s = cc in
+    link-answer link (Ok (Message.Packet p)) m h e write =
+        let meaning : packet_reply s (Ok p) ≡ link_reply link s = cc in
         let law = link-exact link meaning in
         let read = (law (packet_in s p)).0 refl in
-        packet link p read (packet-here s link (PacketAnswer.Accepted p) meaning h law p refl) (fits link p read h) e write
-    link-answer link (Answer.Accepted (Message.KnownMet f)) m h e write = differ cc
-    link-answer link (Answer.Accepted (Message.ServerMet f)) m h e write = differ cc
-    link-answer link (Answer.Accepted (Message.PartMet f n)) m h e write = differ cc
-    link-answer link (Answer.Refused n) m h e write =
-        let told : refused_with n ≡ link_reply link s = cc in
+        packet link p read (packet-here s link (Ok p) meaning h law p refl) (fits link p read h) e write
+    link-answer link (Ok (Message.KnownMet f)) m h e write = differ cc
+    link-answer link (Ok (Message.ServerMet f)) m h e write = differ cc
+    link-answer link (Ok (Message.PartMet f n)) m h e write = differ cc
+    link-answer link (Err n) m h e write =
+        let told : refused_with (rule_number n) ≡ link_reply link s = cc in
         absurd (link-refused link told (sym (ap (λ r. r.number) e) ∙ ok))
 
     -- Met files
-    known-answer : (a : Answer) → known_answer s a ≡ some (reply (decode known_met s)) → AnswerPlaced s a → r ≡ message_read a old →
+    known-answer : (a : Result Message Rule) → known_answer s a ≡ some (reply (decode known_met s)) → AnswerPlaced s a → r ≡ message_read a old →
         KnownWrites s r.numbers output w → Back
-    known-answer (Answer.Accepted (Message.Packet p)) m h e write = differ cc
-    known-answer (Answer.Accepted (Message.KnownMet f)) m h e write =
-        let meaning : known_reply s (KnownAnswer.Accepted f) ≡ reply (decode known_met s) = cc in
+    known-answer (Ok (Message.Packet p)) m h e write = differ cc
+    known-answer (Ok (Message.KnownMet f)) m h e write =
+        let meaning : known_reply s (Ok f) ≡ reply (decode known_met s) = cc in
         let law = exact known_met meaning in
         let read = (law (known_met_in s f)).0 refl in
-        let here = known-here s (KnownAnswer.Accepted f) meaning h law f refl in
+        let here = known-here s (Ok f) meaning h law f refl in
         let few = known-fits s f h read.1.content in
         message-back known_met spec_known_given known_numbers (known_there s) (known_met_in s) f here read (λ rest. given.known-back rest f few) e write
-    known-answer (Answer.Accepted (Message.ServerMet f)) m h e write = differ cc
-    known-answer (Answer.Accepted (Message.PartMet f n)) m h e write = differ cc
-    known-answer (Answer.Refused n) m h e write =
-        let told : refused_with n ≡ reply (decode known_met s) = cc in
+    known-answer (Ok (Message.ServerMet f)) m h e write = differ cc
+    known-answer (Ok (Message.PartMet f n)) m h e write = differ cc
+    known-answer (Err n) m h e write =
+        let told : refused_with (rule_number n) ≡ reply (decode known_met s) = cc in
         refusal (decode known_met s) told e
 
-    server-answer : (a : Answer) → server_answer s a ≡ some (reply (decode server_met s)) → AnswerPlaced s a → r ≡ message_read a old →
+    server-answer : (a : Result Message Rule) → server_answer s a ≡ some (reply (decode server_met s)) → AnswerPlaced s a → r ≡ message_read a old →
         ServerWrites s r.numbers output w → Back
-    server-answer (Answer.Accepted (Message.Packet p)) m h e write = differ cc
-    server-answer (Answer.Accepted (Message.KnownMet f)) m h e write = differ cc
-    server-answer (Answer.Accepted (Message.ServerMet f)) m h e write =
-        let meaning : server_reply s (ServerAnswer.Accepted f) ≡ reply (decode server_met s) = cc in
+    server-answer (Ok (Message.Packet p)) m h e write = differ cc
+    server-answer (Ok (Message.KnownMet f)) m h e write = differ cc
+    server-answer (Ok (Message.ServerMet f)) m h e write =
+        let meaning : server_reply s (Ok f) ≡ reply (decode server_met s) = cc in
         let law = exact server_met meaning in
         let read = (law (server_met_in s f)).0 refl in
-        let here = server-here s (ServerAnswer.Accepted f) meaning h law f refl in
+        let here = server-here s (Ok f) meaning h law f refl in
         let few = server-fits s f h read.1.content in
         message-back server_met spec_server_given server_numbers (server_there s) (server_met_in s) f here read (λ rest. given.server-back rest f few) e write
-    server-answer (Answer.Accepted (Message.PartMet f n)) m h e write = differ cc
-    server-answer (Answer.Refused n) m h e write =
-        let told : refused_with n ≡ reply (decode server_met s) = cc in
+    server-answer (Ok (Message.PartMet f n)) m h e write = differ cc
+    server-answer (Err n) m h e write =
+        let told : refused_with (rule_number n) ≡ reply (decode server_met s) = cc in
         refusal (decode server_met s) told e
 
     -- A part.met is found again with its size.
-    part-answer : (a : Answer) → part_answer s a ≡ some (reply (decode part_met s)) → AnswerPlaced s a → r ≡ message_read a old →
+    part-answer : (a : Result Message Rule) → part_answer s a ≡ some (reply (decode part_met s)) → AnswerPlaced s a → r ≡ message_read a old →
         PartWrites s r.numbers output w → Back
-    part-answer (Answer.Accepted (Message.Packet p)) m h e write = differ cc
-    part-answer (Answer.Accepted (Message.KnownMet f)) m h e write = differ cc
-    part-answer (Answer.Accepted (Message.ServerMet f)) m h e write = differ cc
-    part-answer (Answer.Accepted (Message.PartMet f n)) m h e write =
-        let meaning : part_reply s (PartAnswer.Accepted f n) ≡ reply (decode part_met s) = cc in
+    part-answer (Ok (Message.Packet p)) m h e write = differ cc
+    part-answer (Ok (Message.KnownMet f)) m h e write = differ cc
+    part-answer (Ok (Message.ServerMet f)) m h e write = differ cc
+    part-answer (Ok (Message.PartMet f n)) m h e write =
+        let meaning : part_reply s (Ok (f, n)) ≡ reply (decode part_met s) = cc in
         let law = exact part_met meaning in
         let read = (law (part_met_in s f)).0 refl in
-        let here = part-here s (PartAnswer.Accepted f n) meaning h.0 h.1 law f n refl in
+        let here = part-here s (Ok (f, n)) meaning h.0 h.1 law f n refl in
         let few = part-fits s f h.0 read.1.content in
         let small = size_fits s f n h.1 read.1.content in
         message-back part_met {M = PartMet × ℕ} (λ f. (spec_part_given f, spec_size_given f)) (λ x. part_numbers x.0 x.1) (λ x. part_there s x.0) (λ x. part_met_in s x.0) (f, n) here read
         (λ rest. given.part-back rest n small f few) e write
-    part-answer (Answer.Refused n) m h e write =
-        let told : refused_with n ≡ reply (decode part_met s) = cc in
+    part-answer (Err n) m h e write =
+        let told : refused_with (rule_number n) ≡ reply (decode part_met s) = cc in
         refusal (decode part_met s) told e
 
     -- The lone query and the lone tag list
-    query-answer : (a : QueryAnswer) → query_reply s a ≡ reply (decode lone_query s) → QueryAnswerPlaced s a → r ≡ query_read a old →
+    query-answer : (a : Result Query Rule) → query_reply s a ≡ reply (decode lone_query s) → QueryAnswerPlaced s a → r ≡ query_read a old →
         QueryWrites s r.numbers output w → Back
-    query-answer (QueryAnswer.Accepted q) meaning placed e write =
+    query-answer (Ok q) meaning placed e write =
         let h = taken (λ f. spec_query_at f 0) query_numbers (λ x. QueryWritten s x output) q (λ rest. given.query-back rest q) e write in
-        query-back s (QueryAnswer.Accepted q) meaning placed (exact lone_query meaning) q refl output w.output (record { number = w.number; length = w.length }) h.0 h.1 room
-    query-answer (QueryAnswer.Refused n) meaning placed e write = refusal (decode lone_query s) meaning e
+        written_back lone_query (ends (decode_query s q.at)) (query_in s q) s output (query-here s q placed) ((exact lone_query meaning (query_in s q)).0 refl) room h.0 h.1
+    query-answer (Err n) meaning placed e write = refusal (decode lone_query s) meaning e
 
-    tags-answer : (a : TagListAnswer) → tag_list_reply s a ≡ reply (decode lone_tags s) → TagListPlaced s a → r ≡ tag_list_read a old →
+    tags-answer : (a : Result Items Rule) → tag_list_reply s a ≡ reply (decode lone_tags s) → TagListPlaced s a → r ≡ tag_list_read a old →
         TagListWrites s r.numbers output w → Back
-    tags-answer (TagListAnswer.Accepted l) meaning placed e write =
+    tags-answer (Ok l) meaning placed e write =
         let law = exact lone_tags meaning in
         let few = list-fits s l placed ((law _).0 refl).1.content in
         let h = taken (λ f. spec_items_at f 0) items_numbers (λ x. TagListWritten s x output) l (λ rest. given.list_back rest l few) e write in
-        tag-list-back s (TagListAnswer.Accepted l) meaning placed law l refl output w.output (record { number = w.number; length = w.length }) h.0 h.1 room
-    tags-answer (TagListAnswer.Refused n) meaning placed e write = refusal (decode lone_tags s) meaning e
+        written_back lone_tags (items_there decode_tag s l) (items_in decode_tag s l) s output (items-here s decode_tag l placed) ((law _).0 refl) room h.0 h.1
+    tags-answer (Err n) meaning placed e write = refusal (decode lone_tags s) meaning e
 
     pub kind-back : (k : messages.Kind) → KindRead k s old r → KindWrites k s r.numbers output w → Back
     kind-back server_link read write = link-answer Link.Server read.0 read.1 read.2 read.3 write

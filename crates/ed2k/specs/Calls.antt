@@ -13,28 +13,24 @@ use Rattle.format.specs.Truth.{TruthReply}
 use Rattle.format.specs.Reasons.{Explains}
 use Rattle.wire.specs.declared.Fault.{Fault}
 use Rattle.wire.specs.declared.Items.{Items}
-use Rattle.wire.specs.WireAnswers.{items_in, rule_meaning}
-use Rattle.tags.specs.declared.TagStep.{TagStep}
-use Rattle.tags.specs.declared.TagListAnswer.{TagListAnswer}
+use Rattle.wire.specs.WireAnswers.{Step, items_in, rule_meaning}
+use Rattle.tags.specs.declared.Tag.{Tag}
 use Rattle.tags.specs.TagAnswers.{tag_meaning, TagStepInside, tag_list_reply, TagListPlaced}
-use Rattle.query.specs.declared.NodeStep.{NodeStep}
+use Rattle.query.specs.declared.Node.{Node}
 use Rattle.query.specs.declared.Query.{Query}
-use Rattle.query.specs.declared.QueryAnswer.{QueryAnswer}
 use Rattle.query.specs.Nodes.{decode_node}
 use Rattle.query.specs.QueryAnswers.{node_meaning, NodeStepInside, query_in, query_reply, QueryAnswerPlaced}
-use Rattle.records.specs.declared.RecordStep.{RecordStep}
+use Rattle.records.specs.declared.Record.{Record}
 use Rattle.records.specs.RecordAnswers.{record_meaning, RecordStepPlaced}
-use Rattle.met.specs.declared.FileEntryStep.{FileEntryStep}
-use Rattle.met.specs.declared.ServerEntryStep.{ServerEntryStep}
+use Rattle.met.specs.declared.FileEntry.{FileEntry}
+use Rattle.met.specs.declared.ServerEntry.{ServerEntry}
 use Rattle.met.specs.MetAnswers.{file_entry_meaning, FileEntryStepPlaced, server_entry_meaning, ServerEntryStepPlaced, known_met_in, server_met_in, part_met_in}
 use Rattle.packets.specs.declared.Link.{Link}
-use Rattle.packets.specs.declared.PacketAnswer.{PacketAnswer}
-use Rattle.packets.specs.declared.PacketStep.{PacketStep}
+use Rattle.packets.specs.declared.Packet.{Packet}
 use Rattle.packets.specs.PacketAnswers.{PacketPlaced, answer_of, link_reply, packet_reply, step_reason}
 pub use Rattle.packets.specs.PacketAnswers.{link_kind}
-use Rattle.read_any.specs.declared.Answer.{Answer}
 use Rattle.read_any.specs.declared.Message.{Message}
-use Rattle.read_any.specs.AnyAnswers.{answer_in, AnswerPlaced, spec_from_packet}
+use Rattle.read_any.specs.AnyAnswers.{answer_in, AnswerPlaced}
 use Rattle.write_items.specs.There.{items_there, no_places}
 use Rattle.format.specs.RoundTrip.{RoundTrip, WritesAt}
 use Rattle.write_packets.specs.Packets as packet_writes
@@ -47,6 +43,8 @@ use Rattle.fields.specs.Fields.{tag_numbers, file_entry_numbers, server_entry_nu
 use Rattle.fields.specs.Given.{spec_items_at, spec_query_at, spec_packet_given, spec_known_given, spec_server_given, spec_part_given, spec_size_given}
 use Rattle.why.specs.WhyAnswers.{spec_reason_numbers}
 use Rattle.ed2k.specs.declared.PacketSource.{PacketSource}
+use Rattle.std.specs.Prelude.{Result, Ok, Err}
+use Rattle.wire.specs.declared.Rule.{Rule}
 
 -- The answer of a call that returns numbers: its own number, and the array afterwards.
 pub record Numbered : Type 0 where
@@ -75,35 +73,43 @@ message_numbers (Message.KnownMet m) = known_numbers m
 message_numbers (Message.ServerMet m) = server_numbers m
 message_numbers (Message.PartMet m size) = part_numbers m size
 
-abbrev pub message_read : Answer → List ℕ → Numbered
-message_read (Answer.Accepted m) old = fields_out (message_numbers m) old
-message_read (Answer.Refused n) old = numbered n old
+abbrev pub rule_number : Rule → ℕ
+rule_number rule = decoding.number (rule_meaning rule)
 
-abbrev pub query_read : QueryAnswer → List ℕ → Numbered
-query_read (QueryAnswer.Accepted q) old = fields_out (query_numbers q) old
-query_read (QueryAnswer.Refused n) old = numbered n old
+abbrev pub message_read : Result Message Rule → List ℕ → Numbered
+message_read (Ok m) old = fields_out (message_numbers m) old
+message_read (Err rule) old = numbered (rule_number rule) old
 
-abbrev pub tag_list_read : TagListAnswer → List ℕ → Numbered
-tag_list_read (TagListAnswer.Accepted l) old = fields_out (items_numbers l) old
-tag_list_read (TagListAnswer.Refused n) old = numbered n old
+-- The answer of a kind's own reader as that of the one reading call.
+abbrev pub as_message : {A : Type 0} → (A → Message) → Result A Rule → Result Message Rule
+as_message message (Ok a) = Ok (message a)
+as_message message (Err rule) = Err rule
+
+abbrev pub query_read : Result Query Rule → List ℕ → Numbered
+query_read (Ok q) old = fields_out (query_numbers q) old
+query_read (Err rule) old = numbered (rule_number rule) old
+
+abbrev pub tag_list_read : Result Items Rule → List ℕ → Numbered
+tag_list_read (Ok l) old = fields_out (items_numbers l) old
+tag_list_read (Err rule) old = numbered (rule_number rule) old
 
 abbrev pub MessageRead : messages.Kind → List ℕ → List ℕ → Numbered → Type 0
 MessageRead k s old r =
-    (a : Answer) × (answer_in k s a ≡ some (reply (decode k s))) × AnswerPlaced s a × (r ≡ message_read a old)
+    (a : Result Message Rule) × (answer_in k s a ≡ some (reply (decode k s))) × AnswerPlaced s a × (r ≡ message_read a old)
 
 -- A packet that bytes are on a link, as its reader ensures it, or one that was given.
-abbrev pub PacketFrom : PacketSource → List ℕ → PacketAnswer → Type 0
+abbrev pub PacketFrom : PacketSource → List ℕ → Result Packet Rule → Type 0
 PacketFrom (PacketSource.Read link) s a = (packet_reply s a ≡ link_reply link s) × PacketPlaced s a
-PacketFrom (PacketSource.Given p) s a = a ≡ PacketAnswer.Accepted p
+PacketFrom (PacketSource.Given p) s a = a ≡ Ok p
 
 abbrev pub PacketOut : PacketSource → List ℕ → List ℕ → Numbered → Type 0
-PacketOut source s old r = (a : PacketAnswer) × PacketFrom source s a × (r ≡ message_read (spec_from_packet a) old)
+PacketOut source s old r = (a : Result Packet Rule) × PacketFrom source s a × (r ≡ message_read (as_message Message.Packet a) old)
 
 -- The same of a step: where the bytes are no packet, its fault is the reason.
-abbrev pub StepFrom : PacketSource → List ℕ → PacketStep → Type 0
+abbrev pub StepFrom : PacketSource → List ℕ → Result Packet Fault → Type 0
 StepFrom (PacketSource.Read link) s a =
     (packet_reply s (answer_of a) ≡ link_reply link s) × (PacketPlaced s (answer_of a) × Explains (link_kind link) s (step_reason a))
-StepFrom (PacketSource.Given p) s a = a ≡ PacketStep.Got p
+StepFrom (PacketSource.Given p) s a = a ≡ Ok p
 
 -- The numbers of a reason, as far as there is room for them; where there is none, all as it was.
 abbrev pub reason_left : Option decoding.Fault → List ℕ → List ℕ
@@ -112,18 +118,18 @@ reason_left (some f) old = (handed_out (spec_reason_numbers (some f)) old).numbe
 
 -- The packet's numbers, if there is room for them, or the numbers of the reason why it is none.
 pub record StepOut (source : PacketSource) (s old old_reason : List ℕ) (r : Numbered) (reason : List ℕ) : Type 0 where
-  pub step : PacketStep
+  pub step : Result Packet Fault
   pub from : StepFrom source s step
-  pub left : r ≡ message_read (spec_from_packet (answer_of step)) old
+  pub left : r ≡ message_read (as_message Message.Packet (answer_of step)) old
   pub because : reason ≡ reason_left (step_reason step) old_reason
 
 abbrev pub QueryRead : List ℕ → List ℕ → Numbered → Type 0
 QueryRead s old r =
-    (a : QueryAnswer) × (query_reply s a ≡ reply (decode lone_query s)) × QueryAnswerPlaced s a × (r ≡ query_read a old)
+    (a : Result Query Rule) × (query_reply s a ≡ reply (decode lone_query s)) × QueryAnswerPlaced s a × (r ≡ query_read a old)
 
 abbrev pub TagListRead : List ℕ → List ℕ → Numbered → Type 0
 TagListRead s old r =
-    (a : TagListAnswer) × (tag_list_reply s a ≡ reply (decode lone_tags s)) × TagListPlaced s a × (r ≡ tag_list_read a old)
+    (a : Result Items Rule) × (tag_list_reply s a ≡ reply (decode lone_tags s)) × TagListPlaced s a × (r ≡ tag_list_read a old)
 
 abbrev pub KindRead : messages.Kind → List ℕ → List ℕ → Numbered → Type 0
 KindRead server_link s old r = MessageRead server_link s old r
@@ -145,47 +151,47 @@ ReadOf (some k) s old r = KindRead k s old r
 
 -- One item at an offset.
 
-abbrev pub tag_read : TagStep → List ℕ → Numbered
-tag_read (TagStep.Got t next) old = fields_out (tag_numbers t next) old
-tag_read (TagStep.Refused f) old = numbered (fault_number f) old
+abbrev pub tag_read : Step Tag → List ℕ → Numbered
+tag_read (Ok (t, next)) old = fields_out (tag_numbers t next) old
+tag_read (Err f) old = numbered (fault_number f) old
 
 abbrev pub TagRead : List ℕ → ℕ → List ℕ → Numbered → Type 0
-TagRead s at old r = (a : TagStep) × (tag_meaning s a ≡ decode_tag s at) × TagStepInside s a × (r ≡ tag_read a old)
+TagRead s at old r = (a : Step Tag) × (tag_meaning s a ≡ decode_tag s at) × TagStepInside s a × (r ≡ tag_read a old)
 
 -- an address has no place in it: what was decoded says all
 abbrev pub address_read : Outcome messages.Address → List ℕ → Numbered
 address_read (got a next) old = fields_out (next ∷ a.ip ∷ a.port ∷ []) old
 address_read (refused f) old = numbered (decoding.number f.rule) old
 
-abbrev pub record_read : RecordStep → List ℕ → Numbered
-record_read (RecordStep.Got r next) old = fields_out (next.at ∷ record_numbers r) old
-record_read (RecordStep.Refused f) old = numbered (fault_number f) old
+abbrev pub record_read : Step Record → List ℕ → Numbered
+record_read (Ok (r, next)) old = fields_out (next.at ∷ record_numbers r) old
+record_read (Err f) old = numbered (fault_number f) old
 
 abbrev pub RecordRead : List ℕ → ℕ → List ℕ → Numbered → Type 0
-RecordRead s at old r = (a : RecordStep) × (record_meaning s a ≡ decode_record s at) × RecordStepPlaced s a × (r ≡ record_read a old)
+RecordRead s at old r = (a : Step Record) × (record_meaning s a ≡ decode_record s at) × RecordStepPlaced s a × (r ≡ record_read a old)
 
-abbrev pub file_entry_read : FileEntryStep → List ℕ → Numbered
-file_entry_read (FileEntryStep.Got e next) old = fields_out (file_entry_numbers e next) old
-file_entry_read (FileEntryStep.Refused f) old = numbered (fault_number f) old
+abbrev pub file_entry_read : Step FileEntry → List ℕ → Numbered
+file_entry_read (Ok (e, next)) old = fields_out (file_entry_numbers e next) old
+file_entry_read (Err f) old = numbered (fault_number f) old
 
 abbrev pub FileEntryRead : List ℕ → ℕ → List ℕ → Numbered → Type 0
 FileEntryRead s at old r =
-    (a : FileEntryStep) × (file_entry_meaning s a ≡ decode_file_entry s at) × FileEntryStepPlaced s a × (r ≡ file_entry_read a old)
+    (a : Step FileEntry) × (file_entry_meaning s a ≡ decode_file_entry s at) × FileEntryStepPlaced s a × (r ≡ file_entry_read a old)
 
-abbrev pub server_entry_read : ServerEntryStep → List ℕ → Numbered
-server_entry_read (ServerEntryStep.Got e next) old = fields_out (server_entry_numbers e next) old
-server_entry_read (ServerEntryStep.Refused f) old = numbered (fault_number f) old
+abbrev pub server_entry_read : Step ServerEntry → List ℕ → Numbered
+server_entry_read (Ok (e, next)) old = fields_out (server_entry_numbers e next) old
+server_entry_read (Err f) old = numbered (fault_number f) old
 
 abbrev pub ServerEntryRead : List ℕ → ℕ → List ℕ → Numbered → Type 0
 ServerEntryRead s at old r =
-    (a : ServerEntryStep) × (server_entry_meaning s a ≡ decode_server_entry s at) × ServerEntryStepPlaced s a × (r ≡ server_entry_read a old)
+    (a : Step ServerEntry) × (server_entry_meaning s a ≡ decode_server_entry s at) × ServerEntryStepPlaced s a × (r ≡ server_entry_read a old)
 
-abbrev pub node_read : NodeStep → List ℕ → Numbered
-node_read (NodeStep.Got n next) old = fields_out (node_numbers n next) old
-node_read (NodeStep.Refused f) old = numbered (fault_number f) old
+abbrev pub node_read : Step Node → List ℕ → Numbered
+node_read (Ok (n, next)) old = fields_out (node_numbers n next) old
+node_read (Err f) old = numbered (fault_number f) old
 
 abbrev pub NodeRead : List ℕ → ℕ → List ℕ → Numbered → Type 0
-NodeRead s at old r = (a : NodeStep) × (node_meaning s a ≡ decode_node s at) × NodeStepInside s a × (r ≡ node_read a old)
+NodeRead s at old r = (a : Step Node) × (node_meaning s a ≡ decode_node s at) × NodeStepInside s a × (r ≡ node_read a old)
 
 -- Writing: what a call leaves is a write of the format, and so has length 0 where it refuses.
 abbrev pub leaves : (number length : ℕ) → (output : List ℕ) → Written

@@ -4,10 +4,10 @@ use Rattle.format.specs.Tables.{pick}
 use Rattle.format.specs.Gaps.{size_limit}
 use Rattle.format.specs.Writing.{overwritten}
 use Rattle.gaps.specs.declared.GapRecord.{GapRecord}
-use Rattle.gaps.specs.declared.MarkAnswer.{MarkAnswer}
+use Rattle.gaps.specs.Marking.{MarkAnswer}
 use Rattle.gaps.specs.GapRecords.{spec_all_missing, lawful_record, missing_count}
 use Rattle.gap_numbers.specs.Numbers.{numbers_of}
-use Rattle.met.specs.declared.GapsAnswer.{GapsAnswer}
+use Rattle.met.specs.MetAnswers.{GapsAnswer}
 use Rattle.ed2k.specs.Calls.{Numbered, numbered}
 
 -- A record that is returned: 10 where the array has fewer than 130 places.

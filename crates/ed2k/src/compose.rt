@@ -14,8 +14,9 @@ ghost use Rattle.write_met.specs.MetEntries.{spec_write_file_entry, spec_write_s
 ghost use Rattle.ed2k.specs.Calls.{leaves, items_from, query_from, truth_byte, Chosen, bounds, operators};
 ghost use Rattle.ed2k.specs.Calls.{QueryWritten, TagListWritten, PiecesWritten, JoinWritten};
 
+use crate::report;
 use met::{FileEntry, ServerEntry};
-use output::CHOICE;
+use output::Refusal;
 use query::{Bound, Operator, Query};
 use records::{Address, Record};
 use wire::Items;
@@ -23,33 +24,37 @@ use wire::Items;
 pub fn ed2k_truth(query: &[u8], tags: &[u8], truth: &mut u8) -> u8
     ensures { (result ≡ (format.truth query.now tags.now).number) × (truth.new ≡ truth_byte (format.truth query.now tags.now)) }
 {
-    let answer = truth::truth_of(query, tags);
-    *truth = answer.holds as u8;
-    answer.number
+    match truth::truth_of(query, tags) {
+        Ok(holds) => {
+            *truth = holds as u8;
+            0
+        }
+        Err(rule) => {
+            *truth = 0;
+            rule.number()
+        }
+    }
 }
 
 pub fn ed2k_write_keyword(text: &[u8], output: &mut [u8], written: &mut usize) -> u8
     ensures { PiecesWritten (keyword text.now) output.old (leaves result written.new output.new) }
 {
-    let wrote = write_items::write_keyword(text, output);
-    *written = wrote.length;
-    wrote.number
+    report(write_items::write_keyword(text, output), written)
 }
 
 pub fn ed2k_write_field(text: &[u8], name: &[u8], output: &mut [u8], written: &mut usize) -> u8
     ensures { PiecesWritten (field text.now name.now) output.old (leaves result written.new output.new) }
 {
-    let wrote = write_items::write_field(text, name, output);
-    *written = wrote.length;
-    wrote.number
+    report(write_items::write_field(text, name, output), written)
 }
 
 fn write_limit(number: u32, bound: Bound, name: &[u8], output: &mut [u8], written: &mut usize) -> u8
     ensures { PiecesWritten (limit number (bound_of bound) name.now) output.old (leaves result written.new output.new) }
 {
-    let wrote = write_items::write_limit(number, bound, name, output);
-    *written = wrote.length;
-    wrote.number
+    report(
+        write_items::write_limit(number, bound, name, output),
+        written,
+    )
 }
 
 pub fn ed2k_write_limit(
@@ -65,10 +70,7 @@ pub fn ed2k_write_limit(
     match bound {
         1 => write_limit(number, Bound::AtLeast, name, output, written),
         2 => write_limit(number, Bound::AtMost, name, output, written),
-        _ => {
-            *written = 0;
-            CHOICE
-        }
+        _ => report(Err(Refusal::Choice), written),
     }
 }
 
@@ -82,9 +84,10 @@ fn write_join(
     ensures { JoinWritten (operator_of operator) (decode lone_query left.now) (decode lone_query right.now) output.old
         (leaves result written.new output.new) }
 {
-    let wrote = write_items::write_join(operator, left, right, output);
-    *written = wrote.length;
-    wrote.number
+    report(
+        write_items::write_join(operator, left, right, output),
+        written,
+    )
 }
 
 pub fn ed2k_write_join(
@@ -102,44 +105,33 @@ pub fn ed2k_write_join(
         0 => write_join(Operator::And, left, right, output, written),
         1 => write_join(Operator::Or, left, right, output, written),
         2 => write_join(Operator::AndNot, left, right, output, written),
-        _ => {
-            *written = 0;
-            CHOICE
-        }
+        _ => report(Err(Refusal::Choice), written),
     }
 }
 
 pub fn ed2k_write_text_tag(name: &[u8], text: &[u8], output: &mut [u8], written: &mut usize) -> u8
     ensures { WritesTag no_places (tag_of name.now string_type text.now) output.old (leaves result written.new output.new) }
 {
-    let wrote = write_items::write_text_tag(name, text, output);
-    *written = wrote.length;
-    wrote.number
+    report(write_items::write_text_tag(name, text, output), written)
 }
 
 pub fn ed2k_write_dword_tag(name: &[u8], number: u32, output: &mut [u8], written: &mut usize) -> u8
     ensures { WritesTag no_places (tag_of name.now dword_type number) output.old (leaves result written.new output.new) }
 {
-    let wrote = write_items::write_dword_tag(name, number, output);
-    *written = wrote.length;
-    wrote.number
+    report(write_items::write_dword_tag(name, number, output), written)
 }
 
 pub fn ed2k_write_float_tag(name: &[u8], bits: u32, output: &mut [u8], written: &mut usize) -> u8
     ensures { WritesTag no_places (tag_of name.now float_type bits) output.old (leaves result written.new output.new) }
 {
-    let wrote = write_items::write_float_tag(name, bits, output);
-    *written = wrote.length;
-    wrote.number
+    report(write_items::write_float_tag(name, bits, output), written)
 }
 
 pub fn ed2k_write_hash_tag(name: &[u8], hash: &[u8], output: &mut [u8], written: &mut usize) -> u8
     ensures { WritesTag (hash_there hash.now 0) (tag_of name.now hash_type (hash_at hash.now 0)) output.old
         (leaves result written.new output.new) }
 {
-    let wrote = write_items::write_hash_tag(name, hash, 0, output);
-    *written = wrote.length;
-    wrote.number
+    report(write_items::write_hash_tag(name, hash, 0, output), written)
 }
 
 pub fn ed2k_write_tag_list(
@@ -151,9 +143,10 @@ pub fn ed2k_write_tag_list(
 ) -> u8
     ensures { TagListWritten bytes.now (items_from at count) output.old (leaves result written.new output.new) }
 {
-    let wrote = write_items::write_tag_list(bytes, Items { at, end: at, count }, output);
-    *written = wrote.length;
-    wrote.number
+    report(
+        write_items::write_tag_list(bytes, Items { at, end: at, count }, output),
+        written,
+    )
 }
 
 pub fn ed2k_write_query(bytes: &[u8], at: usize, output: &mut [u8], written: &mut usize) -> u8
@@ -164,9 +157,7 @@ pub fn ed2k_write_query(bytes: &[u8], at: usize, output: &mut [u8], written: &mu
         end: at,
         depth: 0,
     };
-    let wrote = write_items::write_query(bytes, query, output);
-    *written = wrote.length;
-    wrote.number
+    report(write_items::write_query(bytes, query, output), written)
 }
 
 // Entries, to compose lists. A list's end is not read: the list is read again.
@@ -174,9 +165,10 @@ pub fn ed2k_write_query(bytes: &[u8], at: usize, output: &mut [u8], written: &mu
 pub fn ed2k_write_address(ip: u32, port: u16, output: &mut [u8], written: &mut usize) -> u8
     ensures { leaves result written.new output.new ≡ spec_write_address (record { ip = ip; port = port }) output.old }
 {
-    let wrote = write_bodies::write_address(Address { ip, port }, output);
-    *written = wrote.length;
-    wrote.number
+    report(
+        write_bodies::write_address(Address { ip, port }, output),
+        written,
+    )
 }
 
 pub fn ed2k_write_record(
@@ -202,9 +194,7 @@ pub fn ed2k_write_record(
         port,
         tags,
     };
-    let wrote = write_bodies::write_record(bytes, record, output);
-    *written = wrote.length;
-    wrote.number
+    report(write_bodies::write_record(bytes, record, output), written)
 }
 
 pub fn ed2k_write_file_entry(
@@ -236,9 +226,7 @@ pub fn ed2k_write_file_entry(
         parts,
         tags,
     };
-    let wrote = write_met::write_file_entry(bytes, entry, output);
-    *written = wrote.length;
-    wrote.number
+    report(write_met::write_file_entry(bytes, entry, output), written)
 }
 
 pub fn ed2k_write_server_entry(
@@ -258,7 +246,5 @@ pub fn ed2k_write_server_entry(
         count: tag_count,
     };
     let entry = ServerEntry { ip, port, tags };
-    let wrote = write_met::write_server_entry(bytes, entry, output);
-    *written = wrote.length;
-    wrote.number
+    report(write_met::write_server_entry(bytes, entry, output), written)
 }

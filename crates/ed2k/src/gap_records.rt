@@ -14,10 +14,10 @@ ghost use Rattle.ed2k.specs.Calls.{leaves};
 ghost use Rattle.gap_numbers.specs.Numbers.{MarksNumbers, record_in};
 ghost use Rattle.ed2k.specs.GapCalls.{gaps_read, all_missing_out, Counts, counted};
 
+use crate::report;
 use gap_numbers::{GAP_NUMBERS, judge_numbers, mark_numbers, put_found, put_record};
 use gaps::SIZE_LIMIT;
-use met::PartRead;
-use output::{RANGE, ROOM};
+use output::Refusal;
 use put_gaps::put_gap_numbers;
 
 pub fn ed2k_read_gaps(file: &[u8], gaps: &mut [u64]) -> u8
@@ -26,10 +26,10 @@ pub fn ed2k_read_gaps(file: &[u8], gaps: &mut [u64]) -> u8
     let mut starts: [usize; 64] = [0; 64];
     let read = met::read_part(file, &mut starts);
     match read {
-        PartRead::Refused(number) => number,
-        PartRead::Accepted(_, found) => {
+        Err(rule) => rule.number(),
+        Ok((_, found)) => {
             if gaps.len() < GAP_NUMBERS {
-                return ROOM;
+                return Refusal::Room.number();
             }
             put_found(gaps, file, &starts, found.count, found.size);
             0
@@ -41,10 +41,10 @@ pub fn ed2k_all_missing(size: u64, gaps: &mut [u64]) -> u8
     ensures { numbered result gaps.new ≡ all_missing_out size gaps.old }
 {
     if SIZE_LIMIT < size {
-        return RANGE;
+        return Refusal::Data.number();
     }
     if gaps.len() < GAP_NUMBERS {
-        return ROOM;
+        return Refusal::Room.number();
     }
     put_record(gaps, gaps::all_missing(size));
     0
@@ -53,26 +53,38 @@ pub fn ed2k_all_missing(size: u64, gaps: &mut [u64]) -> u8
 pub fn ed2k_count_missing(gaps: &[u64], missing: &mut u64) -> u8
     ensures { Counts (record_in gaps.now) result missing.new }
 {
-    let judged = judge_numbers(gaps);
-    *missing = judged.missing;
-    if judged.lawful { 0 } else { RANGE }
+    match judge_numbers(gaps) {
+        Some(count) => {
+            *missing = count;
+            0
+        }
+        None => {
+            *missing = 0;
+            Refusal::Data.number()
+        }
+    }
 }
 
 pub fn ed2k_mark(gaps: &mut [u64], start: u64, end: u64, missing: &mut u64) -> u8
     ensures { MarksNumbers (marked size_limit (record_in gaps.old) start end) (counted result missing.new)
         gaps.old gaps.new }
 {
-    let answer = mark_numbers(gaps, start, end);
-    *missing = answer.missing;
-    answer.number
+    match mark_numbers(gaps, start, end) {
+        Ok(left) => {
+            *missing = left;
+            0
+        }
+        Err(refusal) => {
+            *missing = 0;
+            refusal.number()
+        }
+    }
 }
 
 pub fn ed2k_put_gaps(file: &[u8], gaps: &[u64], output: &mut [u8], written: &mut usize) -> u8
     ensures { leaves result written.new output.new ≡ spec_put_record file.now (record_in gaps.now) output.old }
 {
-    let answer = put_gap_numbers(file, gaps, output);
-    *written = answer.length;
-    answer.number
+    report(put_gap_numbers(file, gaps, output), written)
 }
 
 pub fn ed2k_save(
@@ -84,9 +96,7 @@ pub fn ed2k_save(
 ) -> u8
     ensures { Saves stored.now opened.now saved.now output.old (leaves result written.new output.new) }
 {
-    let answer = save::save(stored, opened, saved, output);
-    *written = answer.length;
-    answer.number
+    report(save::save(stored, opened, saved, output), written)
 }
 
 pub fn ed2k_save_strict(
@@ -98,9 +108,7 @@ pub fn ed2k_save_strict(
 ) -> u8
     ensures { leaves result written.new output.new ≡ spec_save_strict stored.now opened.now saved.now output.old }
 {
-    let answer = save::save_strict(stored, opened, saved, output);
-    *written = answer.length;
-    answer.number
+    report(save::save_strict(stored, opened, saved, output), written)
 }
 
 pub fn ed2k_merge(
@@ -112,7 +120,5 @@ pub fn ed2k_merge(
 ) -> u8
     ensures { Merges opened.now first.now second.now output.old (leaves result written.new output.new) }
 {
-    let answer = merge::merge(opened, first, second, output);
-    *written = answer.length;
-    answer.number
+    report(merge::merge(opened, first, second, output), written)
 }

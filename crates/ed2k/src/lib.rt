@@ -5,11 +5,12 @@
 
 #![tactic(auto)]
 
-ghost use Rattle.std.specs.Prelude.{◌≡◌, ◌≤◌, length};
+ghost use Rattle.std.specs.Prelude.{◌≡◌, ◌≤◌, List, ℕ, length};
 ghost use Rattle.format.specs.Writing.{overwritten};
-ghost use Rattle.ed2k.specs.Calls.{numbered, handed_out};
+ghost use Rattle.output.specs.WriteAnswers.{answered};
+ghost use Rattle.ed2k.specs.Calls.{leaves, numbered, handed_out};
 
-use output::ROOM;
+use output::{Refusal, Written};
 use packets::{Link, Packet};
 
 mod compose;
@@ -48,11 +49,7 @@ fn copy_numbers(out: &mut [u64], src: &[u64])
     requires { length src.now ≤ length out.old }
     ensures { out.new ≡ overwritten src.now out.old }
 {
-    let mut i = 0;
-    while i < src.len() {
-        out[i] = src[i];
-        i += 1;
-    }
+    out[..src.len()].copy_from_slice(src);
 }
 
 // The numbers of what was read, if there is room for them.
@@ -60,8 +57,24 @@ fn hand_out(numbers: &[u64], fields: &mut [u64]) -> u8
     ensures { numbered result fields.new ≡ handed_out numbers.now fields.old }
 {
     if fields.len() < numbers.len() {
-        return ROOM;
+        return Refusal::Room.number();
     }
     copy_numbers(fields, numbers);
     0
+}
+
+// What a call that writes answers to C: 0 and how many bytes it wrote, or the number of the refusal and 0.
+fn report(wrote: Written, written: &mut usize) -> u8
+    ensures { (output : List ℕ) → leaves result written.new output ≡ answered wrote output }
+{
+    match wrote {
+        Ok(length) => {
+            *written = length;
+            0
+        }
+        Err(refusal) => {
+            *written = 0;
+            refusal.number()
+        }
+    }
 }

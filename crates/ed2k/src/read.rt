@@ -9,26 +9,21 @@ ghost use Rattle.ed2k.specs.Calls.{numbered, kinds, ReadOf, PacketOut, StepFrom,
 ghost use Rattle.ed2k.specs.Calls.{TagRead, address_read, RecordRead, FileEntryRead, ServerEntryRead, NodeRead};
 
 use crate::{PacketSource, hand_out};
-use met::{FileEntryStep, KnownAnswer, PartAnswer, ServerAnswer, ServerEntryStep};
-use output::KIND;
-use packets::{Link, PacketStep};
-use query::{NodeStep, QueryAnswer};
-use records::{AddressStep, RecordStep};
-use tags::{TagListAnswer, TagStep};
-use why::Reason;
-use wire::Cursor;
+use output::Refusal;
+use packets::{Link, Packet};
+use wire::{Cursor, Fault};
 
 // Reading.
 
 // A message goes from its own reader straight to its fields, and not by way of the one call over the six kinds: each copy of an answer
 // is felt in short messages.
 
-fn step_from(source: PacketSource, bytes: &[u8]) -> PacketStep
+fn step_from(source: PacketSource, bytes: &[u8]) -> Result<Packet, Fault>
     ensures { StepFrom source bytes.now result }
 {
     match source {
         PacketSource::Read(link) => packets::packet_step(bytes, link),
-        PacketSource::Given(packet) => PacketStep::Got(packet),
+        PacketSource::Given(packet) => Ok(packet),
     }
 }
 
@@ -43,16 +38,11 @@ pub fn hand_out_step(
 ) -> u8
     ensures { StepOut source bytes.now fields.old reason.old (numbered result fields.new) reason.new }
 {
-    let step = step_from(source, bytes);
-    match step {
-        PacketStep::Refused(fault) => {
-            let numbers = why::reason_numbers(Reason::Refused(fault));
-            hand_out(&numbers, reason);
-            fault.number()
-        }
-        PacketStep::Got(packet) => {
-            let numbers = fields::packet_fields(packet);
-            hand_out(&numbers, fields)
+    match step_from(source, bytes) {
+        Ok(packet) => hand_out(&fields::packet_fields(packet), fields),
+        Err(fault) => {
+            hand_out(&why::reason_numbers(Some(fault)), reason);
+            fault.rule.number()
         }
     }
 }
@@ -88,65 +78,45 @@ fn link_of(kind: u8) -> Link
 fn read_known(bytes: &[u8], fields: &mut [u64]) -> u8
     ensures { MessageRead known_met bytes.now fields.old (numbered result fields.new) }
 {
-    let answer = met::read_known_met(bytes);
-    match answer {
-        KnownAnswer::Refused(number) => number,
-        KnownAnswer::Accepted(known) => {
-            let numbers = fields::known_fields(known);
-            hand_out(&numbers, fields)
-        }
+    match met::read_known_met(bytes) {
+        Ok(known) => hand_out(&fields::known_fields(known), fields),
+        Err(rule) => rule.number(),
     }
 }
 
 fn read_server(bytes: &[u8], fields: &mut [u64]) -> u8
     ensures { MessageRead server_met bytes.now fields.old (numbered result fields.new) }
 {
-    let answer = met::read_server_met(bytes);
-    match answer {
-        ServerAnswer::Refused(number) => number,
-        ServerAnswer::Accepted(server) => {
-            let numbers = fields::server_fields(server);
-            hand_out(&numbers, fields)
-        }
+    match met::read_server_met(bytes) {
+        Ok(server) => hand_out(&fields::server_fields(server), fields),
+        Err(rule) => rule.number(),
     }
 }
 
 fn read_part(bytes: &[u8], fields: &mut [u64]) -> u8
     ensures { MessageRead part_met bytes.now fields.old (numbered result fields.new) }
 {
-    let answer = met::read_part_met(bytes);
-    match answer {
-        PartAnswer::Refused(number) => number,
-        PartAnswer::Accepted(part, size) => {
-            let numbers = fields::part_fields(part, size);
-            hand_out(&numbers, fields)
-        }
+    match met::read_part_met(bytes) {
+        Ok((part, size)) => hand_out(&fields::part_fields(part, size), fields),
+        Err(rule) => rule.number(),
     }
 }
 
 fn read_lone_query(bytes: &[u8], fields: &mut [u64]) -> u8
     ensures { QueryRead bytes.now fields.old (numbered result fields.new) }
 {
-    let answer = query::read_lone_query(bytes);
-    match answer {
-        QueryAnswer::Refused(number) => number,
-        QueryAnswer::Accepted(query) => {
-            let numbers = fields::query_fields(query);
-            hand_out(&numbers, fields)
-        }
+    match query::read_lone_query(bytes) {
+        Ok(query) => hand_out(&fields::query_fields(query), fields),
+        Err(rule) => rule.number(),
     }
 }
 
 fn read_lone_tags(bytes: &[u8], fields: &mut [u64]) -> u8
     ensures { TagListRead bytes.now fields.old (numbered result fields.new) }
 {
-    let answer = tags::read_tag_list(bytes);
-    match answer {
-        TagListAnswer::Refused(number) => number,
-        TagListAnswer::Accepted(list) => {
-            let numbers = fields::list_fields(list);
-            hand_out(&numbers, fields)
-        }
+    match tags::read_tag_list(bytes) {
+        Ok(list) => hand_out(&fields::list_fields(list), fields),
+        Err(rule) => rule.number(),
     }
 }
 
@@ -162,74 +132,62 @@ pub fn ed2k_read(kind: u8, bytes: &[u8], fields: &mut [u64]) -> u8
         5 => read_part(bytes, fields),
         6 => read_lone_query(bytes, fields),
         7 => read_lone_tags(bytes, fields),
-        _ => KIND,
+        _ => Refusal::Kind.number(),
     }
 }
 
 pub fn ed2k_read_tag(bytes: &[u8], at: usize, fields: &mut [u64]) -> u8
     ensures { TagRead bytes.now at fields.old (numbered result fields.new) }
 {
-    let tag_step = tags::read_tag(bytes, Cursor { at });
-    let TagStep::Got(tag, next) = tag_step else {
-        return tag_step.fault().number();
-    };
-    let numbers = fields::tag_fields(tag, next);
-    hand_out(&numbers, fields)
+    match tags::read_tag(bytes, Cursor { at }) {
+        Ok((tag, next)) => hand_out(&fields::tag_fields(tag, next), fields),
+        Err(fault) => fault.rule.number(),
+    }
 }
 
 pub fn ed2k_read_address(bytes: &[u8], at: usize, fields: &mut [u64]) -> u8
     ensures { numbered result fields.new ≡ address_read (decode_address bytes.now at) fields.old }
 {
-    let address_step = records::read_address(bytes, Cursor { at });
-    let AddressStep::Got(address, next) = address_step else {
-        return address_step.fault().number();
-    };
-    let numbers = fields::address_fields(address, next);
-    hand_out(&numbers, fields)
+    match records::read_address(bytes, Cursor { at }) {
+        Ok((address, next)) => hand_out(&fields::address_fields(address, next), fields),
+        Err(fault) => fault.rule.number(),
+    }
 }
 
 pub fn ed2k_read_record(bytes: &[u8], at: usize, fields: &mut [u64]) -> u8
     ensures { RecordRead bytes.now at fields.old (numbered result fields.new) }
 {
-    let record_step = records::read_record(bytes, Cursor { at });
-    let RecordStep::Got(record, next) = record_step else {
-        return record_step.fault().number();
-    };
-    let numbers = fields::record_fields(record, next);
-    hand_out(&numbers, fields)
+    match records::read_record(bytes, Cursor { at }) {
+        Ok((record, next)) => hand_out(&fields::record_fields(record, next), fields),
+        Err(fault) => fault.rule.number(),
+    }
 }
 
 pub fn ed2k_read_file_entry(bytes: &[u8], at: usize, fields: &mut [u64]) -> u8
     ensures { FileEntryRead bytes.now at fields.old (numbered result fields.new) }
 {
-    let entry_step = met::read_file_entry(bytes, Cursor { at });
-    let FileEntryStep::Got(entry, next) = entry_step else {
-        return entry_step.fault().number();
-    };
-    let numbers = fields::file_entry_fields(entry, next);
-    hand_out(&numbers, fields)
+    match met::read_file_entry(bytes, Cursor { at }) {
+        Ok((entry, next)) => hand_out(&fields::file_entry_fields(entry, next), fields),
+        Err(fault) => fault.rule.number(),
+    }
 }
 
 pub fn ed2k_read_server_entry(bytes: &[u8], at: usize, fields: &mut [u64]) -> u8
     ensures { ServerEntryRead bytes.now at fields.old (numbered result fields.new) }
 {
-    let entry_step = met::read_server_entry(bytes, Cursor { at });
-    let ServerEntryStep::Got(entry, next) = entry_step else {
-        return entry_step.fault().number();
-    };
-    let numbers = fields::server_entry_fields(entry, next);
-    hand_out(&numbers, fields)
+    match met::read_server_entry(bytes, Cursor { at }) {
+        Ok((entry, next)) => hand_out(&fields::server_entry_fields(entry, next), fields),
+        Err(fault) => fault.rule.number(),
+    }
 }
 
 pub fn ed2k_read_query_node(bytes: &[u8], at: usize, fields: &mut [u64]) -> u8
     ensures { NodeRead bytes.now at fields.old (numbered result fields.new) }
 {
-    let node_step = query::read_node(bytes, Cursor { at });
-    let NodeStep::Got(node, next) = node_step else {
-        return node_step.fault().number();
-    };
-    let numbers = fields::node_fields(node, next);
-    hand_out(&numbers, fields)
+    match query::read_node(bytes, Cursor { at }) {
+        Ok((node, next)) => hand_out(&fields::node_fields(node, next), fields),
+        Err(fault) => fault.rule.number(),
+    }
 }
 
 pub fn ed2k_part_count(size: u32) -> u32

@@ -6,7 +6,7 @@ ghost use Rattle.ed2k.specs.WhyCalls.{LinkWhy, WhyOf, links};
 
 use crate::read::hand_out_step;
 use crate::{PacketSource, hand_out};
-use output::KIND;
+use output::Refusal;
 use packets::Link;
 
 fn why_on(link: Link, bytes: &[u8], why: &mut [u64]) -> u8
@@ -25,6 +25,6 @@ pub fn ed2k_why(kind: u8, bytes: &[u8], why: &mut [u64]) -> u8
         0 => why_on(Link::Server, bytes, why),
         1 => why_on(Link::Client, bytes, why),
         2 => why_on(Link::Udp, bytes, why),
-        _ => KIND,
+        _ => Refusal::Kind.number(),
     }
 }

@@ -6,9 +6,9 @@ ghost use Rattle.ed2k.specs.Calls.{kinds};
 ghost use Rattle.ed2k.specs.Calls.{leaves};
 ghost use Rattle.ed2k.specs.Calls.{WriteOf, PacketWrites, KnownWrites, ServerWrites, PartWrites, QueryWrites, TagListWrites};
 
-use crate::PacketSource;
 use crate::read::hand_out_packet;
-use output::{CHOICE, KIND};
+use crate::{PacketSource, report};
+use output::Refusal;
 use packets::{Link, Packet};
 
 // Writing.
@@ -29,12 +29,12 @@ fn write_link(link: Link, bytes: &[u8], given: &[u64], output: &mut [u8], writte
     let packet = fields::packet_given(given);
     let numbers = packet_numbers(packet);
     if !fields::same_fields(&numbers, given) {
-        *written = 0;
-        return CHOICE;
+        return report(Err(Refusal::Choice), written);
     }
-    let wrote = write_packets::write_packet(bytes, link, packet, output);
-    *written = wrote.length;
-    wrote.number
+    report(
+        write_packets::write_packet(bytes, link, packet, output),
+        written,
+    )
 }
 
 fn write_known(bytes: &[u8], given: &[u64], output: &mut [u8], written: &mut usize) -> u8
@@ -43,12 +43,9 @@ fn write_known(bytes: &[u8], given: &[u64], output: &mut [u8], written: &mut usi
     let known = fields::known_given(given);
     let numbers = fields::known_fields(known);
     if !fields::same_fields(&numbers, given) {
-        *written = 0;
-        return CHOICE;
+        return report(Err(Refusal::Choice), written);
     }
-    let wrote = write_met::write_known_met(bytes, known, output);
-    *written = wrote.length;
-    wrote.number
+    report(write_met::write_known_met(bytes, known, output), written)
 }
 
 fn write_server(bytes: &[u8], given: &[u64], output: &mut [u8], written: &mut usize) -> u8
@@ -57,12 +54,9 @@ fn write_server(bytes: &[u8], given: &[u64], output: &mut [u8], written: &mut us
     let server = fields::server_given(given);
     let numbers = fields::server_fields(server);
     if !fields::same_fields(&numbers, given) {
-        *written = 0;
-        return CHOICE;
+        return report(Err(Refusal::Choice), written);
     }
-    let wrote = write_met::write_server_met(bytes, server, output);
-    *written = wrote.length;
-    wrote.number
+    report(write_met::write_server_met(bytes, server, output), written)
 }
 
 fn write_part(bytes: &[u8], given: &[u64], output: &mut [u8], written: &mut usize) -> u8
@@ -72,12 +66,9 @@ fn write_part(bytes: &[u8], given: &[u64], output: &mut [u8], written: &mut usiz
     let size = fields::size_given(given);
     let numbers = fields::part_fields(part, size);
     if !fields::same_fields(&numbers, given) {
-        *written = 0;
-        return CHOICE;
+        return report(Err(Refusal::Choice), written);
     }
-    let wrote = write_part::write_part_met(bytes, part, output);
-    *written = wrote.length;
-    wrote.number
+    report(write_part::write_part_met(bytes, part, output), written)
 }
 
 fn write_lone_query(bytes: &[u8], given: &[u64], output: &mut [u8], written: &mut usize) -> u8
@@ -86,12 +77,9 @@ fn write_lone_query(bytes: &[u8], given: &[u64], output: &mut [u8], written: &mu
     let query = fields::query_given(given);
     let numbers = fields::query_fields(query);
     if !fields::same_fields(&numbers, given) {
-        *written = 0;
-        return CHOICE;
+        return report(Err(Refusal::Choice), written);
     }
-    let wrote = write_items::write_query(bytes, query, output);
-    *written = wrote.length;
-    wrote.number
+    report(write_items::write_query(bytes, query, output), written)
 }
 
 fn write_lone_tags(bytes: &[u8], given: &[u64], output: &mut [u8], written: &mut usize) -> u8
@@ -100,12 +88,9 @@ fn write_lone_tags(bytes: &[u8], given: &[u64], output: &mut [u8], written: &mut
     let list = fields::list_given(given);
     let numbers = fields::list_fields(list);
     if !fields::same_fields(&numbers, given) {
-        *written = 0;
-        return CHOICE;
+        return report(Err(Refusal::Choice), written);
     }
-    let wrote = write_items::write_tag_list(bytes, list, output);
-    *written = wrote.length;
-    wrote.number
+    report(write_items::write_tag_list(bytes, list, output), written)
 }
 
 pub fn ed2k_write(
@@ -126,9 +111,6 @@ pub fn ed2k_write(
         5 => write_part(bytes, given, output, written),
         6 => write_lone_query(bytes, given, output, written),
         7 => write_lone_tags(bytes, given, output, written),
-        _ => {
-            *written = 0;
-            KIND
-        }
+        _ => report(Err(Refusal::Kind), written),
     }
 }

@@ -6,11 +6,11 @@
 ghost use Rattle.std.specs.Prelude.{◌≤◌, IfOk, length};
 
 use bodies::Body;
-use packets::{Link, Packet, PacketAnswer, opcode, read_packet};
+use packets::{Link, Packet, opcode, read_packet};
 use query::{Bound, Operator, Query};
-use records::{Record, RecordStep, read_record};
+use records::{Record, read_record};
 use std::io;
-use tags::{TagStep, TagValue, read_tag};
+use tags::{TagValue, read_tag};
 use truth::truth_of;
 use wire::{Cursor, Items, bytes_at};
 use write_bodies::write_record;
@@ -31,22 +31,15 @@ fn say(rt: &impl Print, words: &str, n: u64) -> io::Result<()> {
     println!(rt; "{words}{n}")
 }
 
-// n, or the size where that is less.
-fn within(n: usize, size: usize) -> usize
-    ensures { result ≤ size }
-{
-    if n < size { n } else { size }
-}
-
 // The name and the size of a file as two tags, at the front of what is lent: how many bytes they have.
 fn put_tags(out: &mut [u8], name: &[u8], size: u32) -> usize
     ensures { result ≤ length out.old }
 {
-    let named = write_text_tag(&NAME, name, out);
-    let at = within(named.length, out.len());
-    let sized = write_dword_tag(&SIZE, size, &mut out[at..]);
+    let named = write_text_tag(&NAME, name, out).unwrap_or(0);
+    let at = named.min(out.len());
+    let sized = write_dword_tag(&SIZE, size, &mut out[at..]).unwrap_or(0);
     let rest = out.len() - at;
-    at + within(sized.length, rest)
+    at + sized.min(rest)
 }
 
 // The tags of a file, after the hash that a scratch buffer begins with: how many bytes they have.
@@ -75,9 +68,9 @@ fn put_file(rt: &impl Print, scratch: &[u8], tags: Items, out: &mut [u8]) -> io:
         port: 0,
         tags,
     };
-    let wrote = write_record(scratch, record, out);
-    say(rt, "record written; bytes: ", wrote.length as u64)?;
-    Ok(within(wrote.length, out.len()))
+    let wrote = write_record(scratch, record, out).unwrap_or(0);
+    say(rt, "record written; bytes: ", wrote as u64)?;
+    Ok(wrote.min(out.len()))
 }
 
 // The records of two files, one after the other: how many bytes they have.
@@ -111,21 +104,20 @@ fn put_offer(
         opcode: opcode::OFFER_FILES,
         body: Body::Records(list),
     };
-    let wrote = write_packet(records, Link::Server, packet, out);
-    say(rt, "offer written; bytes: ", wrote.length as u64)?;
-    Ok(wrote.length)
+    let wrote = write_packet(records, Link::Server, packet, out).unwrap_or(0);
+    say(rt, "offer written; bytes: ", wrote as u64)?;
+    Ok(wrote)
 }
 
 // A query for files whose name has `left` in it and that have at least 20,000,000 bytes.
 fn put_query(out: &mut [u8]) -> usize {
     let mut word = [0u8; 32];
     let mut limit = [0u8; 32];
-    let keyword = write_keyword(b"left", &mut word);
-    let bound = write_limit(20000000, Bound::AtLeast, &SIZE, &mut limit);
-    let left = bytes_at(&word, 0, keyword.length);
-    let right = bytes_at(&limit, 0, bound.length);
-    let join = write_join(Operator::And, left, right, out);
-    join.length
+    let keyword = write_keyword(b"left", &mut word).unwrap_or(0);
+    let bound = write_limit(20000000, Bound::AtLeast, &SIZE, &mut limit).unwrap_or(0);
+    let left = bytes_at(&word, 0, keyword);
+    let right = bytes_at(&limit, 0, bound);
+    write_join(Operator::And, left, right, out).unwrap_or(0)
 }
 
 fn put_search(rt: &impl Print, query: &[u8], out: &mut [u8]) -> io::Result<usize> {
@@ -139,9 +131,9 @@ fn put_search(rt: &impl Print, query: &[u8], out: &mut [u8]) -> io::Result<usize
         opcode: opcode::SEARCH_FILE,
         body: Body::Query(whole),
     };
-    let wrote = write_packet(query, Link::Server, packet, out);
-    say(rt, "search written; bytes: ", wrote.length as u64)?;
-    Ok(wrote.length)
+    let wrote = write_packet(query, Link::Server, packet, out).unwrap_or(0);
+    say(rt, "search written; bytes: ", wrote as u64)?;
+    Ok(wrote)
 }
 
 // Reading back
@@ -163,27 +155,31 @@ fn show_value(rt: &impl Print, s: &[u8], value: TagValue) -> io::Result<()> {
 
 // The tag at an offset: the offset after it.
 fn show_tag(rt: &impl Print, s: &[u8], at: usize) -> io::Result<usize> {
-    let tag_step = read_tag(s, Cursor { at });
-    let TagStep::Got(tag, next) = tag_step else {
-        say(rt, "  tag refused: ", tag_step.fault().number() as u64)?;
-        return Ok(at);
-    };
-    let value = tag.value;
-    show_value(rt, s, value)?;
-    Ok(next.at)
+    match read_tag(s, Cursor { at }) {
+        Ok((tag, next)) => {
+            show_value(rt, s, tag.value)?;
+            Ok(next.at)
+        }
+        Err(fault) => {
+            say(rt, "  tag refused: ", fault.rule.number() as u64)?;
+            Ok(at)
+        }
+    }
 }
 
 // The record of a file at an offset, with its two tags: the offset after it.
 fn show_record(rt: &impl Print, s: &[u8], at: usize) -> io::Result<usize> {
-    let record_step = read_record(s, Cursor { at });
-    let RecordStep::Got(record, next) = record_step else {
-        say(rt, "record refused: ", record_step.fault().number() as u64)?;
-        return Ok(at);
-    };
-    let tags = record.tags;
-    let second = show_tag(rt, s, tags.at)?;
-    show_tag(rt, s, second)?;
-    Ok(next.at)
+    match read_record(s, Cursor { at }) {
+        Ok((record, next)) => {
+            let second = show_tag(rt, s, record.tags.at)?;
+            show_tag(rt, s, second)?;
+            Ok(next.at)
+        }
+        Err(fault) => {
+            say(rt, "record refused: ", fault.rule.number() as u64)?;
+            Ok(at)
+        }
+    }
 }
 
 fn show_body(rt: &impl Print, s: &[u8], body: Body) -> io::Result<()> {
@@ -200,21 +196,18 @@ fn show_body(rt: &impl Print, s: &[u8], body: Body) -> io::Result<()> {
 }
 
 fn show_packet(rt: &impl Print, s: &[u8]) -> io::Result<()> {
-    let answer = read_packet(s, Link::Server);
-    let PacketAnswer::Accepted(packet) = answer else {
+    let Ok(packet) = read_packet(s, Link::Server) else {
         return println!(rt; "packet refused");
     };
     say(rt, "read back; opcode: ", packet.opcode as u64)?;
-    let body = packet.body;
-    show_body(rt, s, body)
+    show_body(rt, s, packet.body)
 }
 
 // Whether the query finds a file by its tags.
 fn show_truth(rt: &impl Print, query: &[u8], scratch: &[u8], tags: Items) -> io::Result<()> {
     let mut list = [0u8; 128];
-    let wrote = write_tag_list(scratch, tags, &mut list);
-    let truth = truth_of(query, bytes_at(&list, 0, wrote.length));
-    if truth.holds {
+    let wrote = write_tag_list(scratch, tags, &mut list).unwrap_or(0);
+    if truth_of(query, bytes_at(&list, 0, wrote)).unwrap_or(false) {
         println!(rt; "the search finds the file")
     } else {
         println!(rt; "the search does not find the file")

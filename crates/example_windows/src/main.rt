@@ -5,9 +5,9 @@
 
 #![tactic(auto)]
 
-use gaps::{count_missing, mark};
+use gaps::{count_missing, mark, none_missing};
 use met::read_gaps;
-use output::{WriteAnswer, same};
+use output::{Written, same};
 use put_gaps::put_gaps;
 use save::{save, save_strict};
 use std::io;
@@ -28,29 +28,37 @@ fn say(rt: &impl Print, words: &str, n: u64) -> io::Result<()> {
     println!(rt; "{words}{n}")
 }
 
-// What a window makes of the opened file when the bytes from start up to end arrive: how many bytes it wants to save.
-fn edit(rt: &impl Print, opened: &[u8], start: u64, end: u64, out: &mut [u8]) -> io::Result<usize> {
-    let read = read_gaps(opened);
-    let given = read.gaps;
-    let marked = mark(given, start, end);
-    let after = marked.after;
-    say(rt, "window marks; bytes missing: ", marked.missing)?;
-    let wrote = put_gaps(opened, after, out);
-    say(rt, "window puts its gaps; answer: ", wrote.number as u64)?;
-    Ok(wrote.length)
+// Says the number of an answer: how many bytes were written.
+fn say_answer(rt: &impl Print, words: &str, answer: Written) -> io::Result<usize> {
+    let number = answer.err().map_or(0, |refusal| refusal.number());
+    say(rt, words, number as u64)?;
+    Ok(answer.unwrap_or(0))
 }
 
-// Both saves of what a window made say what they answer.
+// What a window makes of the opened file when the bytes from start up to end arrive: how many bytes it wants to save.
+fn edit(rt: &impl Print, opened: &[u8], start: u64, end: u64, out: &mut [u8]) -> io::Result<usize> {
+    let given = read_gaps(opened).unwrap_or(none_missing(0));
+    let (missing, after) = mark(given, start, end).map_or(
+        (0, given),
+        |marked| (marked.missing, marked.after),
+    );
+    say(rt, "window marks; bytes missing: ", missing)?;
+    say_answer(
+        rt,
+        "window puts its gaps; answer: ",
+        put_gaps(opened, after, out),
+    )
+}
+
+// Both saves of what a window made say what they answer: how many bytes were written.
 fn save_window(
     rt: &impl Print,
     stored: &[u8],
     opened: &[u8],
     made: &[u8],
     out: &mut [u8],
-) -> io::Result<WriteAnswer> {
-    let saved = save(stored, opened, made, out);
-    say(rt, "save: answer ", saved.number as u64)?;
-    Ok(saved)
+) -> io::Result<usize> {
+    say_answer(rt, "save: answer ", save(stored, opened, made, out))
 }
 
 fn save_window_strictly(
@@ -59,10 +67,12 @@ fn save_window_strictly(
     opened: &[u8],
     made: &[u8],
     out: &mut [u8],
-) -> io::Result<WriteAnswer> {
-    let saved = save_strict(stored, opened, made, out);
-    say(rt, "strict save: answer ", saved.number as u64)?;
-    Ok(saved)
+) -> io::Result<usize> {
+    say_answer(
+        rt,
+        "strict save: answer ",
+        save_strict(stored, opened, made, out),
+    )
 }
 
 fn show_same(rt: &impl Print, a: &[u8], b: &[u8]) -> io::Result<()> {
@@ -82,12 +92,8 @@ fn show_order(rt: &impl Print, one: &[u8], other: &[u8]) -> io::Result<()> {
 }
 
 fn show_missing(rt: &impl Print, file: &[u8]) -> io::Result<()> {
-    let read = read_gaps(file);
-    say(
-        rt,
-        "bytes missing in the stored file: ",
-        count_missing(read.gaps),
-    )
+    let missing = read_gaps(file).map_or(0, |given| count_missing(given));
+    say(rt, "bytes missing in the stored file: ", missing)
 }
 
 // Two windows mark different ranges of the model that is stored.
@@ -100,17 +106,17 @@ fn mark_in_two_windows(rt: &impl Print, stored: &[u8]) -> io::Result<()> {
     let yours = bytes_at(&second, 0, second_length);
     let mut after_first = [0; 128];
     let saved = save_window(rt, stored, stored, mine, &mut after_first)?;
-    let now = bytes_at(&after_first, 0, saved.length);
+    let now = bytes_at(&after_first, 0, saved);
     show_same(rt, now, mine)?;
     let mut after_second = [0; 128];
     let refused = save_window_strictly(rt, now, stored, yours, &mut after_second)?;
-    say(rt, "bytes written by it: ", refused.length as u64)?;
+    say(rt, "bytes written by it: ", refused as u64)?;
     let merged = save_window(rt, now, stored, yours, &mut after_second)?;
-    let both = bytes_at(&after_second, 0, merged.length);
+    let both = bytes_at(&after_second, 0, merged);
     show_missing(rt, both)?;
     let mut in_other_order = [0; 128];
     let exchanged = save_window(rt, yours, stored, mine, &mut in_other_order)?;
-    show_order(rt, both, bytes_at(&in_other_order, 0, exchanged.length))
+    show_order(rt, both, bytes_at(&in_other_order, 0, exchanged))
 }
 
 // Two windows set its priority in two ways.
@@ -121,13 +127,13 @@ fn set_in_two_windows(rt: &impl Print) -> io::Result<()> {
     second[PRIORITY] = 2;
     let mut out = [0; 128];
     let refused = save_window(rt, &first, &OPENED, &second, &mut out)?;
-    say(rt, "bytes written by it: ", refused.length as u64)
+    say(rt, "bytes written by it: ", refused as u64)
 }
 
 fn main(rt: HostRuntime) -> io::Result<()> {
     let nothing: [u8; 0] = [];
     let mut stored = [0; 128];
     let saved = save_window_strictly(&rt, &nothing, &nothing, &OPENED, &mut stored)?;
-    mark_in_two_windows(&rt, bytes_at(&stored, 0, saved.length))?;
+    mark_in_two_windows(&rt, bytes_at(&stored, 0, saved))?;
     set_in_two_windows(&rt)
 }

@@ -115,8 +115,7 @@ pub fn part_fields(part: PartMet, size: u32) -> [u64; 16]
             none,
         ),
         PartMet::E1(file) => {
-            let blocks = file.blocks;
-            match blocks {
+            match file.blocks {
                 HashBlocks::Nothing => {
                     part_row(
                         0xE1,

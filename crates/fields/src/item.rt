@@ -22,11 +22,11 @@ fn tag_row(next: Cursor, code: u64, tag: Tag, first: u64, second: u64) -> [u64; 
     row_of_fields(at, code, name_at, name_len, first, second, 0, 0, 0)
 }
 
+// The C interface fixes the number of each type: ED2K_TAG_.. in include/ed2k.h.
 pub fn tag_fields(tag: Tag, next: Cursor) -> [u64; 16]
     ensures { result ≡ filled 16 (tag_numbers tag next) }
 {
-    let value = tag.value;
-    match value {
+    match tag.value {
         TagValue::Hash(hash) => tag_row(next, 1, tag, hash as u64, 16),
         TagValue::Text(text) => tag_row(next, 2, tag, text.at as u64, text.len as u64),
         TagValue::Dword(number) => tag_row(next, 3, tag, number as u64, 0),
@@ -93,6 +93,7 @@ pub fn server_entry_fields(entry: ServerEntry, next: Cursor) -> [u64; 16]
     row_of_fields(next.at as u64, ip, port, at, end, count, 0, 0, 0)
 }
 
+// The C interface fixes these numbers: include/ed2k.h.
 fn operator_number(operator: Operator) -> u64
     ensures { result ≡ spec_operator_number operator }
 {
@@ -103,6 +104,7 @@ fn operator_number(operator: Operator) -> u64
     }
 }
 
+// The C interface fixes these numbers too; a node with no bound has 0.
 fn bound_number(bound: Bound) -> u64
     ensures { result ≡ spec_bound_number bound }
 {
@@ -112,6 +114,7 @@ fn bound_number(bound: Bound) -> u64
     }
 }
 
+// The C interface fixes the number of each node: ED2K_NODE_.. in include/ed2k.h.
 pub fn node_fields(node: Node, next: Cursor) -> [u64; 16]
     ensures { result ≡ filled 16 (node_numbers node next) }
 {

@@ -23,29 +23,10 @@ pub use message::{
 };
 pub use packet::packet_fields;
 
-fn same_numbers(a: &[u64], b: &[u64]) -> bool
-    ensures { result ≡ same a.now b.now }
-{
-    let n = a.len();
-    if n != b.len() {
-        return false;
-    }
-    let mut i = 0;
-    while i < n {
-        if a[i] != b[i] {
-            return false;
-        }
-        i += 1;
-    }
-    true
-}
-
 // Whether the given numbers are, or begin with, these 16.
+#[tactic(auto, using(std::proofs::lemmas::List::take_min, crate::proofs::Same::pointwise_same))]
 pub fn same_fields(fields: &[u64], given: &[u64]) -> bool
     ensures { result ≡ same fields.now (take 16 given.now) }
 {
-    if given.len() < 16 {
-        return same_numbers(fields, given);
-    }
-    same_numbers(fields, &given[..16])
+    fields == &given[..16.min(given.len())]
 }

@@ -21,7 +21,7 @@ use wire::{Items, Place};
 fn number_at(given: &[u64], i: usize) -> u64
     ensures { result ≡ number_at given.now i }
 {
-    if i < given.len() { given[i] } else { 0 }
+    given.get(i).copied().unwrap_or(0)
 }
 
 fn place_of(given: &[u64], i: usize) -> usize
@@ -117,13 +117,14 @@ fn query_at(given: &[u64], i: usize) -> Query
     }
 }
 
+// The form by its number in the C interface: `form_number` of packet.rt.
 fn form_at(given: &[u64], i: usize) -> Form
     ensures { result ≡ spec_form_at given.now i }
 {
-    if number_at(given, i) == 0 {
-        return Form::Plain;
+    match number_at(given, i) {
+        0 => Form::Plain,
+        _ => Form::Extended,
     }
-    Form::Extended
 }
 
 fn sending_part_at(given: &[u64]) -> Body
@@ -180,11 +181,11 @@ fn extended_status_at(given: &[u64]) -> Body
     })
 }
 
+#[tactic(auto, unfolding(crate::specs::Given::spec_body_given))]
 fn body_given(given: &[u64]) -> Body
     ensures { result ≡ spec_body_given given.now }
 {
-    let number = number_at(given, 2);
-    match number {
+    match number_at(given, 2) {
         shape::QUERY => Body::Query(query_at(given, 3)),
         shape::HASH => Body::Hash(place_of(given, 3)),
         shape::DWORD => Body::Dword(dword_at(given, 3)),
@@ -263,11 +264,11 @@ pub fn server_given(given: &[u64]) -> ServerMet
     }
 }
 
+#[tactic(auto, unfolding(crate::specs::Given::spec_blocks_given))]
 fn blocks_given(given: &[u64]) -> HashBlocks
     ensures { result ≡ spec_blocks_given given.now }
 {
-    let which = number_at(given, 7);
-    match which {
+    match number_at(given, 7) {
         shape::PART_HASHES => HashBlocks::Parts(items_at(given, 8)),
         shape::BLOCK_HASHES => HashBlocks::Blocks(items_at(given, 11)),
         shape::BOTH_HASHES => HashBlocks::Both(items_at(given, 8), items_at(given, 11)),
@@ -305,13 +306,14 @@ fn e1_given(given: &[u64]) -> PartMet
     })
 }
 
+#[tactic(auto, unfolding(crate::specs::Given::spec_part_given))]
 pub fn part_given(given: &[u64]) -> PartMet
     ensures { result ≡ spec_part_given given.now }
 {
-    if number_at(given, 0) == 0xE0 {
-        return e0_given(given);
+    match number_at(given, 0) {
+        0xE0 => e0_given(given),
+        _ => e1_given(given),
     }
-    e1_given(given)
 }
 
 // The size that is returned with a part.met.

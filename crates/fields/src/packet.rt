@@ -271,6 +271,7 @@ fn file_status_row(opening: u8, opcode: u8, status: FileStatus) -> [u64; 16]
     )
 }
 
+// The C interface fixes these numbers: include/ed2k.h.
 fn form_number(form: Form) -> u64
     ensures { result ≡ spec_form_number form }
 {
@@ -283,12 +284,11 @@ fn form_number(form: Form) -> u64
 fn status_request_row(opening: u8, opcode: u8, request: StatusRequest) -> [u64; 16]
     ensures { result ≡ filled 16 (opening ∷ opcode ∷ body_numbers (Body.StatusRequest request)) }
 {
-    let form = request.form;
     row(
         opening,
         opcode,
         shape::STATUS_REQUEST,
-        form_number(form),
+        form_number(request.form),
         request.number as u64,
         0,
         0,
@@ -344,8 +344,7 @@ pub fn packet_fields(p: Packet) -> [u64; 16]
 {
     let opening = p.opening;
     let opcode = p.opcode;
-    let body = p.body;
-    match body {
+    match p.body {
         Body::Nothing => row(opening, opcode, shape::NOTHING, 0, 0, 0, 0),
         Body::Query(query) => query_row(opening, opcode, query),
         Body::Hash(hash) => row(opening, opcode, shape::HASH, hash as u64, 0, 0, 0),

@@ -12,7 +12,7 @@
 
 #![tactic(auto)]
 
-ghost use Rattle.std.specs.Prelude.{◌≡◌, ◌↔◌, min, ◌+◌, ◌-◌, ◌*◌, ◌≤◌, ◌<◌, eqb, length};
+ghost use Rattle.std.specs.Prelude.{◌≡◌, ◌↔◌, ◌+◌, ◌-◌, ◌*◌, ◌≤◌, ◌<◌, eqb, length};
 ghost use Rattle.format.specs.Tables.{pick};
 ghost use Rattle.format.specs.Truth.{occurs};
 ghost use Rattle.find.specs.Shifts.{Agrees, Decides, NoEnds, Samples, StandsIn, Moves};
@@ -21,7 +21,7 @@ ghost use Rattle.find.specs.Shifts.{Agrees, Decides, NoEnds, Samples, StandsIn, 
 const STRIDE: usize = 8;
 
 // The entries of a table, and the longest part that they serve: one byte fewer than STRIDE for each.
-const ENTRIES: usize = 8192;
+const MANY_ENTRIES: usize = 8192;
 
 const LONGEST_PART: usize = 65535;
 
@@ -39,12 +39,10 @@ fn stands_at(text: &[u8], part: &[u8], start: usize) -> bool
     requires { start + length part.now ≤ length text.now }
     ensures { Decides result (Agrees part.now text.now start (length part.now)) }
 {
-    let mut i = 0;
-    while i < part.len() {
+    for i in 0..part.len() {
         if part[i] != text[start + i] {
             return false;
         }
-        i += 1;
     }
     true
 }
@@ -88,12 +86,10 @@ fn ends_in_block(text: &[u8], from: usize, reach: usize, first: u8, last: u8) ->
     ensures { (result ≡ 0) ↔ NoEnds text.now from reach first last 16 }
 {
     let mut found: u8 = 0;
-    let mut i = 0;
-    while i < BLOCK {
+    for i in 0..BLOCK {
         let here = text[from + i];
         let there = text[from + reach + i];
         found = noted(found, here, there, first, last);
-        i += 1;
     }
     found
 }
@@ -111,23 +107,14 @@ fn search_block(text: &[u8], part: &[u8], from: usize) -> bool
     search_from(text, part, from, from + BLOCK)
 }
 
-// Where the next block begins. The last one ends at the last offset, so that it may begin in the block before.
-fn block_at(start: usize, end: usize) -> usize
-    requires { (16 ≤ end) × (start < end) }
-    ensures { result ≡ min start (end - 16) }
-{
-    let last = end - BLOCK;
-    if last < start { last } else { start }
-}
-
-// Looks for the part block by block.
+// Looks for the part block by block. The last one ends at the last offset, so that it may begin in the block before.
 fn search_blocks(text: &[u8], part: &[u8], end: usize) -> bool
     requires { (0 < length part.now) × (end + length part.now ≡ length text.now + 1) × (16 ≤ end) }
     ensures { result ≡ occurs part.now text.now }
 {
     let mut start = 0;
     while start < end {
-        let from = block_at(start, end);
+        let from = start.min(end - BLOCK);
         if search_block(text, part, from) {
             return true;
         }
@@ -219,19 +206,10 @@ fn search_by_table(text: &[u8], part: &[u8], table: &[u16]) -> bool
     false
 }
 
-// The tables are made by functions of their own, so that a shorter case does not clear them.
-
-fn search_medium(text: &[u8], part: &[u8]) -> bool
-    requires { (length part.now ≤ 1023) × (length part.now ≤ length text.now) }
-    ensures { result ≡ occurs part.now text.now }
-{
-    let mut table = [0; FEW_ENTRIES];
-    fill_table(part, &mut table);
-    search_by_table(text, part, &table)
-}
-
-fn search_long(text: &[u8], part: &[u8]) -> bool
-    requires { (length part.now ≤ 65535) × (length part.now ≤ length text.now) }
+// The table is made by a function of its own for each length, so that a shorter case does not clear a long one.
+fn search_in<const ENTRIES: usize>(text: &[u8], part: &[u8]) -> bool
+    requires part_len_bound { (length part.now < 8 * ENTRIES) × (length part.now ≤ length text.now) }
+    requires entries { ENTRIES ≤ 8192 }
     ensures { result ≡ occurs part.now text.now }
 {
     let mut table = [0; ENTRIES];
@@ -253,7 +231,7 @@ pub fn contains(text: &[u8], part: &[u8]) -> bool
         return search_each(text, part);
     }
     if part.len() <= MEDIUM_PART {
-        return search_medium(text, part);
+        return search_in::<FEW_ENTRIES>(text, part);
     }
-    search_long(text, part)
+    search_in::<MANY_ENTRIES>(text, part)
 }

@@ -8,9 +8,7 @@ use lib.ListN.{length, drop, length-append, length-map, length-replicate}
 use lib.Seq.{drop_at}
 use borrow.Author.Tests.{eq-eqb}
 use Rattle.format.specs.Gaps.{Gap, size_limit}
-use Rattle.gaps.specs.declared.Marked.{Marked}
-use Rattle.gaps.specs.declared.MarkAnswer.{MarkAnswer}
-use Rattle.gaps.specs.Marking.{marked}
+use Rattle.gaps.specs.Marking.{MarkAnswer, MarkOutcome, marked}
 use Rattle.gaps.specs.EitherOrder.{EitherOrder, InPlace, MarkedInTurn}
 use Rattle.gaps.proofs.EitherOrder.{in_place, number-told}
 use Rattle.gaps.proofs.Marking.{accepted-as, zero-exactly}
@@ -21,7 +19,7 @@ use Rattle.gap_numbers.proofs.Records.{record-back}
 
 -- One marking over numbers that is accepted
 module _ (given : List ℕ) (r : Gap) (a : MarkAnswer) (left : List ℕ) (m : OverNumbers given r a left) (zero : a.number ≡ 0) where
-  abbrev done : Marked
+  abbrev done : MarkOutcome
   done = marked size_limit (record_in given) r.start r.end
 
   done-zero : done.number ≡ 0

@@ -21,8 +21,8 @@ none_between : (a b : ℕ) → b ≤ a → between a b ≡ []
 unfolding between
 none_between a b h = rw (le-ltb a b h) refl
 
-pub one-between : (a b : ℕ) → length (between a b) ≤ 1
-one-between a b = go (dec_lt a b)
+pub one_between : (a b : ℕ) → length (between a b) ≤ 1
+one_between a b = go (dec_lt a b)
   where
     go : Dec (a < b) → length (between a b) ≤ 1
     go (yes h) = rw (some-between a b h) (omega arith)

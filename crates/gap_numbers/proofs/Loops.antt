@@ -6,6 +6,7 @@ use mathlib.Core.Path.{◌≡◌, refl, sym, ap, ◌∙◌}
 use mathlib.Core.Bool.{true, false, ◌&&◌}
 use mathlib.Core.List.{List, ◌∷◌, ◌++◌, append_assoc}
 use lib.ListN.{length, get_or, take, drop, take-append-drop, drop_of_length-le}
+use Rattle.std.specs.Prelude.{Some, None}
 use Rattle.format.specs.Gaps.{Gap, Ordered, follows, ordered, total, remaining, subtract, size_limit}
 use Rattle.format.proofs.Gaps.{follows-true}
 use Rattle.gaps.specs.declared.GapRecord.{GapRecord}
@@ -19,7 +20,7 @@ use Rattle.gap_numbers.proofs.Numbers.{nth_gap, at, drop-in, take_in}
 pub length-gaps : (l : List ℕ) (n : ℕ) → Holds l n → length (gaps_in l) ≡ n
 length-gaps l n h = let e = h.counted in gaps-length (held l) 0 (at l 0 (omega arith) (omega (arith, h.few))) ∙ sym e
 
-pub unlawful-judged : (g : GapRecord) → lawful_record size_limit g ≡ false → Judges g false 0
+unlawful-judged : (g : GapRecord) → lawful_record size_limit g ≡ false → Judges g None
 unfolding missing_count
 unlawful-judged g q = record { told = sym q; counted = rw q refl }
 
@@ -41,7 +42,7 @@ judging-none l few size = record {
 }
 
 module _ {l : List ℕ} {low missing i : ℕ} (c : Judging l low missing i) where
-  pub judged-all : get_or l 1 0 ≤ i → Judges (held l) true missing
+  pub judged-all : get_or l 1 0 ≤ i → Judges (held l) (Some missing)
   unfolding ordered total
   judged-all h =
       let none = none_left (held l) i c.walk h in
@@ -59,7 +60,7 @@ module _ {l : List ℕ} {low missing i : ℕ} (c : Judging l low missing i) wher
     unfolding ordered
     next-decides = c.decide ∙ rw (drop-in l i h c.walk.few) refl
 
-    pub judged-out : follows (get_or l 0 0) low judged ≡ false → Judges (held l) false 0
+    pub judged-out : follows (get_or l 0 0) low judged ≡ false → Judges (held l) None
     judged-out f = unlawful-judged (held l) (next-decides ∙ rw f refl)
 
     module _ (f : follows (get_or l 0 0) low judged ≡ true) where

@@ -1,6 +1,6 @@
 -- What the steps of a marking come to.
 use Prim.Native.Nat.{ℕ, ◌≤◌, ◌<◌}
-use mathlib.Core.Path.{◌≡◌, refl}
+use mathlib.Core.Path.{◌≡◌, refl, sym}
 use mathlib.Core.Bool.{true, false}
 use mathlib.Core.List.{List}
 use lib.ListN.{length, get_or}
@@ -11,38 +11,43 @@ use Rattle.gaps.specs.GapRecords.{lawful_record}
 use Rattle.gaps.specs.Marking.{Markable, markable, refusal, acceptance, marked}
 use Rattle.gaps.proofs.GapRecords.{lawful-record-exactly}
 use Rattle.gaps.proofs.Marking.{markable-exactly}
-use Rattle.gap_numbers.specs.Numbers.{held, no_gap_record, record_in, MarksNumbers}
+use Rattle.gap_numbers.specs.Numbers.{held, record_in, MarksNumbers}
 use Rattle.gap_numbers.specs.NumberSteps.{gaps_in, Holds, holding}
-use Rattle.gap_numbers.proofs.Records.{few-numbers, in-numbers}
+use Rattle.gap_numbers.proofs.Records.{lawful-numbers}
 
 module _ (l : List ℕ) (s e : ℕ) where
-  pub short : length l < 130 → marked size_limit (record_in l) s e ≡ refusal 8 no_gap_record
-  unfolding marked markable lawful_record marking
-  short h = rw (few-numbers l h) refl
+  -- refused with 8
+  abbrev Barred : Type 0
+  Barred = MarksNumbers (marked size_limit (record_in l) s e) (record { number = 8; missing = 0 }) l l
 
-  module _ (long : 130 ≤ length l) where
-    barred : markable size_limit (held l) s e ≡ false → marked size_limit (record_in l) s e ≡ refusal 8 (held l)
-    unfolding marked marking
-    barred q = rw (in-numbers l long, q) refl
+  barred : markable size_limit (record_in l) s e ≡ false → Barred
+  unfolding marked marking
+  barred q = rw q (record { told = refl; numbers = refl })
 
-    pub unlawful : lawful_record size_limit (held l) ≡ false → marked size_limit (record_in l) s e ≡ refusal 8 (held l)
+  pub unlawful : false ≡ lawful_record size_limit (record_in l) → Barred
+  unfolding markable
+  unlawful q = barred (rw (← q) refl)
+
+  module _ (lawful : true ≡ lawful_record size_limit (record_in l)) where
+    pub held-in : (130 ≤ length l) × (record_in l ≡ held l)
+    held-in = lawful-numbers l (sym lawful)
+
+    pub held-lawful : true ≡ lawful_record size_limit (held l)
+    held-lawful = rw held-in.1 at lawful
+
+    pub no-range : e ≤ s → Barred
     unfolding markable
-    unlawful q = barred (rw q refl)
+    no-range h = barred (rw (← lawful, le-ltb s e h) refl)
 
-    module _ (lawful : lawful_record size_limit (held l) ≡ true) where
-      pub no-range : e ≤ s → marked size_limit (record_in l) s e ≡ refusal 8 (held l)
+    module _ (order : s < e) where
+      pub outside : get_or l 0 0 < e → Barred
       unfolding markable
-      no-range h = barred (rw (lawful, le-ltb s e h) refl)
+      outside h = barred (rw (← lawful, lt-ltb s e order, held-in.1, lt-leb e (get_or l 0 0) h) refl)
 
-      module _ (order : s < e) where
-        pub outside : get_or l 0 0 < e → marked size_limit (record_in l) s e ≡ refusal 8 (held l)
-        unfolding markable
-        outside h = barred (rw (lawful, lt-ltb s e order, lt-leb e (get_or l 0 0) h) refl)
-
-        pub may : e ≤ get_or l 0 0 → Markable size_limit (held l) s e
-        may inside =
-            let k = (lawful-record-exactly size_limit (held l)).0 lawful in
-            record { counted = k.0; lawful = k.1; order = order; inside = inside }
+      pub may : e ≤ get_or l 0 0 → Markable size_limit (held l) s e
+      may inside =
+          let k = (lawful-record-exactly size_limit (held l)).0 (sym held-lawful) in
+          record { counted = k.0; lawful = k.1; order = order; inside = inside }
 
 -- A range that may be marked
 module _ (l : List ℕ) (s e : ℕ) (long : 130 ≤ length l) (m : Markable size_limit (held l) s e) where

@@ -6,18 +6,17 @@ use mathlib.Core.Path.{◌≡◌, refl, sym, ap, ◌∙◌}
 use mathlib.Core.List.{List, [], ◌∷◌, ◌++◌, map, map-append}
 use lib.ListN.{length, get_or, take, drop, replicate, length-append, length-map, length-drop, length-replicate}
 use lib.Seq.{get_or-drop, take-suc, take-nil, drop-nil, take-take, take-add, drop-drop, drop_at, length-take-le}
-use Rattle.format.specs.Gaps.{Gap, gap, between}
+use Rattle.format.specs.Gaps.{Gap, gap}
 use Rattle.format.specs.Writing.{overwritten}
-use Rattle.output.proofs.Laws.{length-overwritten}
 use Rattle.gaps.specs.declared.Gap.{Gap as Place}
 use Rattle.gaps.specs.GapRecords.{place, place_of, gap_of, spec_record_of}
 use Rattle.gaps.proofs.GapRecords.{At, place_at, gaps-length, gap_at, next-gap}
 use Rattle.gap_numbers.specs.Numbers.{pair_numbers, numbers_of, pairs_in, held}
-use Rattle.gap_numbers.specs.NumberSteps.{gaps_in, gap_number_list, pieces}
+use Rattle.gap_numbers.specs.NumberSteps.{gaps_in, gap_number_list}
 
 -- The gaps of the numbers
 
-pub length_pairs : (n : ℕ) (l : List ℕ) → length (pairs_in n l) ≡ n
+length_pairs : (n : ℕ) (l : List ℕ) → length (pairs_in n l) ≡ n
 unfolding pairs_in
 length_pairs zero l = refl
 length_pairs (suc n) l = ap suc (length_pairs n (drop 2 l))
@@ -69,16 +68,6 @@ length-gap-numbers gaps = length-numbers (map place_of gaps) ∙ ap (λ n. 2 * n
 
 pub gap-numbers-append : (gaps more : List Gap) → gap_number_list (gaps ++ more) ≡ gap_number_list gaps ++ gap_number_list more
 gap-numbers-append gaps more = rw map-append (numbers-append (map place_of gaps) (map place_of more))
-
--- the first piece is put; there is room for the second
-pub second-room : (start end low high : ℕ) (old out : List ℕ) (wrote : ℕ) → 2 * length (pieces start end low high) ≤ length old
-    → wrote ≡ 2 * length (between low start) → out ≡ overwritten (gap_number_list (between low start)) old
-    → wrote + 2 * length (between end high) ≤ length out
-second-room start end low high old out wrote room w q =
-    let n = length-append (between low start) (between end high) in
-    let m = length-gap-numbers (between low start) in
-    let k : length out ≡ length old = ap length q ∙ length-overwritten (gap_number_list (between low start)) old (omega arith) in
-    omega arith
 
 no-numbers : (k : ℕ) → pair_numbers (replicate k (place 0 0)) ≡ replicate (2 * k) 0
 unfolding pair_numbers

@@ -4,12 +4,13 @@ use native.Mathlib.Omega.{arith}
 use mathlib.Core.Path.{◌≡◌, refl, sym, ap, ◌∙◌}
 use mathlib.Core.List.{List, [], ◌∷◌, ◌++◌, append_assoc}
 use lib.ListN.{length, get_or, take, drop, set, length-append, length-drop}
-use lib.Seq.{length-take-le}
+use lib.Seq.{paste, length-take-le}
 use borrow.Rule.Slice.PartMut.{mid_of, put_mid}
+use Rattle.std.specs.List.{copy_within}
 use Rattle.format.specs.Gaps.{Gap, between, subtract}
 use Rattle.format.specs.Writing.{overwritten}
 use Rattle.gap_numbers.specs.declared.Touched.{Touched}
-use Rattle.gap_numbers.specs.NumberSteps.{gaps_in, gap_number_list, Holds, pieces, Touches, Replaceable, moved, cleared, holding}
+use Rattle.gap_numbers.specs.NumberSteps.{gaps_in, gap_number_list, Holds, pieces, Touches, Replaceable, cleared, holding}
 use Rattle.gap_numbers.proofs.Numbers.{length-gap-numbers, gap-numbers-append, first-numbers, last-numbers, record-numbers}
 use Rattle.gap_numbers.proofs.Moves.{all-put}
 use Rattle.gap_numbers.proofs.Loops.{length-gaps}
@@ -79,11 +80,13 @@ module _ {l : List ℕ} {n s e count : ℕ} {t : Touched} (c : Replaceable l n s
   pub room : 2 * first + 2 + 2 * length piece ≤ 130
   room = omega (arith, sizes, few)
 
-  pub replaced : (moved-numbers new cleared-numbers : List ℕ) → moved-numbers ≡ moved l (2 * next + 2) (last - later) later
+  pub replaced : (moved-numbers new cleared-numbers : List ℕ) → moved-numbers ≡ copy_within l (2 * next + 2) (2 * n + 2) (last - later)
       → new ≡ overwritten (gap_number_list piece) (mid_of (2 * first + 2) (length moved-numbers - (2 * first + 2)) moved-numbers)
       → cleared-numbers ≡ cleared (put_mid (2 * first + 2) (length moved-numbers - (2 * first + 2)) moved-numbers new) last
       → set cleared-numbers 1 count ≡ holding left l
   replaced moved-numbers new cleared-numbers moving putting clearing =
       let k : 130 - last ≡ 2 * (64 - length left) = omega arith in
-      let all = all-put l (gap_number_list piece) (2 * first + 2) (2 * next + 2) (last - later) later last fits ends (omega arith) c.holds.long (omega (arith, inside, c.holds.long)) moved-numbers moving new putting in
+      let m : 2 * n + 2 - (2 * next + 2) ≡ later = omega (arith, c.touches.passed, c.holds.counted) in
+      let move = moving ∙ ap (λ j. paste l (last - later) (drop (2 * next + 2) l) j) m in
+      let all = all-put l (gap_number_list piece) (2 * first + 2) (2 * next + 2) (last - later) later last fits ends (omega arith) c.holds.long (omega (arith, inside, c.holds.long)) moved-numbers move new putting in
       ap (λ r. set r 1 count) (clearing ∙ all) ∙ rw (kept-numbers, k, c.counted, record-numbers (get_or l 0 0) left l few) refl

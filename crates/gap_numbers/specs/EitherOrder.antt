@@ -2,8 +2,7 @@
 -- numbers are equal, those after the record too. proofs/EitherOrder shows it.
 use Rattle.std.specs.Prelude.{List, ℕ}
 use Rattle.format.specs.Gaps.{Gap, size_limit}
-use Rattle.gaps.specs.declared.MarkAnswer.{MarkAnswer}
-use Rattle.gaps.specs.Marking.{marked}
+use Rattle.gaps.specs.Marking.{MarkAnswer, marked}
 use Rattle.gap_numbers.specs.Numbers.{MarksNumbers, record_in}
 
 -- Over numbers: what `mark_numbers` promises of its answer and of the numbers that it leaves.

@@ -3,7 +3,6 @@ use Rattle.std.specs.Prelude.{ℕ, ◌-◌, ◌≤◌, ◌<◌, ◌≡◌, List,
 use Rattle.std.proofs.Math.Seq.{paste}
 use Rattle.format.specs.Gaps.{Gap, Ordered, total, between, subtract}
 use Rattle.format.specs.Writing.{overwritten}
-use Rattle.gaps.specs.declared.MarkAnswer.{MarkAnswer}
 use Rattle.gaps.specs.GapRecords.{place_of, gaps_of, spec_record_of}
 use Rattle.gap_numbers.specs.declared.Touched.{Touched}
 use Rattle.gap_numbers.specs.Numbers.{pair_numbers, numbers_of, held}
@@ -44,17 +43,10 @@ pub record Replaceable (l : List ℕ) (n start end : ℕ) (t : Touched) (count :
   pub counted : count ≡ length (subtract (gaps_in l) start end)
   pub few : count ≤ 64
 
--- `count` numbers are copied from one place to another.
-abbrev pub moved : List ℕ → (from to count : ℕ) → List ℕ
-moved l from to count = paste l to (drop from l) count
-
 -- The numbers of a record from `from` on become 0.
 abbrev pub cleared : List ℕ → (from : ℕ) → List ℕ
-cleared l from = paste l from (replicate 130 0) (130 - from)
+cleared l from = paste l from (replicate (130 - from) 0) (130 - from)
 
 -- The record at the front holds these gaps.
 abbrev pub holding : List Gap → List ℕ → List ℕ
 holding gaps l = overwritten (numbers_of (spec_record_of (get_or l 0 0) gaps)) l
-
-abbrev pub refused_with : ℕ → MarkAnswer
-refused_with number = record { number = number; missing = 0 }

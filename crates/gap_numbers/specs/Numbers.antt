@@ -1,14 +1,12 @@
 -- A gap record as 130 numbers: the size, how many gaps, then 64 pairs of start and end; a judgement and a marking of such numbers.
-use Rattle.std.specs.Prelude.{ℕ, zero, suc, ◌≡◌, Bool, List, [], ◌∷◌, length, get_or, drop, replicate, leb, eqb}
+use Rattle.std.specs.Prelude.{ℕ, zero, suc, ◌≡◌, List, [], ◌∷◌, length, get_or, drop, replicate, leb, eqb, Option, is_some, unwrap_or}
 use Rattle.format.specs.Gaps.{size_limit}
 use Rattle.format.specs.Tables.{pick}
 use Rattle.format.specs.Writing.{overwritten}
 use Rattle.gaps.specs.declared.Gap.{Gap}
 use Rattle.gaps.specs.declared.GapRecord.{GapRecord}
-use Rattle.gaps.specs.declared.Marked.{Marked}
-use Rattle.gaps.specs.declared.MarkAnswer.{MarkAnswer}
 use Rattle.gaps.specs.GapRecords.{place, lawful_record, missing_count}
-use Rattle.gaps.specs.Marking.{answer_of}
+use Rattle.gaps.specs.Marking.{MarkAnswer, MarkOutcome, answer_of}
 
 unfoldable pub pair_numbers : List Gap → List ℕ
 pair_numbers [] = []
@@ -33,12 +31,12 @@ no_gap_record = record { size = 0; count = 65; gaps = replicate 64 (place 0 0) }
 unfoldable pub record_in : List ℕ → GapRecord
 record_in l = pick (leb 130 (length l)) (held l) no_gap_record
 
--- Whether a record is lawful, and how many bytes it misses.
-pub record Judges (g : GapRecord) (lawful : Bool) (missing : ℕ) : Type 0 where
-  pub told : lawful ≡ lawful_record size_limit g
-  pub counted : missing ≡ missing_count size_limit g
+-- Whether a record is lawful, which an answer with a number says, and how many bytes it misses: 0 if it is not lawful.
+pub record Judges (g : GapRecord) (answer : Option ℕ) : Type 0 where
+  pub told : is_some answer ≡ lawful_record size_limit g
+  pub counted : unwrap_or answer 0 ≡ missing_count size_limit g
 
 -- A marking over numbers: its answer, and the numbers afterwards. The new record stands at the front; a refusal leaves them as they were.
-pub record MarksNumbers (m : Marked) (answer : MarkAnswer) (old new : List ℕ) : Type 0 where
+pub record MarksNumbers (m : MarkOutcome) (answer : MarkAnswer) (old new : List ℕ) : Type 0 where
   pub told : answer ≡ answer_of m
   pub numbers : new ≡ pick (eqb m.number 0) (overwritten (numbers_of m.after) old) old

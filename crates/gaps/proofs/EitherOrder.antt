@@ -6,19 +6,17 @@ use mathlib.Core.List.{List}
 use Rattle.format.specs.Gaps.{Gap, count, missing, subtract}
 use Rattle.format.proofs.Intervals.{either_order}
 use Rattle.gaps.specs.declared.GapRecord.{GapRecord}
-use Rattle.gaps.specs.declared.Marked.{Marked}
-use Rattle.gaps.specs.declared.MarkAnswer.{MarkAnswer}
 use Rattle.gaps.specs.GapRecords.{gaps_of}
-use Rattle.gaps.specs.Marking.{acceptance, answer_of, marked}
+use Rattle.gaps.specs.Marking.{MarkAnswer, MarkOutcome, acceptance, answer_of, marked}
 use Rattle.gaps.specs.EitherOrder.{ByValue, EitherOrder, InPlace, MarkedInTurn}
 use Rattle.gaps.proofs.Marking.{accepted-as, gaps-after, size-after, zero-exactly}
 
 -- the number of a marking is the one that its answer has
-pub number-told : {a : MarkAnswer} (m : Marked) → a ≡ answer_of m → a.number ≡ 0 → m.number ≡ 0
+pub number-told : {a : MarkAnswer} (m : MarkOutcome) → a ≡ answer_of m → a.number ≡ 0 → m.number ≡ 0
 number-told m e z = sym (ap (λ (x : MarkAnswer). x.number) e) ∙ z
 
 module _ (limit : ℕ) where
-  abbrev after : GapRecord → Gap → Marked
+  abbrev after : GapRecord → Gap → MarkOutcome
   after g r = marked limit g r.start r.end
 
   -- the second of two markings that are accepted
@@ -61,11 +59,11 @@ module _ (limit : ℕ) where
       let x = accepted s in
       let y = accepted t in
       let same = same-marked g r q x.one x.other y.one y.other in
-      (x.answered ∙ ap answer_of same ∙ sym y.answered, x.left ∙ ap (λ (m : Marked). m.after) same ∙ sym y.left)
+      (x.answered ∙ ap answer_of same ∙ sym y.answered, x.left ∙ ap (λ (m : MarkOutcome). m.after) same ∙ sym y.left)
 
   -- a marking by value is one in place, of a record that is passed on
   passed_on : (g : GapRecord) (r : Gap) (a : MarkAnswer) (h : GapRecord) → ByValue limit g r a h → InPlace limit g r a h
-  passed_on g r a h e = (ap answer_of e, ap (λ (m : Marked). m.after) e)
+  passed_on g r a h e = (ap answer_of e, ap (λ (m : MarkOutcome). m.after) e)
 
   both-passed-on : {g h : GapRecord} {r q : Gap} {a : MarkAnswer} → MarkedInTurn (ByValue limit) g r q a h → MarkedInTurn (InPlace limit) g r q a h
   both-passed-on {g} {h} {r} {q} {a} t = record {

@@ -25,7 +25,39 @@ kept (g ∷ l) = rw (kept l) refl
 pub gaps-of-record : (size : ℕ) (l : List Gap) → gaps_of (spec_record_of size l) ≡ l
 gaps-of-record size l = rw (take_at (map place_of l) (replicate (64 - length l) (place 0 0)) (length l) (length-map l place_of)) (kept l)
 
--- A walk over the places of a record, as its loops go: i gaps are passed.
+-- A walk over places, as the loops go over those of a record: i gaps are passed.
+
+-- at the end no gap is left
+pub no-place-left : (places : List Place) (i : ℕ) → length places ≤ i → drop i (map gap_of places) ≡ []
+no-place-left places i h = drop_of_length-le (map gap_of places) {i = i} (omega (arith, length-map places gap_of))
+
+-- before the end: the next gap
+module _ (places : List Place) (i : ℕ) (h : i < length places) where
+  abbrev next : Place
+  next = get_or places i (place 0 0)
+
+  pub next-place : drop i (map gap_of places) ≡ gap_of next ∷ drop (i + 1) (map gap_of places)
+  next-place =
+      let m : i < length (map gap_of places) = omega (arith, length-map places gap_of) in
+      drop-cons (map gap_of places) i (gap 0 0) m ∙ rw (get_or-map gap_of places i (place 0 0), add-one) refl
+
+  pub next-ordered : (size low : ℕ) → ordered size low (drop i (map gap_of places))
+      ≡ (follows size low (gap_of next) && ordered size (next.end + 1) (drop (i + 1) (map gap_of places)))
+  unfolding ordered
+  next-ordered size low = rw next-place refl
+
+  pub next-Ordered : (size : ℕ) → Ordered size 0 (drop i (map gap_of places))
+      → (next.start < next.end) × (next.end ≤ size) × Ordered size 0 (drop (i + 1) (map gap_of places))
+  unfolding Ordered
+  next-Ordered size o =
+      let p : Ordered size 0 (gap_of next ∷ drop (i + 1) (map gap_of places)) = rw next-place at o in
+      (p.1, p.2, weaken size (suc next.end) 0 (drop (i + 1) (map gap_of places)) (omega arith) p.3)
+
+  pub next-total : total (drop i (map gap_of places)) ≡ (next.end - next.start) + total (drop (i + 1) (map gap_of places))
+  unfolding total
+  next-total = rw next-place refl
+
+-- The same over a record by its count, for loops over other forms of it: i gaps are passed.
 pub record At (g : GapRecord) (i : ℕ) : Type 0 where
   pub passed : i ≤ g.count
   pub few : g.count ≤ 64
@@ -40,35 +72,13 @@ gaps-length g i a = length-map (take g.count g.gaps) gap_of ∙ simp length-take
 pub gap_at : (g : GapRecord) (i : ℕ) → i < g.count → get_or (gaps_of g) i (gap 0 0) ≡ gap_of (place_at g i)
 gap_at g i h = get_or-map gap_of (take g.count g.gaps) i (place 0 0) ∙ ap gap_of (get_or-take g.count g.gaps i (place 0 0) h)
 
--- at the end no gap is left
 pub none_left : (g : GapRecord) (i : ℕ) → At g i → g.count ≤ i → drop i (gaps_of g) ≡ []
 none_left g i a h = drop_of_length-le (gaps_of g) {i = i} (omega (arith, gaps-length g i a))
 
--- before the end: the next gap
-module _ (g : GapRecord) (i : ℕ) (a : At g i) (h : i < g.count) where
-  pub next-at : At g (i + 1)
-  next-at = record { passed = omega arith; few = a.few; places = a.places }
-
-  pub next-gap : drop i (gaps_of g) ≡ gap_of (place_at g i) ∷ drop (i + 1) (gaps_of g)
-  next-gap =
-      let m : i < length (gaps_of g) = omega (arith, gaps-length g i a) in
-      drop-cons (gaps_of g) i (gap 0 0) m ∙ rw (gap_at g i h, add-one) refl
-
-  pub next-ordered : (size low : ℕ) → ordered size low (drop i (gaps_of g))
-      ≡ (follows size low (gap_of (place_at g i)) && ordered size ((place_at g i).end + 1) (drop (i + 1) (gaps_of g)))
-  unfolding ordered
-  next-ordered size low = rw next-gap refl
-
-  pub next-Ordered : (size : ℕ) → Ordered size 0 (drop i (gaps_of g))
-      → ((place_at g i).start < (place_at g i).end) × ((place_at g i).end ≤ size) × Ordered size 0 (drop (i + 1) (gaps_of g))
-  unfolding Ordered
-  next-Ordered size o =
-      let p : Ordered size 0 (gap_of (place_at g i) ∷ drop (i + 1) (gaps_of g)) = rw next-gap at o in
-      (p.1, p.2, weaken size (suc (place_at g i).end) 0 (drop (i + 1) (gaps_of g)) (omega arith) p.3)
-
-  pub next-total : total (drop i (gaps_of g)) ≡ ((place_at g i).end - (place_at g i).start) + total (drop (i + 1) (gaps_of g))
-  unfolding total
-  next-total = rw next-gap refl
+pub next-gap : (g : GapRecord) (i : ℕ) → At g i → i < g.count → drop i (gaps_of g) ≡ gap_of (place_at g i) ∷ drop (i + 1) (gaps_of g)
+next-gap g i a h =
+    let m : i < length (gaps_of g) = omega (arith, gaps-length g i a) in
+    drop-cons (gaps_of g) i (gap 0 0) m ∙ rw (gap_at g i h, add-one) refl
 
 -- Lawful records
 

@@ -9,13 +9,12 @@ use mathlib.Core.List.{List, [], ◌∷◌, ◌++◌}
 use lib.ListN.{length}
 use lib.Dec.{ltb, eqb}
 use borrow.Author.Tests.{lt-ltb, le-leb, lt-leb, ltb-true, leb-true, eqb-true, eqb-false}
+use Rattle.std.specs.Prelude.{Some, None}
 use Rattle.format.specs.Gaps.{Gap, within, missing, Ordered, count, total, subtract, marking}
 use Rattle.format.proofs.Gaps.{never, both_true, outside-both, subtract-ordered, subtract-lawful, missing-subtract, total-count, count_same}
 use Rattle.gaps.specs.declared.GapRecord.{GapRecord}
-use Rattle.gaps.specs.declared.Marked.{Marked}
-use Rattle.gaps.specs.declared.Pushed.{Pushed}
 use Rattle.gaps.specs.GapRecords.{gaps_of, spec_record_of, lawful_record, missing_count}
-use Rattle.gaps.specs.Marking.{Markable, markable, refusal, acceptance, marked, covered, mark_all, accepted_ranges}
+use Rattle.gaps.specs.Marking.{MarkOutcome, Markable, markable, refusal, acceptance, marked, covered, mark_all, accepted_ranges}
 use Rattle.gaps.specs.MarkingSteps.{subtracted}
 use Rattle.gaps.proofs.GapRecords.{gaps-of-record, lawful-record-exactly}
 
@@ -31,7 +30,7 @@ markable-exactly limit g s e = (
 )
 
 -- The steps of `mark` come to its answer: p is what its subtraction returns.
-module _ (limit : ℕ) (g : GapRecord) (s e : ℕ) (k : markable limit g s e ≡ true) (p : Pushed) (q : p ≡ subtracted g s e) where
+module _ (limit : ℕ) (g : GapRecord) (s e : ℕ) (k : markable limit g s e ≡ true) where
   abbrev left : List Gap
   left = subtract (gaps_of g) s e
 
@@ -40,36 +39,35 @@ module _ (limit : ℕ) (g : GapRecord) (s e : ℕ) (k : markable limit g s e ≡
       let m = (markable-exactly limit g s e).0 k in
       subtract-ordered g.size 0 (gaps_of g) s e m.order m.lawful.ordered
 
-  pub marked-full : p.full ≡ true → marked limit g s e ≡ refusal 6 g
+  pub marked-full : subtracted g s e ≡ None → marked limit g s e ≡ refusal 6 g
   unfolding marked marking subtracted
   marked-full f = go (dec_le (length left) 64)
     where
       go : Dec (length left ≤ 64) → marked limit g s e ≡ refusal 6 g
-      go (yes h) = never p.full f (rw (q, le-leb (length left) 64 h) refl)
+      go (yes h) = let r = rw (le-leb (length left) 64 h) at f in absurd cc
       go (no h) = rw (k, lt-leb (length left) 64 (omega arith)) refl
 
-  room : p.full ≡ false → (length left ≤ 64) × (p.after ≡ spec_record_of g.size left)
-  unfolding subtracted
-  room f = go (dec_le (length left) 64)
-    where
-      go : Dec (length left ≤ 64) → (length left ≤ 64) × (p.after ≡ spec_record_of g.size left)
-      go (yes h) = (h, rw (q, le-leb (length left) 64 h) refl)
-      go (no h) = never p.full (rw (q, lt-leb (length left) 64 (omega arith)) refl) f
+  module _ (h : GapRecord) (f : subtracted g s e ≡ Some h) where
+    room : (length left ≤ 64) × (h ≡ spec_record_of g.size left)
+    unfolding subtracted
+    room = go (dec_le (length left) 64)
+      where
+        go : Dec (length left ≤ 64) → (length left ≤ 64) × (h ≡ spec_record_of g.size left)
+        go (yes few) = let r = rw (le-leb (length left) 64 few) at f in (few, cc)
+        go (no many) = let r = rw (lt-leb (length left) 64 (omega arith)) at f in absurd cc
 
-  pub after-ordered : p.full ≡ false → (p.after.count ≤ 64) × Ordered p.after.size 0 (gaps_of p.after)
-  after-ordered f = let r = room f in rw r.1 (r.0, rw (gaps-of-record g.size left) left-ordered)
+    pub after-ordered : (h.count ≤ 64) × Ordered h.size 0 (gaps_of h)
+    after-ordered = rw room.1 (room.0, rw (gaps-of-record g.size left) left-ordered)
 
-  pub marked-room : p.full ≡ false → (n : ℕ) → n ≡ total (gaps_of p.after)
-      → marked limit g s e ≡ record { number = 0; missing = n; after = p.after }
-  unfolding marked marking
-  marked-room f n h =
-      let r = room f in
-      let t : total (gaps_of p.after) ≡ total left = rw r.1 (ap total (gaps-of-record g.size left)) in
-      rw (k, le-leb (length left) 64 r.0, h ∙ t ∙ total-count g.size 0 left left-ordered, r.1) refl
+    pub marked-room : (n : ℕ) → n ≡ total (gaps_of h) → marked limit g s e ≡ record { number = 0; missing = n; after = h }
+    unfolding marked marking
+    marked-room n q =
+        let t : total (gaps_of h) ≡ total left = rw room.1 (ap total (gaps-of-record g.size left)) in
+        rw (k, le-leb (length left) 64 room.0, q ∙ t ∙ total-count g.size 0 left left-ordered, room.1) refl
 
 -- The answer to one marking
 module _ (limit : ℕ) (g : GapRecord) (s e : ℕ) where
-  abbrev answer : Marked
+  abbrev answer : MarkOutcome
   answer = marked limit g s e
 
   abbrev rest : List Gap
@@ -90,8 +88,8 @@ module _ (limit : ℕ) (g : GapRecord) (s e : ℕ) where
       go true q (no h) = too_many ((markable-exactly limit g s e).0 q) (omega arith) (rw (q, lt-leb (length rest) 64 (omega arith)) refl)
       go true q (yes h) = accepted ((markable-exactly limit g s e).0 q) h (rw (q, le-leb (length rest) 64 h) refl)
 
-  numbered : {m : Marked} → answer ≡ m → answer.number ≡ m.number
-  numbered q = ap (λ (m : Marked). m.number) q
+  numbered : {m : MarkOutcome} → answer ≡ m → answer.number ≡ m.number
+  numbered q = ap (λ (m : MarkOutcome). m.number) q
 
   -- 0: the range may be marked, and at most 64 gaps are left
   pub zero-exactly : (answer.number ≡ 0) ↔ (Markable limit g s e × (length rest ≤ 64))
@@ -185,7 +183,7 @@ module _ (limit : ℕ) (g : GapRecord) (s e : ℕ) where
 
 -- one marking more at the front: what holds of the record after it holds of the record before it
 module _ (limit : ℕ) (g : GapRecord) (r : Gap) (ranges : List Gap) (x : ℕ) where
-  abbrev first : Marked
+  abbrev first : MarkOutcome
   first = marked limit g r.start r.end
 
   abbrev others : List Gap

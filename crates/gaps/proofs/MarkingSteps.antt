@@ -6,20 +6,16 @@ use native.Mathlib.Numerals.{add-one}
 use mathlib.Core.Path.{◌≡◌, refl, ap, ◌∙◌}
 use mathlib.Core.Bool.{Bool, true, false, cond}
 use mathlib.Core.List.{List, [], ◌∷◌, ◌++◌, map, map-append, append_assoc, append-nil}
-use lib.ListN.{length, take, drop, set, replicate, length-append, length-map, take-append-drop}
+use lib.ListN.{length, get_or, take, drop, set, replicate, get_or-map, length-append, length-map, take-append-drop}
 use lib.Seq.{take_all, take-suc, append_snoc, set_at}
 use lib.Dec.{ltb}
 use borrow.Author.Tests.{lt-ltb, le-ltb, le-leb, lt-leb}
+use Rattle.std.specs.Prelude.{Some, None}
 use Rattle.format.specs.Gaps.{Gap, gap, between, remaining, subtract}
-use Rattle.format.proofs.Gaps.{never}
+use Rattle.gaps.specs.declared.Gap.{Gap as Place}
 use Rattle.gaps.specs.declared.GapRecord.{GapRecord}
-use Rattle.gaps.specs.declared.Pushed.{Pushed}
 use Rattle.gaps.specs.GapRecords.{place, place_of, gap_of, gaps_of, spec_record_of}
 use Rattle.gaps.specs.MarkingSteps.{pushed, pushed_remaining, subtracted}
-use Rattle.gaps.proofs.GapRecords.{At, place_at, gaps-length, gap_at, next-at}
-
-abbrev pub added : ℕ → List Gap → Pushed
-added size l = record { full = false; after = spec_record_of size l }
 
 one_more : (size : ℕ) (l : List Gap) (x : Gap) → length l < 64
     → ◌≡◌ {A = GapRecord} (record { size = size; count = length l + 1; gaps = set (spec_record_of size l).gaps (length l) (place_of x) })
@@ -30,11 +26,11 @@ one_more size l x h =
     rw (k, set_at (map place_of l) (place 0 0) free (place_of x) (length l) (length-map l place_of), length-append, map-append, append_snoc) refl
 
 -- where a place is free for it, a gap is added; else the record is full
-push-room : (size a b : ℕ) (l : List Gap) → length (l ++ between a b) ≤ 64 → pushed (spec_record_of size l) a b ≡ added size (l ++ between a b)
+push-room : (size a b : ℕ) (l : List Gap) → length (l ++ between a b) ≤ 64 → pushed (spec_record_of size l) a b ≡ Some (spec_record_of size (l ++ between a b))
 unfolding pushed between
 push-room size a b l h = go (dec_lt a b) h
   where
-    go : Dec (a < b) → length (l ++ between a b) ≤ 64 → pushed (spec_record_of size l) a b ≡ added size (l ++ between a b)
+    go : Dec (a < b) → length (l ++ between a b) ≤ 64 → pushed (spec_record_of size l) a b ≡ Some (spec_record_of size (l ++ between a b))
     go (yes t) m =
         let e = lt-ltb a b t in
         let m' : length (l ++ (gap a b ∷ [])) ≤ 64 = rw e at m in
@@ -43,19 +39,19 @@ push-room size a b l h = go (dec_lt a b) h
     go (no f) m = rw (le-ltb a b (omega arith), append-nil) refl
 
 -- an empty record has room for a gap
-pub push-first : (size a b : ℕ) → pushed (spec_record_of size []) a b ≡ added size (between a b)
+pub push_first : (size a b : ℕ) → pushed (spec_record_of size []) a b ≡ Some (spec_record_of size (between a b))
 unfolding between
-push-first size a b = push-room size a b [] (go (ltb a b))
+push_first size a b = push-room size a b [] (go (ltb a b))
   where
     go : (t : Bool) → length (cond t (gap a b ∷ []) []) ≤ 64
     go true = omega arith
     go false = omega arith
 
-push-full : (size a b : ℕ) (l : List Gap) → length l ≤ 64 → 64 < length (l ++ between a b) → (pushed (spec_record_of size l) a b).full ≡ true
+push-full : (size a b : ℕ) (l : List Gap) → length l ≤ 64 → 64 < length (l ++ between a b) → pushed (spec_record_of size l) a b ≡ None
 unfolding pushed between
 push-full size a b l k h = go (dec_lt a b) h
   where
-    go : Dec (a < b) → 64 < length (l ++ between a b) → (pushed (spec_record_of size l) a b).full ≡ true
+    go : Dec (a < b) → 64 < length (l ++ between a b) → pushed (spec_record_of size l) a b ≡ None
     go (yes t) m =
         let e = lt-ltb a b t in
         let m' : 64 < length (l ++ (gap a b ∷ [])) = rw e at m in
@@ -73,27 +69,26 @@ module _ (size : ℕ) (l : List Gap) (x : Gap) (s e : ℕ) where
   abbrev right : List Gap
   right = between (max x.start e) x.end
 
-  remaining-room : length (l ++ remaining x s e) ≤ 64 → pushed_remaining (spec_record_of size l) x s e ≡ added size (l ++ remaining x s e)
+  remaining-room : length (l ++ remaining x s e) ≤ 64 → pushed_remaining (spec_record_of size l) x s e ≡ Some (spec_record_of size (l ++ remaining x s e))
   unfolding pushed_remaining remaining
   remaining-room h =
       let k : length (l ++ left) ≤ 64 = simp length-append (omega (arith, simp length-append at h)) in
       let m : length ((l ++ left) ++ right) ≤ 64 = rw append_assoc h in
       rw (push-room size x.start (min x.end s) l k) (push-room size (max x.start e) x.end (l ++ left) m ∙ rw append_assoc refl)
 
-  remaining-full : length l ≤ 64 → 64 < length (l ++ remaining x s e) → (pushed_remaining (spec_record_of size l) x s e).full ≡ true
+  remaining-full : length l ≤ 64 → 64 < length (l ++ remaining x s e) → pushed_remaining (spec_record_of size l) x s e ≡ None
   unfolding pushed_remaining remaining
   remaining-full k h = go (dec_le (length (l ++ left)) 64)
     where
-      go : Dec (length (l ++ left) ≤ 64) → (pushed_remaining (spec_record_of size l) x s e).full ≡ true
+      go : Dec (length (l ++ left) ≤ 64) → pushed_remaining (spec_record_of size l) x s e ≡ None
       go (yes r) =
           rw (push-room size x.start (min x.end s) l r) (push-full size (max x.start e) x.end (l ++ left) r (rw append_assoc h))
       go (no f) = rw (push-full size x.start (min x.end s) l k (omega arith)) refl
 
--- The loop of a subtraction: i gaps are passed, and the record made holds what is left of them.
-pub record Made (g : GapRecord) (s e i : ℕ) (made : GapRecord) : Type 0 where
-  pub at : At g i
-  pub holds : made ≡ spec_record_of g.size (subtract (take i (gaps_of g)) s e)
-  pub few : length (subtract (take i (gaps_of g)) s e) ≤ 64
+-- The loop of a subtraction: i places are passed, and the record made holds what is left of their gaps.
+pub record Made (size : ℕ) (places : List Place) (s e i : ℕ) (made : GapRecord) : Type 0 where
+  pub holds : made ≡ spec_record_of size (subtract (take i (map gap_of places)) s e)
+  pub few : length (subtract (take i (map gap_of places)) s e) ≤ 64
 
 subtract-append : (l m : List Gap) (s e : ℕ) → subtract (l ++ m) s e ≡ subtract l s e ++ subtract m s e
 unfolding subtract
@@ -106,50 +101,48 @@ subtract-grows l i s e =
     let r : length (subtract l s e) ≡ length (subtract (take i l) s e ++ subtract (drop i l) s e) = rw take-append-drop at (ap length q) in
     omega (arith, simp length-append at r)
 
--- a turn of the loop, whose `push_remaining` answers p
-module _ (g : GapRecord) (s e i : ℕ) (made : GapRecord) (m : Made g s e i made) (h : i < g.count) (p : Pushed)
-    (q : p ≡ pushed_remaining made (gap_of (place_at g i)) s e) where
+-- a turn of the loop
+module _ (g : GapRecord) (s e i : ℕ) (made : GapRecord) (m : Made g.size (take g.count g.gaps) s e i made) (h : i < length (take g.count g.gaps)) where
   abbrev so_far : List Gap
   so_far = subtract (take i (gaps_of g)) s e
 
   abbrev then : List Gap
   then = subtract (take (i + 1) (gaps_of g)) s e
 
-  one-gap-more : then ≡ so_far ++ remaining (gap_of (place_at g i)) s e
+  abbrev next : Place
+  next = get_or (take g.count g.gaps) i (place 0 0)
+
+  one-gap-more : then ≡ so_far ++ remaining (gap_of next) s e
   unfolding subtract
   one-gap-more =
-      let k : i < length (gaps_of g) = omega (arith, gaps-length g i m.at) in
-      rw (add-one, take-suc (gaps_of g) i (gap 0 0), subtract-append, append-nil, gap_at g i h) refl
+      let k : i < length (gaps_of g) = omega (arith, length-map (take g.count g.gaps) gap_of) in
+      rw (add-one, take-suc (gaps_of g) i (gap 0 0), subtract-append, append-nil, get_or-map gap_of (take g.count g.gaps) i (place 0 0)) refl
 
-  answered : p ≡ pushed_remaining (spec_record_of g.size so_far) (gap_of (place_at g i)) s e
-  answered = q ∙ rw m.holds refl
+  room : length then ≤ 64 → pushed_remaining made (gap_of next) s e ≡ Some (spec_record_of g.size then)
+  room k = rw m.holds (remaining-room g.size so_far (gap_of next) s e (rw one-gap-more at k) ∙ rw one-gap-more refl)
 
-  room : length then ≤ 64 → p ≡ added g.size then
-  room k = answered ∙ remaining-room g.size so_far (gap_of (place_at g i)) s e (rw one-gap-more at k) ∙ rw one-gap-more refl
+  no_room : 64 < length then → pushed_remaining made (gap_of next) s e ≡ None
+  no_room k = rw m.holds (remaining-full g.size so_far (gap_of next) s e m.few (rw one-gap-more at k))
 
-  no_room : 64 < length then → p.full ≡ true
-  no_room k =
-      ap (λ (r : Pushed). r.full) answered ∙ remaining-full g.size so_far (gap_of (place_at g i)) s e m.few (rw one-gap-more at k)
-
-  pub made_more : p.full ≡ false → Made g s e (i + 1) p.after
-  made_more f = go (dec_le (length then) 64)
+  pub made_more : (after : GapRecord) → pushed_remaining made (gap_of next) s e ≡ Some after → Made g.size (take g.count g.gaps) s e (i + 1) after
+  made_more after f = go (dec_le (length then) 64)
     where
-      go : Dec (length then ≤ 64) → Made g s e (i + 1) p.after
-      go (yes k) = record { at = next-at g i m.at h; holds = ap (λ (r : Pushed). r.after) (room k); few = k }
-      go (no k) = never p.full (no_room (omega arith)) f
+      go : Dec (length then ≤ 64) → Made g.size (take g.count g.gaps) s e (i + 1) after
+      go (yes k) = let r = room k in record { holds = cc; few = k }
+      go (no k) = let r = no_room (omega arith) in absurd cc
 
-  pub made-full : p.full ≡ true → subtracted g s e ≡ record { full = true; after = g }
+  pub made-full : pushed_remaining made (gap_of next) s e ≡ None → subtracted g s e ≡ None
   unfolding subtracted
   made-full f = go (dec_le (length then) 64)
     where
-      go : Dec (length then ≤ 64) → subtracted g s e ≡ record { full = true; after = g }
-      go (yes k) = never p.full f (ap (λ (r : Pushed). r.full) (room k))
+      go : Dec (length then ≤ 64) → subtracted g s e ≡ None
+      go (yes k) = let r = room k in absurd cc
       go (no k) = rw (lt-leb (length (subtract (gaps_of g) s e)) 64 (omega (arith, subtract-grows (gaps_of g) (i + 1) s e))) refl
 
-pub made_all : (g : GapRecord) (s e i : ℕ) (made : GapRecord) → Made g s e i made → g.count ≤ i
-    → subtracted g s e ≡ record { full = false; after = made }
+pub made_all : (g : GapRecord) (s e i : ℕ) (made : GapRecord) → Made g.size (take g.count g.gaps) s e i made → length (take g.count g.gaps) ≤ i
+    → subtracted g s e ≡ Some made
 unfolding subtracted
 made_all g s e i made m h =
-    let t = take_all i (gaps_of g) (omega (arith, gaps-length g i m.at)) in
+    let t = take_all i (gaps_of g) (omega (arith, length-map (take g.count g.gaps) gap_of)) in
     let few : length (subtract (gaps_of g) s e) ≤ 64 = rw t at m.few in
     rw (le-leb (length (subtract (gaps_of g) s e)) 64 few, m.holds, t) refl

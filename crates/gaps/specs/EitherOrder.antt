@@ -3,8 +3,7 @@
 use Rattle.std.specs.Prelude.{ℕ, ◌≡◌}
 use Rattle.format.specs.Gaps.{Gap}
 use Rattle.gaps.specs.declared.GapRecord.{GapRecord}
-use Rattle.gaps.specs.declared.MarkAnswer.{MarkAnswer}
-use Rattle.gaps.specs.Marking.{answer_of, marked}
+use Rattle.gaps.specs.Marking.{MarkAnswer, answer_of, marked}
 
 -- Two markings one after the other, neither of them refused. `Marks` says of one what it is given, the range, its answer and what it leaves.
 -- A range is written as the gap that it would be.

@@ -3,13 +3,13 @@
 
 #![tactic(auto)]
 
-ghost use Rattle.std.specs.Prelude.{◌≡◌, ◌≤◌, min, max};
+ghost use Rattle.std.specs.Prelude.{◌≡◌, ◌≤◌};
 ghost use Rattle.format.specs.Gaps.{Ordered, total, follows, size_limit};
 ghost use Rattle.gaps.specs.GapRecords.{gap_of, gaps_of, spec_none_missing, spec_all_missing, lawful_record, missing_count};
-ghost use Rattle.gaps.specs.Marking.{markable, refusal, marked, answer_of};
+ghost use Rattle.gaps.specs.Marking.{markable, mark_meaning, answer_meaning, marked, answer_of};
 ghost use Rattle.gaps.specs.MarkingSteps.{pushed, pushed_remaining, subtracted};
 
-use output::{LIMIT, RANGE};
+use output::Refusal;
 
 // The largest size of a file: `size_limit` in the format's specs/Gaps.antt.
 pub const SIZE_LIMIT: u64 = 4294967295;
@@ -18,41 +18,25 @@ pub const SIZE_LIMIT: u64 = 4294967295;
 pub const GAP_LIMIT: usize = 64;
 
 // The missing bytes from `start` up to `end`, `end` not included.
-#[derive(Clone, Copy)]
+#[derive(Clone, Copy, PartialEq, Eq, Debug)]
 pub struct Gap {
     pub start: u64,
     pub end: u64,
 }
 
 // The first `count` places hold the gaps. In every record made here the others hold 0; in a record given they are not checked.
-#[derive(Clone, Copy)]
+#[derive(Clone, Copy, PartialEq, Eq, Debug)]
 pub struct GapRecord {
     pub size: u64,
     pub count: usize,
     pub gaps: [Gap; GAP_LIMIT],
 }
 
-// The answer to a marking: 0 or the number of the refusal, how many bytes are still missing (0 on a refusal), and the
-// record afterwards (on a refusal the one given).
-#[derive(Clone, Copy)]
+// What an accepted marking leaves: how many bytes are still missing, and the record afterwards.
+#[derive(Clone, Copy, PartialEq, Eq, Debug)]
 pub struct Marked {
-    pub number: u8,
     pub missing: u64,
     pub after: GapRecord,
-}
-
-// The answer to a marking in place: the record afterwards is the one that was lent.
-#[derive(Clone, Copy)]
-pub struct MarkAnswer {
-    pub number: u8,
-    pub missing: u64,
-}
-
-// A record after a gap was added to it; or the record before, and `full`, where all 64 places were taken.
-#[derive(Clone, Copy)]
-struct Pushed {
-    full: bool,
-    after: GapRecord,
 }
 
 pub fn none_missing(size: u64) -> GapRecord
@@ -66,14 +50,15 @@ pub fn none_missing(size: u64) -> GapRecord
 }
 
 // A file of size 0 has no gap.
+#[tactic(auto, using(crate::proofs::MarkingSteps::push_first))]
 pub fn all_missing(size: u64) -> GapRecord
     ensures { result ≡ spec_all_missing size }
 {
-    let pushed = push(none_missing(size), 0, size);
-    pushed.after
+    push(none_missing(size), 0, size).unwrap()
 }
 
 // Whether a gap may stand after gaps that end before `low`.
+#[tactic(auto, using(std::proofs::lemmas::Bool::Decides::nat_tests), unfolding(format::specs::Gaps::follows))]
 fn may_follow(x: Gap, low: u64, size: u64) -> bool
     ensures { result ≡ follows size low (gap_of x) }
 {
@@ -86,26 +71,22 @@ fn may_follow(x: Gap, low: u64, size: u64) -> bool
     x.end <= size
 }
 
+#[tactic(auto, using(std::proofs::lemmas::Bool::Decides::nat_tests), unfolding(crate::specs::GapRecords::lawful_record, format::specs::Gaps::lawful))]
 pub fn is_lawful(given: GapRecord) -> bool
     ensures { result ≡ lawful_record size_limit given }
 {
-    let count = given.count;
-    let size = given.size;
-    if GAP_LIMIT < count {
+    if GAP_LIMIT < given.count {
         return false;
     }
-    if SIZE_LIMIT < size {
+    if SIZE_LIMIT < given.size {
         return false;
     }
     let mut low = 0;
-    let mut i = 0;
-    while i < count {
-        let gap = given.gaps[i];
-        if !may_follow(gap, low, size) {
+    for gap in &given.gaps[..given.count] {
+        if !may_follow(*gap, low, given.size) {
             return false;
         }
         low = gap.end + 1;
-        i += 1;
     }
     true
 }
@@ -115,18 +96,15 @@ fn sum_lengths(given: GapRecord) -> u64
     requires { (given.count ≤ 64) × Ordered given.size 0 (gaps_of given) }
     ensures { result ≡ total (gaps_of given) }
 {
-    let count = given.count;
     let mut sum = 0;
-    let mut i = 0;
-    while i < count {
-        let gap = given.gaps[i];
+    for gap in &given.gaps[..given.count] {
         sum += gap.end - gap.start;
-        i += 1;
     }
     sum
 }
 
 // How many bytes are missing; 0 for a record that is not lawful.
+#[tactic(auto, unfolding(crate::specs::GapRecords::missing_count))]
 pub fn count_missing(given: GapRecord) -> u64
     ensures { result ≡ missing_count size_limit given }
 {
@@ -136,22 +114,17 @@ pub fn count_missing(given: GapRecord) -> u64
     sum_lengths(given)
 }
 
-// Adds the gap from `from` up to `to`, if that holds a byte.
-fn push(given: GapRecord, from: u64, to: u64) -> Pushed
+// Adds the gap from `from` up to `to`, if that holds a byte. None where all 64 places are taken.
+#[tactic(auto, using(std::proofs::lemmas::Bool::Decides::nat_tests), unfolding(crate::specs::MarkingSteps::pushed))]
+fn push(given: GapRecord, from: u64, to: u64) -> Option<GapRecord>
     ensures { result ≡ pushed given from to }
 {
-    let count = given.count;
     if to <= from {
-        return Pushed {
-            full: false,
-            after: given,
-        };
+        return Some(given);
     }
+    let count = given.count;
     if GAP_LIMIT <= count {
-        return Pushed {
-            full: true,
-            after: given,
-        };
+        return None;
     }
     let mut next = given;
     next.gaps[count] = Gap {
@@ -159,116 +132,66 @@ fn push(given: GapRecord, from: u64, to: u64) -> Pushed
         end: to,
     };
     next.count = count + 1;
-    Pushed {
-        full: false,
-        after: next,
-    }
-}
-
-fn smaller(one: u64, other: u64) -> u64
-    ensures { result ≡ min one other }
-{
-    if one < other { one } else { other }
-}
-
-fn larger(one: u64, other: u64) -> u64
-    ensures { result ≡ max one other }
-{
-    if one < other { other } else { one }
+    Some(next)
 }
 
 // Adds what is left of the gap x on either side of the range.
-fn push_remaining(given: GapRecord, x: Gap, start: u64, end: u64) -> Pushed
+#[tactic(auto, unfolding(crate::specs::MarkingSteps::pushed_remaining))]
+fn push_remaining(given: GapRecord, x: Gap, start: u64, end: u64) -> Option<GapRecord>
     ensures { result ≡ pushed_remaining given (gap_of x) start end }
 {
-    let pushed = push(given, x.start, smaller(x.end, start));
-    if pushed.full {
-        return pushed;
-    }
-    let after = pushed.after;
-    push(after, larger(x.start, end), x.end)
+    let before = push(given, x.start, x.end.min(start))?;
+    push(before, x.start.max(end), x.end)
 }
 
-// The record with the range taken out of its gaps.
-fn subtract(given: GapRecord, start: u64, end: u64) -> Pushed
+// The record with the range taken out of its gaps, if 64 places hold what is left.
+fn subtract(given: GapRecord, start: u64, end: u64) -> Option<GapRecord>
     requires { given.count ≤ 64 }
     ensures { result ≡ subtracted given start end }
 {
-    let count = given.count;
     let mut made = none_missing(given.size);
-    let mut i = 0;
-    while i < count {
-        let gap = given.gaps[i];
-        let pushed = push_remaining(made, gap, start, end);
-        if pushed.full {
-            return Pushed {
-                full: true,
-                after: given,
-            };
-        }
-        let after = pushed.after;
-        made = after;
-        i += 1;
+    for gap in &given.gaps[..given.count] {
+        made = push_remaining(made, *gap, start, end)?;
     }
-    Pushed {
-        full: false,
-        after: made,
-    }
+    Some(made)
 }
 
 // Whether the range may be marked: the record is lawful, and start < end ≤ size.
+#[tactic(auto, using(std::proofs::lemmas::Bool::Decides::nat_tests), unfolding(crate::specs::Marking::markable))]
 fn is_markable(given: GapRecord, start: u64, end: u64) -> bool
     ensures { result ≡ markable size_limit given start end }
 {
-    let size = given.size;
     if !is_lawful(given) {
         return false;
     }
     if end <= start {
         return false;
     }
-    end <= size
-}
-
-fn refused(number: u8, given: GapRecord) -> Marked
-    ensures { result ≡ refusal number given }
-{
-    Marked {
-        number,
-        missing: 0,
-        after: given,
-    }
+    end <= given.size
 }
 
 // The bytes from `start` up to `end` have arrived.
-pub fn mark(given: GapRecord, start: u64, end: u64) -> Marked
-    ensures { result ≡ marked size_limit given start end }
+#[tactic(auto, unfolding(crate::specs::Marking::marked, format::specs::Gaps::marking))]
+pub fn mark(given: GapRecord, start: u64, end: u64) -> Result<Marked, Refusal>
+    ensures { mark_meaning given result ≡ marked size_limit given start end }
 {
     if !is_markable(given, start, end) {
-        return refused(RANGE, given);
+        return Err(Refusal::Data);
     }
-    let left = subtract(given, start, end);
-    if left.full {
-        return refused(LIMIT, given);
-    }
-    let after = left.after;
+    let Some(after) = subtract(given, start, end) else {
+        return Err(Refusal::Limit);
+    };
     let missing = sum_lengths(after);
-    Marked {
-        number: 0,
-        missing,
-        after,
-    }
+    Ok(Marked { missing, after })
 }
 
-// The same over a record that is lent: it holds the new gaps afterwards, and a refusal leaves it equal.
-pub fn mark_in_place(given: &mut GapRecord, start: u64, end: u64) -> MarkAnswer
-    ensures { (result ≡ answer_of (marked size_limit given.old start end))
+// The same over a record that is lent: it holds the new gaps afterwards, and a refusal leaves it equal. The answer is how many bytes
+// are still missing.
+pub fn mark_in_place(given: &mut GapRecord, start: u64, end: u64) -> Result<u64, Refusal>
+    ensures { (answer_meaning result ≡ answer_of (marked size_limit given.old start end))
         × (given.new ≡ (marked size_limit given.old start end).after) }
 {
-    let m = mark(*given, start, end);
-    *given = m.after;
-    MarkAnswer {
-        number: m.number,
-        missing: m.missing,
-    }
+    let marked = mark(*given, start, end)?;
+    *given = marked.after;
+    Ok(marked.missing)
 }

@@ -3,7 +3,6 @@ use Prim.Native.Nat.{ℕ}
 use mathlib.Core.Path.{◌≡◌, sym, subst, ◌∙◌}
 use mathlib.Core.Bool.{Bool, true, false}
 use mathlib.Core.Logic.{◌↔◌}
-use mathlib.Core.List.{List}
 use Rattle.format.specs.Tables.{same}
 use Rattle.format.specs.Messages.{PartMet}
 use Rattle.format.specs.Rules.{SizeIs}
@@ -38,9 +37,9 @@ module _ (o a b : PartMet) (n : ℕ) where
   no-model t h sized f size m = never t (h.1 (subst (λ k. OneModel k o a b) (same_size size n (tags_of o) m.sizes.0 sized) m)) f
 
 -- Files of one model have one size.
-pub same-sizes : (s t u : List ℕ) (base one other : Read) → Reads t one → Reads u other →
-    OneModel base.gaps.size (part_from s base) (part_from t one) (part_from u other) → SameSizes base one other
-same-sizes s t u base one other h k m = (
-  same_size one.gaps.size base.gaps.size (tags_of (part_from t one)) (sized_of t one h) m.sizes.1.0,
-  same_size other.gaps.size base.gaps.size (tags_of (part_from u other)) (sized_of u other k) m.sizes.1.1,
+pub same-sizes : (opened first second : Read) → Reads first → Reads second →
+    OneModel opened.gaps.size (part_from opened) (part_from first) (part_from second) → SameSizes opened first second
+same-sizes opened first second h k m = (
+  same_size first.gaps.size opened.gaps.size (tags_of (part_from first)) (sized_of first h) m.sizes.1.0,
+  same_size second.gaps.size opened.gaps.size (tags_of (part_from second)) (sized_of second k) m.sizes.1.1,
 )

@@ -35,30 +35,30 @@ pub gaps-held : (size : ℕ) (gaps : List Gap) (rest : List ℕ) → length gaps
 gaps-held size gaps rest h = pairs_first 64 gaps rest h
 
 -- What the reader of a file says of its size and its gaps.
-pub sized_of : (s : List ℕ) (r : Read) → Reads s r → SizeIs r.gaps.size (tags_of (part_from s r))
-sized_of s r h = (check-means (tags_of (part_from s r)) (r.gaps.size, tags_of (part_from s r)) h.sized).1.0
+pub sized_of : (r : Read) → Reads r → SizeIs r.gaps.size (tags_of (part_from r))
+sized_of r h = (check-means (tags_of (part_from r)) (r.gaps.size, tags_of (part_from r)) h.sized).1.0
 
-pub sized-as : (s : List ℕ) (r : Read) → Reads s r → (n : ℕ) → r.gaps.size ≡ n → SizeIs n (tags_of (part_from s r))
-sized-as s r h n e = subst (λ n. SizeIs n (tags_of (part_from s r))) e (sized_of s r h)
+pub sized-as : (r : Read) → Reads r → (n : ℕ) → r.gaps.size ≡ n → SizeIs n (tags_of (part_from r))
+sized-as r h n e = subst (λ n. SizeIs n (tags_of (part_from r))) e (sized_of r h)
 
-ordered_of : (s : List ℕ) (r : Read) → Reads s r →
-    Ordered r.gaps.size 0 (tagged.gaps_of (tags_of (part_from s r))) × (length (tagged.gaps_of (tags_of (part_from s r))) ≤ 64)
-ordered_of s r h =
-    gaps-ordered r.gaps.size (tags_of (part_from s r)) (check-means (tags_of (part_from s r)) (r.gaps.size, tags_of (part_from s r)) h.sized).1.1
+ordered_of : (r : Read) → Reads r →
+    Ordered r.gaps.size 0 (tagged.gaps_of (tags_of (part_from r))) × (length (tagged.gaps_of (tags_of (part_from r))) ≤ 64)
+ordered_of r h =
+    gaps-ordered r.gaps.size (tags_of (part_from r)) (check-means (tags_of (part_from r)) (r.gaps.size, tags_of (part_from r)) h.sized).1.1
 
-size_below : (s : List ℕ) (r : Read) → Reads s r → r.gaps.size < 4294967296
-size_below s r h = size-dword r.gaps.size (tags_of (part_from s r)) (valid-tags (part_from s r) h.read.valid.content) (sized_of s r h)
+size_below : (r : Read) → Reads r → r.gaps.size < 4294967296
+size_below r h = size-dword r.gaps.size (tags_of (part_from r)) (valid-tags (part_from r) h.read.valid.content) (sized_of r h)
 
 -- Numbers that hold the gaps of a file.
-pub record NumbersIn (s : List ℕ) (r : Read) (l : List ℕ) : Type 0 where
+pub record NumbersIn (r : Read) (l : List ℕ) : Type 0 where
   pub size : get_or l 0 0 ≡ r.gaps.size
-  pub gaps : gaps_in l ≡ tagged.gaps_of (tags_of (part_from s r))
+  pub gaps : gaps_in l ≡ tagged.gaps_of (tags_of (part_from r))
   pub holds : Holds l (get_or l 1 0)
 
-numbers-held : (s : List ℕ) (r : Read) → Reads s r → (gaps : List Gap) → gaps ≡ tagged.gaps_of (tags_of (part_from s r)) →
-    (l rest : List ℕ) → l ≡ r.gaps.size ∷ length gaps ∷ (gap_number_list gaps ++ rest) → 130 ≤ length l → NumbersIn s r l
-numbers-held s r h gaps e l rest q long =
-    let o = ordered_of s r h in
+numbers-held : (r : Read) → Reads r → (gaps : List Gap) → gaps ≡ tagged.gaps_of (tags_of (part_from r)) →
+    (l rest : List ℕ) → l ≡ r.gaps.size ∷ length gaps ∷ (gap_number_list gaps ++ rest) → 130 ≤ length l → NumbersIn r l
+numbers-held r h gaps e l rest q long =
+    let o = ordered_of r h in
     let few : length gaps ≤ 64 = rw e o.1 in
     let found : gaps_in l ≡ gaps = rw q (gaps-held r.gaps.size gaps rest few) in
     let size : get_or l 0 0 ≡ r.gaps.size = ap (λ k. get_or k 0 0) q in
@@ -74,12 +74,12 @@ numbers-held s r h gaps e l rest q long =
       };
     }
 
-pub numbers-found : (s starts : List ℕ) (r : Read) (l old : List ℕ) → Found s starts r →
-    l ≡ overwritten (numbers_of (spec_record_of r.gaps.size (first_gaps s r.gaps.count starts))) old → NumbersIn s r l
-numbers-found s starts r l old h q =
-    let gaps = first_gaps s r.gaps.count starts in
-    let e : gaps ≡ tagged.gaps_of (tags_of (part_from s r)) = h.held.gaps ∙ ap tagged.gaps_of (sym (tags-same s r.part)) in
-    let few : length gaps ≤ 64 = rw e (ordered_of s r h.reads).1 in
+pub numbers-found : (r : Read) (l old : List ℕ) → Found r →
+    l ≡ overwritten (numbers_of (spec_record_of r.gaps.size (first_gaps r.bytes.now r.gaps.count r.starts.now))) old → NumbersIn r l
+numbers-found r l old h q =
+    let gaps = first_gaps r.bytes.now r.gaps.count r.starts.now in
+    let e : gaps ≡ tagged.gaps_of (tags_of (part_from r)) = h.held.gaps ∙ ap tagged.gaps_of (sym (tags-same r.bytes.now r.part)) in
+    let few : length gaps ≤ 64 = rw e (ordered_of r h.reads).1 in
     let zeros : List ℕ = replicate (2 * (64 - length gaps)) 0 in
     let numbers = q ∙ record-numbers r.gaps.size gaps old few ∙
     ap (λ k. r.gaps.size ∷ length gaps ∷ k) (append_assoc (gap_number_list gaps) zeros (drop 130 old)) in
@@ -93,23 +93,23 @@ numbers-found s starts r l old h q =
       length-gap-numbers gaps,
       few,
     ) in
-    numbers-held s r h.reads gaps e l (zeros ++ drop 130 old) numbers long
+    numbers-held r h.reads gaps e l (zeros ++ drop 130 old) numbers long
 
 -- Three of them, of one size.
-module _ (s t u : List ℕ) (base one other : Read) (l m n : List ℕ) (base-in : NumbersIn s base l) (one_in : NumbersIn t one m)
-    (other-in : NumbersIn u other n) where
-  pub one_size : Reads s base → SameSizes base one other → OneSize l m n
+module _ (opened first second : Read) (l m n : List ℕ) (opened-in : NumbersIn opened l) (first_in : NumbersIn first m)
+    (second-in : NumbersIn second n) where
+  pub one_size : Reads opened → SameSizes opened first second → OneSize l m n
   one_size h sizes = record {
-    holds_opened = base-in.holds;
-    holds_first = one_in.holds;
-    holds_second = other-in.holds;
-    first_size = one_in.size ∙ sizes.0 ∙ sym base-in.size;
-    second_size = other-in.size ∙ sizes.1 ∙ sym base-in.size;
-    below = omega (arith, base-in.size, size_below s base h);
+    holds_opened = opened-in.holds;
+    holds_first = first_in.holds;
+    holds_second = second-in.holds;
+    first_size = first_in.size ∙ sizes.0 ∙ sym opened-in.size;
+    second_size = second-in.size ∙ sizes.1 ∙ sym opened-in.size;
+    below = omega (arith, opened-in.size, size_below opened h);
   }
 
-  pub merged-left : outcome l m n ≡ gaps_left base.gaps.size (part_from s base) (part_from t one) (part_from u other)
-  merged-left = rw (base-in.size, base-in.gaps, one_in.gaps, other-in.gaps) refl
+  pub merged-left : outcome l m n ≡ gaps_left opened.gaps.size (part_from opened) (part_from first) (part_from second)
+  merged-left = rw (opened-in.size, opened-in.gaps, first_in.gaps, second-in.gaps) refl
 
 -- The merged gaps, where a record has places for them.
 module _ (size : ℕ) (gaps : List Gap) (few : length gaps ≤ 64) (l old : List ℕ) (q : l ≡ overwritten (numbers_left size gaps) old) where

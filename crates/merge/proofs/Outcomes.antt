@@ -4,6 +4,9 @@ use mathlib.Core.Path.{◌≡◌, refl, sym, ap, subst, ◌∙◌}
 use mathlib.Core.Option.{some}
 use mathlib.Core.List.{List}
 use lib.ListN.{length}
+use Rattle.std.proofs.Common.{Option, None, Result, Err, IsErrAnd, ok_or}
+use Rattle.wire.proofs.Steps.{propagated}
+use Rattle.output.specs.declared.Refusal.{Refusal}
 use borrow.Author.Tests.{le-leb, lt-leb}
 use Rattle.format.specs.Messages.{PartMet}
 use Rattle.format.specs.Layout.{encode_part_met}
@@ -16,6 +19,14 @@ use Rattle.met.specs.MetAnswers.{part_met_in}
 use Rattle.merge_write.specs.Outcome.{joined}
 use Rattle.merge.specs.declared.Save.{Save}
 use Rattle.merge.specs.Choices.{date_in, save_of}
+
+-- A refusal where there is no value.
+pub refused-none : {A : Type 0} (r : Result ℕ Refusal) (o : Option A) {e given : Refusal} → IsErrAnd r (λ g. g ≡ e) →
+    ◌≡◌ {A = Result A Refusal} (Err e) (ok_or o given) → o ≡ None → r ≡ Err given
+refused-none {A} r o {e} {given} h value none =
+    let same : ◌≡◌ {A = Result A Refusal} (Err e) (Err given) = value ∙ ap (λ o. ok_or o given) none in
+    let error : e ≡ given = cc in
+    propagated r h ∙ ap Err error
 
 pub date-in : (s : List ℕ) (part : code.PartMet) → date_in part ≡ date_of (part_met_in s part)
 date-in s (code.PartMet.E0 e) = refl

@@ -17,19 +17,22 @@ ghost use Rattle.gap_numbers.specs.Numbers.{held};
 ghost use Rattle.output.specs.WriteAnswers.{answered};
 ghost use Rattle.put_gaps.specs.Pieces.{LawfulNumbers};
 ghost use Rattle.merge_write.specs.Outcome.{joined};
-ghost use Rattle.merge.specs.Choices.{Chosen, Found, ReadAs, Reads, SameSizes, date_in, number_in, numbers_left, part_from, save_of};
+ghost use Rattle.merge.specs.Choices.{Chosen, Found, ReadAs, Reads, SameSizes, date_in, numbers_left, part_from, save_of};
 
 use gap_numbers::{GAP_NUMBERS, put_found};
 use gaps::GAP_LIMIT;
 use merge_compare::{same_form, same_hash, same_tags};
 use merge_gaps::{MERGED_NUMBERS, merge_gaps};
 use merge_write::put_merged;
-use met::{PartGaps, PartMet, PartRead, read_part};
-use output::{CONFLICT, LIMIT, STRANGERS, WriteAnswer, refused};
+use met::{PartGaps, PartMet, read_part};
+use output::{Refusal, Written};
+use wire::Rule;
 
-// A part.met that was read, with its gaps; the file is lent beside it.
+// A part.met that was read, with its bytes and the offsets of its gaps, which are lent.
 #[derive(Clone, Copy)]
-struct Read {
+struct Read<'a> {
+    bytes: &'a [u8],
+    starts: &'a [usize; 64],
     part: PartMet,
     gaps: PartGaps,
 }
@@ -41,106 +44,91 @@ enum Save {
     Second,
 }
 
-// Whose value wins; or both changed it in different ways.
-#[derive(Clone, Copy)]
-enum Choice {
-    Wins(Save),
-    Conflict,
-}
-
-// The own number of a file that is refused; 0 of one that is accepted.
-pub fn own_number(read: PartRead) -> u8
-    ensures { result ≡ number_in read }
-{
-    match read {
-        PartRead::Accepted(_, _) => 0,
-        PartRead::Refused(number) => number,
+impl Save {
+    fn of<'a>(self, first: Read<'a>, second: Read<'a>) -> Read<'a>
+        ensures { result ≡ save_of self first.entry second.entry }
+    {
+        match self {
+            Save::First => first,
+            Save::Second => second,
+        }
     }
 }
 
 // Whether all three have one size and one file hash.
-fn is_one_model(
-    opened: &[u8],
-    base: Read,
-    first: &[u8],
-    one: Read,
-    second: &[u8],
-    other: Read,
-) -> bool
-    requires { Reads opened.now base × Reads first.now one × Reads second.now other }
+fn is_one_model(opened: Read, first: Read, second: Read) -> bool
+    requires { Reads opened × Reads first × Reads second }
     ensures { (result ≡ true)
-        ↔ OneModel base.gaps.size (part_from opened.now base) (part_from first.now one) (part_from second.now other) }
+        ↔ OneModel opened.entry.gaps.size (part_from opened.entry) (part_from first.entry) (part_from second.entry) }
 {
-    let size = base.gaps.size;
-    if one.gaps.size != size {
+    let size = opened.gaps.size;
+    if first.gaps.size != size {
         return false;
     }
-    if other.gaps.size != size {
+    if second.gaps.size != size {
         return false;
     }
-    let base_part = base.part;
-    let one_part = one.part;
-    let other_part = other.part;
-    if !same_hash(first, one_part, opened, base_part) {
+    if !same_hash(first.bytes, first.part, opened.bytes, opened.part) {
         return false;
     }
-    same_hash(second, other_part, opened, base_part)
+    same_hash(second.bytes, second.part, opened.bytes, opened.part)
 }
 
-// Whose opening form with its hash lists.
-fn choose_form(
-    opened: &[u8],
-    base: Read,
-    first: &[u8],
-    one: Read,
-    second: &[u8],
-    other: Read,
-) -> Choice
-    requires { Reads opened.now base × Reads first.now one × Reads second.now other × SameSizes base one other }
-    ensures { Chosen (form_of (part_from opened.now base)) (form_of (part_from first.now one))
-        (form_of (part_from second.now other)) result }
+fn is_same_form(one: Read, other: Read) -> bool
+    requires { Reads one × Reads other × (other.gaps.size ≡ one.gaps.size) }
+    ensures { (result ≡ true) ↔ (form_of (part_from one.entry) ≡ form_of (part_from other.entry)) }
 {
-    let base_part = base.part;
-    let one_part = one.part;
-    let other_part = other.part;
-    if same_form(first, one_part, second, other_part) {
-        return Choice::Wins(Save::First);
+    same_form(one.bytes, one.part, other.bytes, other.part)
+}
+
+// Whose opening form with its hash lists wins; none where both saves changed it in different ways.
+fn choose_form(opened: Read, first: Read, second: Read) -> Option<Save>
+    requires { Reads opened × Reads first × Reads second × SameSizes opened first second }
+    ensures { Chosen (form_of (part_from opened.entry)) (form_of (part_from first.entry)) (form_of (part_from second.entry)) result }
+{
+    if is_same_form(first, second) {
+        return Some(Save::First);
     }
-    if same_form(second, other_part, opened, base_part) {
-        return Choice::Wins(Save::First);
+    if is_same_form(second, opened) {
+        return Some(Save::First);
     }
-    if same_form(first, one_part, opened, base_part) {
-        return Choice::Wins(Save::Second);
+    if is_same_form(first, opened) {
+        return Some(Save::Second);
     }
-    Choice::Conflict
+    None
+}
+
+fn has_same_tags(one: Read, other: Read) -> bool
+    requires { Reads one × Reads other }
+    ensures { (result ≡ true)
+        ↔ (plain_tags (tags_of (part_from one.entry)) ≡ plain_tags (tags_of (part_from other.entry))) }
+{
+    same_tags(
+        one.bytes,
+        one.part,
+        one.gaps,
+        other.bytes,
+        other.part,
+        other.gaps,
+    )
 }
 
 // Whose tags other than gap tags.
-fn choose_tags(
-    opened: &[u8],
-    base: Read,
-    first: &[u8],
-    one: Read,
-    second: &[u8],
-    other: Read,
-) -> Choice
-    requires { Reads opened.now base × Reads first.now one × Reads second.now other }
-    ensures { Chosen (plain_tags (tags_of (part_from opened.now base))) (plain_tags (tags_of (part_from first.now one)))
-        (plain_tags (tags_of (part_from second.now other))) result }
+fn choose_tags(opened: Read, first: Read, second: Read) -> Option<Save>
+    requires { Reads opened × Reads first × Reads second }
+    ensures { Chosen (plain_tags (tags_of (part_from opened.entry))) (plain_tags (tags_of (part_from first.entry)))
+        (plain_tags (tags_of (part_from second.entry))) result }
 {
-    let base_part = base.part;
-    let one_part = one.part;
-    let other_part = other.part;
-    if same_tags(first, one_part, one.gaps, second, other_part, other.gaps) {
-        return Choice::Wins(Save::First);
+    if has_same_tags(first, second) {
+        return Some(Save::First);
     }
-    if same_tags(second, other_part, other.gaps, opened, base_part, base.gaps) {
-        return Choice::Wins(Save::First);
+    if has_same_tags(second, opened) {
+        return Some(Save::First);
     }
-    if same_tags(first, one_part, one.gaps, opened, base_part, base.gaps) {
-        return Choice::Wins(Save::Second);
+    if has_same_tags(first, opened) {
+        return Some(Save::Second);
     }
-    Choice::Conflict
+    None
 }
 
 fn date_of(part: PartMet) -> u32
@@ -152,56 +140,35 @@ fn date_of(part: PartMet) -> u32
     }
 }
 
-fn later(one: u32, other: u32) -> u32
-    ensures { result ≡ max one other }
+// The merged gaps as numbers, at the front of `out`.
+fn merge_numbers(opened: Read, first: Read, second: Read, out: &mut [u64])
+    requires { Found opened × Found first × Found second × SameSizes opened first second × (386 ≤ length out.old) }
+    ensures { out.new ≡ overwritten (numbers_left opened.entry.gaps.size (gaps_left opened.entry.gaps.size
+        (part_from opened.entry) (part_from first.entry) (part_from second.entry))) out.old }
 {
-    if one < other { other } else { one }
-}
-
-// The merged gaps as numbers, at the front of `out`. The offsets of each file's gaps are lent beside it.
-fn merge_numbers(
-    opened: &[u8],
-    opened_starts: &[usize; 64],
-    base: Read,
-    first: &[u8],
-    first_starts: &[usize; 64],
-    one: Read,
-    second: &[u8],
-    second_starts: &[usize; 64],
-    other: Read,
-    out: &mut [u64],
-)
-    requires { Found opened.now opened_starts.now base × Found first.now first_starts.now one
-        × Found second.now second_starts.now other × SameSizes base one other × (386 ≤ length out.old) }
-    ensures { out.new ≡ overwritten (numbers_left base.gaps.size (gaps_left base.gaps.size
-        (part_from opened.now base) (part_from first.now one) (part_from second.now other))) out.old }
-{
-    let found = base.gaps;
     let mut opened_numbers = [0u64; GAP_NUMBERS];
     put_found(
         &mut opened_numbers,
-        opened,
-        opened_starts,
-        found.count,
-        found.size,
+        opened.bytes,
+        opened.starts,
+        opened.gaps.count,
+        opened.gaps.size,
     );
-    let one_found = one.gaps;
     let mut first_numbers = [0u64; GAP_NUMBERS];
     put_found(
         &mut first_numbers,
-        first,
-        first_starts,
-        one_found.count,
-        one_found.size,
+        first.bytes,
+        first.starts,
+        first.gaps.count,
+        first.gaps.size,
     );
-    let other_found = other.gaps;
     let mut second_numbers = [0u64; GAP_NUMBERS];
     put_found(
         &mut second_numbers,
-        second,
-        second_starts,
-        other_found.count,
-        other_found.size,
+        second.bytes,
+        second.starts,
+        second.gaps.count,
+        second.gaps.size,
     );
     merge_gaps(&opened_numbers, &first_numbers, &second_numbers, out);
 }
@@ -211,86 +178,42 @@ fn put_chosen(
     out: &mut [u8],
     form: Save,
     tags: Save,
-    first: &[u8],
-    one: Read,
-    second: &[u8],
-    other: Read,
+    first: Read,
+    second: Read,
     gaps: &[u64],
-) -> WriteAnswer
-    requires { Reads first.now one × Reads second.now other × LawfulNumbers gaps.now }
+) -> Written
+    requires { Reads first × Reads second × LawfulNumbers gaps.now }
     ensures { answered result out.new
-        ≡ within_ceiling (encode_part_met (joined (save_of form (part_from first.now one) (part_from second.now other))
-        (max (date_in one.part) (date_in other.part))
-        (save_of tags (part_from first.now one) (part_from second.now other)) (gaps_of (held gaps.now))))
+        ≡ within_ceiling (encode_part_met (joined (save_of form (part_from first.entry) (part_from second.entry))
+        (max (date_in first.entry.part) (date_in second.entry.part))
+        (save_of tags (part_from first.entry) (part_from second.entry)) (gaps_of (held gaps.now))))
         out.old }
 {
-    let one_part = one.part;
-    let other_part = other.part;
-    let date = later(date_of(one_part), date_of(other_part));
-    match form {
-        Save::First => match tags {
-            Save::First => put_merged(out, first, one_part, date, first, one_part, one.gaps, gaps),
-            Save::Second => put_merged(
-                out, first, one_part, date, second, other_part, other.gaps, gaps,
-            ),
-        },
-        Save::Second => match tags {
-            Save::First => put_merged(
-                out, second, other_part, date, first, one_part, one.gaps, gaps,
-            ),
-            Save::Second => put_merged(
-                out, second, other_part, date, second, other_part, other.gaps, gaps,
-            ),
-        },
-    }
+    let date = date_of(first.part).max(date_of(second.part));
+    let form = form.of(first, second);
+    let tags = tags.of(first, second);
+    put_merged(
+        out, form.bytes, form.part, date, tags.bytes, tags.part, tags.gaps, gaps,
+    )
 }
 
 // Three files that are accepted.
-fn merge_read(
-    opened: &[u8],
-    opened_starts: &[usize; 64],
-    base: Read,
-    first: &[u8],
-    first_starts: &[usize; 64],
-    one: Read,
-    second: &[u8],
-    second_starts: &[usize; 64],
-    other: Read,
-    out: &mut [u8],
-) -> WriteAnswer
-    requires { Found opened.now opened_starts.now base × Found first.now first_starts.now one
-        × Found second.now second_starts.now other }
-    ensures { Merged (part_from opened.now base) (part_from first.now one) (part_from second.now other)
+fn merge_read(opened: Read, first: Read, second: Read, out: &mut [u8]) -> Written
+    requires { Found opened × Found first × Found second }
+    ensures { Merged (part_from opened.entry) (part_from first.entry) (part_from second.entry)
         out.old (answered result out.new) }
 {
-    if !is_one_model(opened, base, first, one, second, other) {
-        return refused(STRANGERS);
+    if !is_one_model(opened, first, second) {
+        return Err(Refusal::Strangers);
     }
-    let form_choice = choose_form(opened, base, first, one, second, other);
-    let Choice::Wins(form) = form_choice else {
-        return refused(CONFLICT); // two different forms or hash lists
-    };
-    let tags_choice = choose_tags(opened, base, first, one, second, other);
-    let Choice::Wins(tags) = tags_choice else {
-        return refused(CONFLICT); // two different lists of tags
-    };
+    let form = choose_form(opened, first, second).ok_or(Refusal::Conflict)?;
+    let tags = choose_tags(opened, first, second).ok_or(Refusal::Conflict)?;
     let mut numbers = [0u64; MERGED_NUMBERS];
-    merge_numbers(
-        opened,
-        opened_starts,
-        base,
-        first,
-        first_starts,
-        one,
-        second,
-        second_starts,
-        other,
-        &mut numbers,
-    );
+    merge_numbers(opened, first, second, &mut numbers);
     if GAP_LIMIT < numbers[1] as usize {
-        return refused(LIMIT);
+        return Err(Refusal::Limit);
     }
-    put_chosen(out, form, tags, first, one, second, other, &numbers)
+    put_chosen(out, form, tags, first, second, &numbers)
 }
 
 // The merge of three files that have been read, whether they were accepted or not: how, and the offsets of their gaps, are lent beside them.
@@ -298,44 +221,38 @@ fn merge_read(
 pub fn merge_with_reads(
     opened: &[u8],
     opened_starts: &[usize; 64],
-    opened_read: PartRead,
+    opened_read: Result<(PartMet, PartGaps), Rule>,
     first: &[u8],
     first_starts: &[usize; 64],
-    first_read: PartRead,
+    first_read: Result<(PartMet, PartGaps), Rule>,
     second: &[u8],
     second_starts: &[usize; 64],
-    second_read: PartRead,
+    second_read: Result<(PartMet, PartGaps), Rule>,
     out: &mut [u8],
-) -> WriteAnswer
+) -> Written
     requires { ReadAs opened.now opened_starts.now opened_read × ReadAs first.now first_starts.now first_read
         × ReadAs second.now second_starts.now second_read }
     ensures { Merges opened.now first.now second.now out.old (answered result out.new) }
 {
-    let PartRead::Accepted(opened_part, opened_gaps) = opened_read else {
-        return refused(own_number(opened_read));
-    };
-    let PartRead::Accepted(first_part, first_gaps) = first_read else {
-        return refused(own_number(first_read));
-    };
-    let PartRead::Accepted(second_part, second_gaps) = second_read else {
-        return refused(own_number(second_read));
-    };
+    let (opened_part, opened_gaps) = opened_read?;
+    let (first_part, first_gaps) = first_read?;
+    let (second_part, second_gaps) = second_read?;
     merge_read(
-        opened,
-        opened_starts,
         Read {
+            bytes: opened,
+            starts: opened_starts,
             part: opened_part,
             gaps: opened_gaps,
         },
-        first,
-        first_starts,
         Read {
+            bytes: first,
+            starts: first_starts,
             part: first_part,
             gaps: first_gaps,
         },
-        second,
-        second_starts,
         Read {
+            bytes: second,
+            starts: second_starts,
             part: second_part,
             gaps: second_gaps,
         },
@@ -345,7 +262,7 @@ pub fn merge_with_reads(
 
 // `opened` is the file that both windows opened, `first` and `second` what they want to save. `out` takes the outcome at its front and is not
 // touched after it, nor by a refusal.
-pub fn merge(opened: &[u8], first: &[u8], second: &[u8], out: &mut [u8]) -> WriteAnswer
+pub fn merge(opened: &[u8], first: &[u8], second: &[u8], out: &mut [u8]) -> Written
     ensures { Merges opened.now first.now second.now out.old (answered result out.new) }
 {
     let mut opened_starts: [usize; 64] = [0; 64];

@@ -53,7 +53,7 @@ module _ {A : Type 0} {r : Decoder A} {encode : A → List ℕ} {Valid : A → T
         let first = same_first v.0 w.0 e in
         ap₂ (λ a l. a ∷ l) first.0 (same-all k l v.1 w.1 first.1)
 
-pub some_bytes : (t : Tag) → 1 ≤ length (encode_tag t)
+some_bytes : (t : Tag) → 1 ≤ length (encode_tag t)
 some_bytes t = omega (arith, tags-few (t ∷ []), length-append (encode_tag t) [])
 
 pub same-tag-lists : (k l : List Tag) → All ValidTag k → All ValidTag l → encode_all encode_tag k ≡ encode_all encode_tag l → k ≡ l

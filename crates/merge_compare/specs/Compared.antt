@@ -1,5 +1,5 @@
 -- What the comparison of two part.mets needs, and what its private steps answer.
-use Rattle.std.specs.Prelude.{ℕ, ◌-◌, ◌<◌, ◌≤◌, ◌≡◌, List, [], ◌∷◌, ◌⊎◌}
+use Rattle.std.specs.Prelude.{ℕ, ◌-◌, ◌<◌, ◌≤◌, ◌≡◌, List, [], ◌∷◌, Option, Some, None}
 use Rattle.format.specs.Messages.{Tag}
 use Rattle.format.specs.Layout.{encode_tag}
 use Rattle.format.specs.Rules.{SizeIs, ValidTag}
@@ -31,20 +31,19 @@ tags_from s at left = items_of (decode_many left decode_tag s at)
 pub record Takes (s : List ℕ) (tags : List Tag) (r : Next) : Type 0 where
   pub tag : Tag
   pub valid : ValidTag tag
-  pub some : 0 < r.left
   pub order : r.at ≤ r.end
   pub bytes : bytes_at s r.at (r.end - r.at) ≡ encode_tag tag
-  pub there : TagsThere s r.end (r.left - 1)
-  pub all : tags ≡ tag ∷ plain_tags (tags_from s r.end (r.left - 1))
+  pub there : TagsThere s r.end r.left
+  pub all : tags ≡ tag ∷ plain_tags (tags_from s r.end r.left)
 
--- There is none.
-pub record Ends (tags : List Tag) (r : Next) : Type 0 where
-  pub none : r.left ≡ 0
-  pub empty : r.at ≡ r.end
-  pub all : tags ≡ []
+abbrev pub NextFound : List ℕ → List Tag → Option Next → Type 0
+NextFound s tags (Some r) = Takes s tags r
+NextFound s tags None = tags ≡ []
 
-abbrev pub NextFound : List ℕ → List Tag → Next → Type 0
-NextFound s tags r = Takes s tags r ⊎ Ends tags r
+-- Fewer tags are left after the one that is found.
+abbrev pub Fewer : ℕ → Option Next → Type 0
+Fewer left (Some r) = r.left < left
+Fewer left None = Unit {0}
 
 -- The bytes of the tags before the gap tags, and of those after them.
 abbrev pub spec_run_before : List ℕ → PartMet → PartGaps → List ℕ

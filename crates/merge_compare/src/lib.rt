@@ -18,12 +18,12 @@ ghost use Rattle.wire.specs.WireAnswers.{ItemsInside, ItemsPlaced, items_in};
 ghost use Rattle.tags.specs.TagAnswers.{tags_in};
 ghost use Rattle.met.specs.MetAnswers.{part_met_in};
 ghost use Rattle.put_gaps.specs.Pieces.{Accepts, plain_bytes};
-ghost use Rattle.merge_compare.specs.Compared.{NextFound, OneSize, TagsThere, spec_run_after, spec_run_before, tags_from};
+ghost use Rattle.merge_compare.specs.Compared.{Fewer, NextFound, OneSize, TagsThere, spec_run_after, spec_run_before, tags_from};
 
 use met::{PartGaps, PartMet};
 use output::same;
 use put_gaps::{is_plain, measure_within, tail_at};
-use tags::{TagStep, read_tag};
+use tags::read_tag;
 use wire::{Cursor, Items, bytes_at};
 
 // The file hash.
@@ -98,8 +98,7 @@ fn same_joined(before: &[u8], after: &[u8], other_before: &[u8], other_after: &[
     same_after_shorter(before, after, other_before, other_after)
 }
 
-// A tag that is no gap tag: it lies from `at` up to `end`, and so many tags are left, itself included. Where there is none, 0 are left, and no
-// bytes lie there.
+// A tag that is no gap tag: it lies from `at` up to `end`, and `left` tags come after it.
 #[derive(Clone, Copy)]
 struct Next {
     at: usize,
@@ -108,56 +107,48 @@ struct Next {
 }
 
 // The first tag that is no gap tag of the `left` tags from `at` on. They were read before, so that the refusal is never met.
-fn next_plain(s: &[u8], at: usize, left: u32) -> Next
+fn next_plain(s: &[u8], at: usize, left: u32) -> Option<Next>
     requires { TagsThere s.now at left }
     ensures found { NextFound s.now (plain_tags (tags_from s.now at left)) result }
-    ensures fewer { result.left ≤ left }
+    ensures fewer { Fewer left result }
 {
     let mut next = Cursor { at };
-    let mut i: u32 = 0;
-    while i < left {
-        let step = read_tag(s, next);
-        let TagStep::Got(tag, after) = step else {
-            return Next {
-                at: 0,
-                end: 0,
-                left: 0,
-            };
+    for i in 0..left {
+        let Ok((tag, after)) = read_tag(s, next) else {
+            return None;
         };
         if is_plain(s, tag) {
-            return Next {
+            return Some(Next {
                 at: next.at,
                 end: after.at,
-                left: left - i,
-            };
+                left: left - i - 1,
+            });
         }
         next = after;
-        i += 1;
     }
-    Next {
-        at: 0,
-        end: 0,
-        left: 0,
-    }
+    None
 }
 
-// Tag against tag, over all tags of both lists. Where the other list has no more tags, its next one has no bytes, and every tag has some.
+// Tag against tag, over all tags of both lists.
 fn same_by_tag(s: &[u8], tags: Items, t: &[u8], other: Items) -> bool
     requires { ItemsPlaced decode_tag s.now tags × ItemsPlaced decode_tag t.now other }
     ensures { (result ≡ true) ↔ (plain_tags (tags_in s.now tags) ≡ plain_tags (tags_in t.now other)) }
 {
     let mut next = next_plain(s, tags.at, tags.count);
     let mut other_next = next_plain(t, other.at, other.count);
-    while 0 < next.left {
-        let tag = bytes_at(s, next.at, next.end - next.at);
-        let other_tag = bytes_at(t, other_next.at, other_next.end - other_next.at);
+    while let Some(found) = next {
+        let Some(other_found) = other_next else {
+            return false;
+        };
+        let tag = bytes_at(s, found.at, found.end - found.at);
+        let other_tag = bytes_at(t, other_found.at, other_found.end - other_found.at);
         if !same(tag, other_tag) {
             return false;
         }
-        next = next_plain(s, next.end, next.left - 1);
-        other_next = next_plain(t, other_next.end, other_next.left - 1);
+        next = next_plain(s, found.end, found.left);
+        other_next = next_plain(t, other_found.end, other_found.left);
     }
-    other_next.left == 0
+    other_next.is_none()
 }
 
 // The bytes of the tags before the gap tags.

@@ -13,8 +13,6 @@ ghost use Rattle.format.specs.Merging.{merged_missing};
 ghost use Rattle.gap_numbers.specs.NumberSteps.{Holds, gap_number_list};
 ghost use Rattle.merge_gaps.specs.Bounds.{odd, bounds_in, bound_after, OneSize, outcome};
 
-use gap_numbers::smaller;
-
 // How many numbers an outcome may need: the size, the number of gaps, and two for each of three times 64 gaps.
 pub const MERGED_NUMBERS: usize = 386;
 
@@ -26,9 +24,9 @@ fn misses(opened: bool, first: bool, second: bool) -> bool
     ensures { result ≡ merged_missing opened first second }
 {
     if opened {
-        if first { second } else { false }
+        first && second
     } else {
-        if first { true } else { second }
+        first || second
     }
 }
 
@@ -78,7 +76,7 @@ fn merge_bounds(opened: &[u64], first: &[u64], second: &[u64], out: &mut [u64]) 
         let opened_next = next_bound(opened, opened_passed, opened_bounds);
         let first_next = next_bound(first, first_passed, first_bounds);
         let second_next = next_bound(second, second_passed, second_bounds);
-        let at = smaller(opened_next, smaller(first_next, second_next));
+        let at = opened_next.min(first_next).min(second_next);
         opened_passed = pass(opened_passed, opened_next, at);
         first_passed = pass(first_passed, first_next, at);
         second_passed = pass(second_passed, second_next, at);

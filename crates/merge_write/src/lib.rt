@@ -19,7 +19,7 @@ ghost use Rattle.put_gaps.specs.Pieces.{Accepts, LawfulNumbers, WasRead, head_of
 ghost use Rattle.merge_write.specs.Outcome.{date_place, dated_head, joined};
 
 use met::{MET_CEILING, PartGaps, PartMet};
-use output::{LIMIT, ROOM, WriteAnswer, copy, put_dword, refused};
+use output::{Refusal, Written, copy, put_dword};
 use put_gaps::{measure_file, put_tag_list};
 use wire::bytes_at;
 
@@ -56,7 +56,7 @@ pub fn put_merged(
     part: PartMet,
     found: PartGaps,
     gaps: &[u64],
-) -> WriteAnswer
+) -> Written
     requires { WasRead form_file.now form × Accepts file.now part found × LawfulNumbers gaps.now }
     ensures { answered result out.new
         ≡ within_ceiling (encode_part_met (joined (part_met_in form_file.now form) date (part_met_in file.now part)
@@ -65,10 +65,10 @@ pub fn put_merged(
     let sizes = measure_file(form_file, form, file, part, found, gaps);
     let length = sizes.length;
     if MET_CEILING < length {
-        return refused(LIMIT);
+        return Err(Refusal::Limit);
     }
     if out.len() < length {
-        return refused(ROOM);
+        return Err(Refusal::Room);
     }
     let at = sizes.at;
     put_head(out, form_file, form, at, date);
@@ -86,5 +86,5 @@ pub fn put_merged(
         &mut out[end..],
         bytes_at(form_file, sizes.after, form_file.len()),
     );
-    WriteAnswer { number: 0, length }
+    Ok(length)
 }

@@ -12,37 +12,24 @@ ghost use Rattle.tags.specs.Skips.{EndsThere};
 ghost use Rattle.met.specs.MetAnswers.{file_entry_meaning, FileEntryStepPlaced};
 ghost use Rattle.met.specs.MetAnswers.{known_met_meaning, KnownMetStepPlaced, known_reply, KnownAnswerPlaced};
 
-use crate::{
-    FileEntry, FileEntryStep, KnownAnswer, KnownMet, KnownMetStep, MET_CEILING, read_opening,
-};
+use crate::{FileEntry, KnownMet, MET_CEILING, read_opening};
 use records::read_hashes;
 use tags::{read_tags, tag_list_end};
-use wire::{ByteStep, Cursor, DwordStep, HashStep, Items, ItemsStep, Rule, number, pair};
+use wire::{Cursor, Items, Rule, Step, pair};
 
 // The date, the HASH and the number of the part hashes, in bytes.
 const BEFORE_HASHES: usize = 22;
 
-pub fn read_file_entry(s: &[u8], c: Cursor) -> FileEntryStep
+#[tactic(auto, unfolding(format::specs::MetOrder::decode_file_entry))]
+pub fn read_file_entry(s: &[u8], c: Cursor) -> Step<FileEntry>
     ensures meaning { file_entry_meaning s.now result ≡ decode_file_entry s.now c.at }
     ensures placed { FileEntryStepPlaced s.now result }
 {
-    let date_step = c.dword(s);
-    let DwordStep::Got(date, after_date) = date_step else {
-        return FileEntryStep::Refused(date_step.fault());
-    };
-    let hash_step = after_date.hash(s);
-    let HashStep::Got(hash, after_hash) = hash_step else {
-        return FileEntryStep::Refused(hash_step.fault());
-    };
-    let parts_step = read_hashes(s, after_hash);
-    let ItemsStep::Got(parts, after_parts) = parts_step else {
-        return FileEntryStep::Refused(parts_step.fault());
-    };
-    let tags_step = read_tags(s, after_parts);
-    let ItemsStep::Got(tags, next) = tags_step else {
-        return FileEntryStep::Refused(tags_step.fault());
-    };
-    FileEntryStep::Got(
+    let (date, after_date) = c.dword(s)?;
+    let (hash, after_hash) = after_date.hash(s)?;
+    let (parts, after_parts) = read_hashes(s, after_hash)?;
+    let (tags, next) = read_tags(s, after_parts)?;
+    Ok((
         FileEntry {
             date,
             hash,
@@ -50,7 +37,7 @@ pub fn read_file_entry(s: &[u8], c: Cursor) -> FileEntryStep
             tags,
         },
         next,
-    )
+    ))
 }
 
 // To skip an entry without its values, as crates/tags skips a tag: the offset after the entry at `at`, or 0 where the tests do not tell.
@@ -73,77 +60,59 @@ fn file_entry_end(s: &[u8], at: usize) -> usize
 }
 
 // Entries one after the other: each is skipped, and where the tests do not tell, it is read for the fault.
-pub fn file_entries_from(s: &[u8], first: Cursor, count: u32) -> ItemsStep
+pub fn file_entries_from(s: &[u8], first: Cursor, count: u32) -> Step<Items>
     ensures meaning { items_meaning decode_file_entry s.now result
         ≡ decode_many count decode_file_entry s.now first.at }
     ensures placed { ItemsStepPlaced decode_file_entry s.now result }
 {
     let at = first.at;
     let mut end = at;
-    let mut passed: u32 = 0;
-    while passed < count {
+    for _ in 0..count {
         let next = file_entry_end(s, end);
         if next != 0 {
             end = next;
-            passed += 1;
             continue;
         }
-        let entry_step = read_file_entry(s, Cursor { at: end });
-        let FileEntryStep::Got(_, after) = entry_step else {
-            return ItemsStep::Refused(entry_step.fault());
-        };
+        let (_, after) = read_file_entry(s, Cursor { at: end })?;
         end = after.at;
-        passed += 1;
     }
-    ItemsStep::Got(Items { at, end, count }, Cursor { at: end })
+    Ok((Items { at, end, count }, Cursor { at: end }))
 }
 
 // DWORD count, then the entries.
-fn read_file_entries(s: &[u8], c: Cursor) -> ItemsStep
+#[tactic(auto, unfolding(format::specs::Order::decode_counted))]
+fn read_file_entries(s: &[u8], c: Cursor) -> Step<Items>
     ensures meaning { items_meaning decode_file_entry s.now result
         ≡ decode_counted decode_dword decode_file_entry s.now c.at }
     ensures placed { ItemsStepInside decode_file_entry s.now result }
 {
-    let count_step = c.dword(s);
-    let DwordStep::Got(count, first) = count_step else {
-        return ItemsStep::Refused(count_step.fault());
-    };
+    let (count, first) = c.dword(s)?;
     file_entries_from(s, first, count)
 }
 
-fn read_known_met_at(s: &[u8], c: Cursor) -> KnownMetStep
+#[tactic(auto, unfolding(format::specs::MetOrder::decode_known_met))]
+fn read_known_met_at(s: &[u8], c: Cursor) -> Step<KnownMet>
     ensures meaning { known_met_meaning s.now result ≡ decode_known_met s.now c.at }
     ensures placed { KnownMetStepPlaced s.now result }
 {
-    let opening_step = read_opening(s, c);
-    let ByteStep::Got(opening, after_opening) = opening_step else {
-        return KnownMetStep::Refused(opening_step.fault());
-    };
-    let entries_step = read_file_entries(s, after_opening);
-    let ItemsStep::Got(entries, next) = entries_step else {
-        return KnownMetStep::Refused(entries_step.fault());
-    };
-    KnownMetStep::Got(KnownMet { opening, entries }, next)
+    let (opening, after_opening) = read_opening(s, c)?;
+    let (entries, next) = read_file_entries(s, after_opening)?;
+    Ok((KnownMet { opening, entries }, next))
 }
 
-pub fn read_known_met(s: &[u8]) -> KnownAnswer
+pub fn read_known_met(s: &[u8]) -> Result<KnownMet, Rule>
     ensures meaning { known_reply s.now result ≡ reply (decode known_met s.now) }
     ensures placed { KnownAnswerPlaced s.now result }
     ensures exact { (m : messages.KnownMet) →
         (known_reply s.now result ≡ message m) ↔ ((s.now ≡ encode known_met m) × Valid known_met m) }
 {
     if MET_CEILING < s.len() {
-        return KnownAnswer::Refused(number(Rule::BytesCeiling));
+        return Err(Rule::BytesCeiling);
     }
-    let file_step = read_known_met_at(s, Cursor { at: 0 });
-    let KnownMetStep::Got(file, next) = file_step else {
-        let fault = file_step.fault();
-        let rule = fault.rule;
-        return KnownAnswer::Refused(number(rule));
-    };
+    let (file, next) = read_known_met_at(s, Cursor { at: 0 })?;
     let end = next.at;
     if end == s.len() {
-        return KnownAnswer::Accepted(file);
+        return Ok(file);
     }
-    KnownAnswer::Refused(number(Rule::Rest))
+    Err(Rule::Rest)
 }

@@ -7,44 +7,85 @@
 
 ghost use Rattle.std.specs.Prelude.{◌≡◌, ◌↔◌, ◌+◌, ◌≤◌, ◌<◌, length, drop, eqb};
 ghost use Rattle.output.specs.Agreement.{Agree};
-ghost use Rattle.output.specs.WriteAnswers.{refused_by};
+ghost use Rattle.output.specs.WriteAnswers.{refusal_number, refusal_of};
 ghost use Rattle.format.specs.Layout.{byte, word, dword, encode_string};
 ghost use Rattle.format.specs.Tables.{pick, same};
 ghost use Rattle.format.specs.Writing.{overwritten};
 
-// Numbers of document 01 that code returns where no reading reports a broken rule. 0 is an accepted call.
-pub const SHORT: u8 = 1;
+use wire::{Fault, Rule};
 
-pub const OPENING: u8 = 2;
-
-pub const KIND: u8 = 4;
-
-pub const CHOICE: u8 = 5;
-
-pub const LIMIT: u8 = 6;
-
-pub const REST: u8 = 7;
-
-pub const RANGE: u8 = 8;
-
-pub const ROOM: u8 = 10;
-
-pub const CONFLICT: u8 = 11;
-
-// The number that No. 3 of 02 adds: files that are not of one model.
-pub const STRANGERS: u8 = 12;
-
-// The answer of a call that writes: 0 and how many bytes were written at the front of the output; or the number of the refusal, and 0.
-#[derive(Clone, Copy)]
-pub struct WriteAnswer {
-    pub number: u8,
-    pub length: usize,
+// Why a call is refused: a variant for each number of document 01 and for those that 02 adds. What a reader refuses has the number of the
+// rule that is broken.
+#[derive(Clone, Copy, PartialEq, Eq, Debug)]
+pub enum Refusal {
+    Short,
+    Opening,
+    FrameLength,
+    Kind,
+    Choice,
+    Limit,
+    Rest,
+    Data,
+    SizeTag,
+    Room,
+    Conflict,
+    // No. 3 of 02: the files are not of one model.
+    Strangers,
 }
 
-pub fn refused(number: u8) -> WriteAnswer
-    ensures { result ≡ refused_by number }
-{
-    WriteAnswer { number, length: 0 }
+impl Refusal {
+    pub fn number(self) -> u8
+        ensures { result ≡ refusal_number self }
+    {
+        match self {
+            Refusal::Short => 1,
+            Refusal::Opening => 2,
+            Refusal::FrameLength => 3,
+            Refusal::Kind => 4,
+            Refusal::Choice => 5,
+            Refusal::Limit => 6,
+            Refusal::Rest => 7,
+            Refusal::Data => 8,
+            Refusal::SizeTag => 9,
+            Refusal::Room => 10,
+            Refusal::Conflict => 11,
+            Refusal::Strangers => 12,
+        }
+    }
+}
+
+// How many bytes a call wrote at the front of the output, or why it is refused.
+pub type Written = Result<usize, Refusal>;
+
+impl From<Rule> for Refusal {
+    ghost from_gives = { λ rule refusal. refusal ≡ refusal_of rule };
+
+    fn from(rule: Rule) -> Refusal {
+        match rule {
+            Rule::Short => Refusal::Short,
+            Rule::Opening => Refusal::Opening,
+            Rule::FrameLength => Refusal::FrameLength,
+            Rule::Kind => Refusal::Kind,
+            Rule::Choice => Refusal::Choice,
+            Rule::StatusBit => Refusal::Choice,
+            Rule::BytesCeiling => Refusal::Limit,
+            Rule::DepthCeiling => Refusal::Limit,
+            Rule::NameCeiling => Refusal::Limit,
+            Rule::GapCeiling => Refusal::Limit,
+            Rule::Rest => Refusal::Rest,
+            Rule::Order => Refusal::Data,
+            Rule::DataLength => Refusal::Data,
+            Rule::SizeTag => Refusal::SizeTag,
+        }
+    }
+}
+
+impl From<Fault> for Refusal {
+    ghost from_gives = { λ fault refusal. refusal ≡ refusal_of fault.rule };
+
+    fn from(fault: Fault) -> Refusal {
+        Refusal::from(fault.rule)
+    }
 }
 
 pub fn put_byte(out: &mut [u8], v: u8)
@@ -55,22 +96,20 @@ pub fn put_byte(out: &mut [u8], v: u8)
 }
 
 // Low byte first.
+#[tactic(auto, unfolding(format::specs::Layout::little_endian))]
 pub fn put_word(out: &mut [u8], v: u16)
     requires { 2 ≤ length out.old }
     ensures { out.new ≡ overwritten (word v) out.old }
 {
-    out[0] = (v % 256) as u8;
-    out[1] = (v / 256 % 256) as u8;
+    copy(out, &v.to_le_bytes());
 }
 
 pub fn put_dword(out: &mut [u8], v: u32)
     requires { 4 ≤ length out.old }
     ensures { out.new ≡ overwritten (dword v) out.old }
 {
-    out[0] = (v % 256) as u8;
-    out[1] = (v / 256 % 256) as u8;
-    out[2] = (v / 65536 % 256) as u8;
-    out[3] = (v / 16777216 % 256) as u8;
+    let bytes = v.to_le_bytes();
+    copy(out, &bytes);
 }
 
 // All bytes of `src`.
@@ -78,11 +117,7 @@ pub fn copy(out: &mut [u8], src: &[u8])
     requires { length src.now ≤ length out.old }
     ensures { out.new ≡ overwritten src.now out.old }
 {
-    let mut i = 0;
-    while i < src.len() {
-        out[i] = src[i];
-        i += 1;
-    }
+    out[..src.len()].copy_from_slice(src);
 }
 
 // A WORD with the length of the text, then the text. The answer is how many bytes were written.

@@ -10,9 +10,10 @@ use Rattle.format.specs.Decoding.{Rule, Outcome, refused, got, and_then, settled
 use Rattle.format.specs.Order.{decode_byte}
 use Rattle.format.specs.PacketOrder.{check_opening, decode_opening}
 use Rattle.wire.specs.declared.Cursor.{Cursor}
-use Rattle.wire.specs.declared.ByteStep.{ByteStep}
-use Rattle.wire.specs.WireAnswers.{byte_meaning}
+use Rattle.std.specs.Prelude.{Ok}
+use Rattle.wire.specs.WireAnswers.{number_meaning}
 use Rattle.format.proofs.Differ.{differ}
+use Rattle.wire.specs.WireAnswers.{Step}
 
 module _ (k : ℕ) (s : List ℕ) (at : ℕ) {b next : ℕ} where
   passed : (a n : ℕ) (t : Bool) → eqb a k ≡ t →
@@ -25,7 +26,7 @@ module _ (k : ℕ) (s : List ℕ) (at : ℕ) {b next : ℕ} where
   decoded (got a n) e = passed a n (eqb a k) refl e
 
 -- where a step answers with what is decoded
-pub opened : (k : ℕ) (s : List ℕ) (at : ℕ) {r : ByteStep} {b : ℕ} {c : Cursor} →
-    r ≡ ByteStep.Got b c → byte_meaning r ≡ decode_opening (k ∷ []) s at → got k c.at ≡ decode_opening (k ∷ []) s at
+pub opened : (k : ℕ) (s : List ℕ) (at : ℕ) {r : Step ℕ} {b : ℕ} {c : Cursor} →
+    r ≡ Ok (b, c) → number_meaning r ≡ decode_opening (k ∷ []) s at → got k c.at ≡ decode_opening (k ∷ []) s at
 unfolding decode_opening
 opened k s at {c = c} g e = let read = rw g at e in ap (λ n. got n c.at) (sym (eqb-true _ _ (decoded k s at (decode_byte s at) read))) ∙ read

@@ -6,18 +6,19 @@ use Rattle.format.specs.Messages.{Opcodes, server_opcodes, client_opcodes, udp_o
 use Rattle.format.specs.Layout.{encode}
 use Rattle.format.specs.Rules.{Valid}
 use Rattle.format.specs.Decoding as decoding
-use Rattle.format.specs.Decoding.{Outcome, refused, got, Decoder, ◌>>=◌, pure, Reply, refused_with, message, reply, ends}
+use Rattle.format.specs.Decoding.{Outcome, refused, got, Decoder, ◌>>=◌, pure, Reply, reply, ends}
 use Rattle.format.specs.PacketOrder.{decode_body, decode_length, decode_tcp, decode_udp}
 use Rattle.format.specs.MetOrder.{decode}
 use Rattle.wire.specs.declared.Fault.{Fault}
-use Rattle.wire.specs.WireAnswers.{fault_meaning, spec_no_fault, rule_meaning}
+use Rattle.wire.specs.WireAnswers.{fault_meaning}
 use Rattle.bodies.specs.BodyAnswers.{shape_of, body_in, BodyPlaced}
 use Rattle.packets.specs.declared.Link.{Link}
-use Rattle.packets.specs.declared.Listed.{Listed}
-use Rattle.packets.specs.declared.HeadStep.{HeadStep}
+use Rattle.bodies.specs.declared.Shape.{Shape}
 use Rattle.packets.specs.declared.Packet.{Packet}
-use Rattle.packets.specs.declared.PacketAnswer.{PacketAnswer}
-use Rattle.packets.specs.declared.PacketStep.{PacketStep}
+use Rattle.std.specs.Prelude as prelude
+use Rattle.std.specs.Prelude.{Result, Ok, Err}
+use Rattle.wire.specs.declared.Rule.{Rule}
+use Rattle.wire.specs.WireAnswers.{Step, step_meaning, reply_meaning, option_meaning, OfReply}
 
 abbrev pub link_kind : Link → messages.Kind
 link_kind Link.Server = server_link
@@ -40,39 +41,35 @@ decode_frame Link.Server = λ s at. ends (decode_length s at)
 decode_frame Link.Client = λ s at. ends (decode_length s at)
 decode_frame Link.Udp = pure tt
 
-abbrev pub shape_meaning : Listed → Option messages.Shape
-shape_meaning (Listed.As s) = some (shape_of s)
-shape_meaning Listed.Nowhere = none
+abbrev pub shape_meaning : prelude.Option Shape → Option messages.Shape
+shape_meaning = option_meaning shape_of
 
-abbrev pub head_meaning : HeadStep → Outcome (ℕ × messages.Shape)
-head_meaning (HeadStep.Got n s c) = got (n, shape_of s) c.at
-head_meaning (HeadStep.Refused f) = refused (fault_meaning f)
+abbrev pub head_meaning : Step (ℕ × Shape) → Outcome (ℕ × messages.Shape)
+head_meaning = step_meaning (λ h. (h.0, shape_of h.1))
 
 -- The packet whose head was read: its body lies after.
-abbrev pub packet_after : List ℕ → HeadStep → Outcome messages.Packet
-packet_after s (HeadStep.Got n shape c) = (decode_body (shape_of shape) >>= (λ body. pure (record { opening = 0xE3; opcode = n; body = body }))) s c.at
-packet_after s (HeadStep.Refused f) = refused (fault_meaning f)
+abbrev pub packet_after : List ℕ → Step (ℕ × Shape) → Outcome messages.Packet
+packet_after s (Ok ((n, shape), c)) = (decode_body (shape_of shape) >>= (λ body. pure (record { opening = 0xE3; opcode = n; body = body }))) s c.at
+packet_after s (Err f) = refused (fault_meaning f)
 
 abbrev pub packet_in : List ℕ → Packet → messages.Packet
 packet_in s p = record { opening = p.opening; opcode = p.opcode; body = body_in s p.body }
 
 -- What a caller gets.
-abbrev pub packet_reply : List ℕ → PacketAnswer → Reply messages.Packet
-packet_reply s (PacketAnswer.Accepted p) = message (packet_in s p)
-packet_reply s (PacketAnswer.Refused n) = refused_with n
+abbrev pub packet_reply : List ℕ → Result Packet Rule → Reply messages.Packet
+packet_reply s = reply_meaning (packet_in s)
 
-abbrev pub PacketPlaced : List ℕ → PacketAnswer → Type 0
-PacketPlaced s (PacketAnswer.Accepted p) = BodyPlaced s p.body
-PacketPlaced s (PacketAnswer.Refused n) = Unit {0}
+abbrev pub PacketPlaced : List ℕ → Result Packet Rule → Type 0
+PacketPlaced s = OfReply (λ p. BodyPlaced s p.body)
 
 -- A step as the answer that a caller gets, and its reason: the fault, or none.
-abbrev pub answer_of : PacketStep → PacketAnswer
-answer_of (PacketStep.Got p) = PacketAnswer.Accepted p
-answer_of (PacketStep.Refused f) = PacketAnswer.Refused (decoding.number (rule_meaning f.rule))
+abbrev pub answer_of : Result Packet Fault → Result Packet Rule
+answer_of (Ok p) = Ok p
+answer_of (Err f) = Err f.rule
 
-abbrev pub step_reason : PacketStep → Option decoding.Fault
-step_reason (PacketStep.Got p) = none
-step_reason (PacketStep.Refused f) = some (fault_meaning f)
+abbrev pub step_reason : Result Packet Fault → Option decoding.Fault
+step_reason (Ok p) = none
+step_reason (Err f) = some (fault_meaning f)
 
 -- The format's answer for the bytes of a packet on a link, and when it accepts them as a packet.
 abbrev pub link_reply : Link → List ℕ → Reply messages.Packet
@@ -84,7 +81,3 @@ abbrev pub LinkAccepts : Link → List ℕ → messages.Packet → Type 0
 LinkAccepts Link.Server s m = (s ≡ encode server_link m) × Valid server_link m
 LinkAccepts Link.Client s m = (s ≡ encode client_link m) × Valid client_link m
 LinkAccepts Link.Udp s m = (s ≡ encode udp_link m) × Valid udp_link m
-
-abbrev pub head_fault : HeadStep → Fault
-head_fault (HeadStep.Got n s c) = spec_no_fault
-head_fault (HeadStep.Refused f) = f

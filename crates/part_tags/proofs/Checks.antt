@@ -4,6 +4,7 @@ use mathlib.Core.Path.{◌≡◌, refl, sym, ap, subst, ◌∙◌}
 use mathlib.Core.List.{List, [], ◌++◌, append-nil}
 use lib.ListN.{length}
 use native.Mathlib.Omega.{arith}
+use Rattle.std.specs.Prelude.{None, Some, Ok, Err}
 use Rattle.format.specs.Messages.{Tag}
 use Rattle.format.specs.Decoding.{decode_many, ends, got, items_of, passes, violates}
 use Rattle.format.specs.Gaps.{gap_limit}
@@ -13,12 +14,10 @@ use Rattle.format.proofs.PartTags.{gaps-found}
 use Rattle.wire.specs.declared.Items.{Items}
 use Rattle.wire.specs.declared.Rule.{Rule}
 use Rattle.wire.specs.WireAnswers.{items_in, ItemsPlaced, rule_meaning}
-use Rattle.part_tags.specs.declared.Number.{Number}
 use Rattle.part_tags.specs.declared.Leading.{Leading}
 use Rattle.part_tags.specs.declared.Sizes.{Sizes}
 use Rattle.part_tags.specs.declared.Surveyed.{Surveyed}
-use Rattle.part_tags.specs.declared.TagsVerdict.{TagsVerdict}
-use Rattle.part_tags.specs.Survey.{GapTagsIn, LeadingTags, RangeTags, Sized, only_size, sole_after, list_at, SurveyedTags}
+use Rattle.part_tags.specs.Survey.{GapTagsIn, LeadingTags, Sized, only_size, sole_after, list_at, SurveyedTags}
 use Rattle.part_tags.specs.Pairs.{first_pairs, PairsInside, PassedTags}
 use Rattle.part_tags.specs.PartTagAnswers.{TagsChecked}
 use Rattle.part_tags.proofs.SizeTags.{only_none, only-some, size_same}
@@ -47,8 +46,8 @@ module _ (s : List ℕ) (at count : ℕ) (v : Surveyed) (h : SurveyedTags s at c
   all-scan = range-scan s (list_at at count v) v.range h.gap-tags
 
   -- not one size tag
-  pub checked-unsized : (starts : List ℕ) → Number.None ≡ only_size v.sizes
-      → TagsChecked s at count starts (record { end = v.end; verdict = TagsVerdict.Violates Rule.SizeTag; range = v.range; gaps = 0 })
+  pub checked-unsized : (starts : List ℕ) → None ≡ only_size v.sizes
+      → TagsChecked s at count starts (record { end = v.end; verdict = Err Rule.SizeTag; range = v.range; gaps = 0 })
   unfolding spec_check_part_tags PairsInside
   checked-unsized starts e = record {
     placed = h.placed;
@@ -59,13 +58,13 @@ module _ (s : List ℕ) (at count : ℕ) (v : Surveyed) (h : SurveyedTags s at c
     gaps = tt;
   }
 
-  module _ (starts : List ℕ) (size : ℕ) (one : Number.Some size ≡ only_size v.sizes) where
+  module _ (starts : List ℕ) (size : ℕ) (one : Some size ≡ only_size v.sizes) where
     found : sole (sizes tags) ≡ passes size
     found = all-sizes ∙ only-some v.sizes one
 
     -- a gap tag that breaks a rule
     pub checked-stopped : (rule : Rule) → scan size (between []) (items_in decode_tag s v.range) ≡ violates (rule_meaning rule)
-        → TagsChecked s at count starts (record { end = v.end; verdict = TagsVerdict.Violates rule; range = v.range; gaps = 0 })
+        → TagsChecked s at count starts (record { end = v.end; verdict = Err rule; range = v.range; gaps = 0 })
     unfolding spec_check_part_tags PairsInside
     checked-stopped rule e =
         let scanned : scan size (between []) tags ≡ violates (rule_meaning rule) = all-scan size ∙ e in record {
@@ -78,7 +77,7 @@ module _ (s : List ℕ) (at count : ℕ) (v : Surveyed) (h : SurveyedTags s at c
         }
 
     pub checked-passes : (n : ℕ) → n ≤ gap_limit → PairsInside s n starts → scan size (between []) (items_in decode_tag s v.range) ≡ passes (first_pairs s n starts)
-        → TagsChecked s at count starts (record { end = v.end; verdict = TagsVerdict.Passes size; range = v.range; gaps = n })
+        → TagsChecked s at count starts (record { end = v.end; verdict = Ok size; range = v.range; gaps = n })
     unfolding spec_check_part_tags
     checked-passes n few inside e =
         let pairs = first_pairs s n starts in
@@ -114,11 +113,11 @@ module _ (s : List ℕ) (at count : ℕ) (before : Sizes) (size : ℕ) (starts :
 -- Tags before the first gap tag, with one size tag, and a pass over the others that meets no other one.
 module _ (s : List ℕ) (at count : ℕ) (leading : Leading) (l : LeadingTags s at count leading) (size m : ℕ) (starts : List ℕ) (r : Surveyed) (n : ℕ)
     (one : leading.sizes ≡ Sizes.One size) (still : r.sizes ≡ Sizes.One m)
-    (k : PassedTags s leading.end (count - leading.count) (Sizes.One size) size starts r n) where
-  pub checked-at-once : TagsChecked s at count starts (record { end = r.end; verdict = TagsVerdict.Passes size; range = r.range; gaps = n })
+    (k : PassedTags s leading.end (count - leading.count) leading.sizes size starts r n) where
+  pub checked-at-once : TagsChecked s at count starts (record { end = r.end; verdict = Ok size; range = r.range; gaps = n })
   checked-at-once =
-      let left = count - leading.count in
-      let sized : Sized (Sizes.One size) (k.tags.mid ++ k.tags.post) (Sizes.One m) = subst (Sized (Sizes.One size) (k.tags.mid ++ k.tags.post)) still k.tags.sized in
-      let only : Number.Some size ≡ only_size r.sizes = ap Number.Some (size_same size m (k.tags.mid ++ k.tags.post) sized) ∙ ap only_size (sym still) in
-      let tags = subst (λ before. RangeTags s leading.end left before r) (sym one) k.tags in
-      checked-passes s at count r (whole s at count leading l r tags) starts size only n k.few k.inside (pass-range s leading.end left (Sizes.One size) size starts r n k)
+      let tags = k.tags.mid ++ k.tags.post in
+      let sized : Sized (Sizes.One size) tags (Sizes.One m) = subst (Sized (Sizes.One size) tags) still (subst (λ before. Sized before tags r.sizes) one k.tags.sized) in
+      let only : Some size ≡ only_size r.sizes = ap (λ n. Some n) (size_same size m tags sized) ∙ ap only_size (sym still) in
+      let ranged = pass-range s leading.end (count - leading.count) leading.sizes size starts r n k in
+      checked-passes s at count r (whole s at count leading l r k.tags) starts size only n k.few k.inside ranged

@@ -10,6 +10,7 @@ use lib.ListN.{length, get_or, set, replicate, length-append, length-map, drop, 
 use lib.Seq.{get_or-set_same, get_or-set_other, set_at, append_snoc, drop-cons}
 use lib.Dec.{leb, eqb}
 use borrow.Author.Tests.{eqb-true, eqb-false, eq-eqb, le-leb, lt-leb, le-ltb, lt-ltb}
+use Rattle.std.specs.Prelude.{None, Some}
 use Rattle.format.specs.Tables.{pick, same}
 use Rattle.format.specs.Messages.{Tag}
 use Rattle.format.specs.Rules as rules
@@ -27,7 +28,6 @@ use Rattle.gaps.specs.declared.Gap.{Gap as Slot}
 use Rattle.gaps.specs.declared.GapRecord.{GapRecord}
 use Rattle.gaps.specs.GapRecords.{place, place_of, spec_record_of}
 use Rattle.tags.specs.Skips.{offset_after}
-use Rattle.part_tags.specs.declared.Key.{Key}
 use Rattle.part_tags.specs.TagBytes.{TagThere, after_at, spec_digits_at, spec_dword_at, spec_name_length, number_at, role_at}
 use Rattle.part_tags.specs.Survey.{Plain, sizes_at}
 use Rattle.part_tags.specs.Pairs.{key_from, key_of, spec_key_found, pair_of, PairInside, first_pairs, PairsInside, gap_in, first_gaps, KeysBelow}
@@ -52,17 +52,17 @@ pub key-end : (d : List ℕ) (i k : ℕ) → length d ≤ i → key_from k (drop
 unfolding key_from
 key-end d i k h = rw (drop_of_length-le d {i = i} h) refl
 
-pub key-none : (d : List ℕ) → Key.None ≡ spec_key_found d → numbered d ≡ false
+pub key-none : (d : List ℕ) → None ≡ spec_key_found d → numbered d ≡ false
 key-none d = go (numbered d)
   where
-    go : (t : Bool) → Key.None ≡ pick t (Key.Some (key_of d)) Key.None → t ≡ false
+    go : (t : Bool) → None ≡ pick t (Some (key_of d)) None → t ≡ false
     go true e = differ cc
     go false e = refl
 
-pub key-some : (d : List ℕ) {k : ℕ} → Key.Some k ≡ spec_key_found d → (numbered d ≡ true) × (k ≡ key_of d)
+pub key-some : (d : List ℕ) {k : ℕ} → Some k ≡ spec_key_found d → (numbered d ≡ true) × (k ≡ key_of d)
 key-some d {k} = go (numbered d)
   where
-    go : (t : Bool) → Key.Some k ≡ pick t (Key.Some (key_of d)) Key.None → (t ≡ true) × (k ≡ key_of d)
+    go : (t : Bool) → Some k ≡ pick t (Some (key_of d)) None → (t ≡ true) × (k ≡ key_of d)
     go true e = (refl, cc e)
     go false e = differ cc
 

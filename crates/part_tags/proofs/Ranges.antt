@@ -5,6 +5,7 @@ use mathlib.Core.Bool.{true}
 use mathlib.Core.List.{List, [], ◌∷◌, ◌++◌, append_assoc}
 use native.Mathlib.Omega.{arith}
 use lib.ListN.{length, length-append}
+use Rattle.std.specs.Prelude.{Option, Result, Ok, Err, option_to_list}
 use Rattle.format.specs.Messages.{Tag}
 use Rattle.format.specs.Rules.{All}
 use Rattle.format.specs.Decoding.{Decoder, Fault, refused, got, decode_many, ends, items_of}
@@ -15,14 +16,13 @@ use Rattle.format.proofs.Differ.{differ}
 use Rattle.format.proofs.Codec.{same_place, same-value, went}
 use Rattle.format.proofs.Many.{ends-items}
 use Rattle.wire.proofs.Loops.{ReadUpTo, begins, goes_on, refuses, ended-refused}
+use Rattle.wire.specs.declared.Fault.{Fault as FaultHere}
 use Rattle.tags.specs.Skips.{offset_after}
 use Rattle.part_tags.specs.declared.Leading.{Leading}
-use Rattle.part_tags.specs.declared.Number.{Number}
 use Rattle.part_tags.specs.declared.Sizes.{Sizes}
 use Rattle.part_tags.specs.declared.Surveyed.{Surveyed}
-use Rattle.part_tags.specs.declared.SurveyStep.{SurveyStep}
 use Rattle.part_tags.specs.TagBytes.{role_at}
-use Rattle.part_tags.specs.Survey.{list_of, sizes_in, sizes_at, joined, Sized, Plain, LeadingTags, RangeTags, RangeFound, SurveyedTags, SurveyFound}
+use Rattle.part_tags.specs.Survey.{sizes_in, sizes_at, joined, Sized, Plain, LeadingTags, RangeTags, RangeFound, SurveyedTags, SurveyFound}
 use Rattle.part_tags.proofs.TagLaws.{tag-there}
 use Rattle.part_tags.proofs.SizeTags.{sized-none, sized-append, sized-next, sized-two}
 
@@ -55,12 +55,12 @@ all_append P [] l h j = j
 all_append P (a ∷ k) l h j = (h.0, all_append P k l h.1 j)
 
 -- A tag that was skipped, and the number that it adds to the sizes.
-pub record Skipped (s : List ℕ) (at : ℕ) (n : Number) (after : ℕ) : Type 0 where
+pub record Skipped (s : List ℕ) (at : ℕ) (n : Option ℕ) (after : ℕ) : Type 0 where
   pub tag : Tag
   pub read : decode_tag s at ≡ got tag after
-  pub sizes : list_of n ≡ sizes_in tag
+  pub sizes : option_to_list n ≡ sizes_in tag
 
-pub skipped : (s : List ℕ) (at : ℕ) (n : Number) {after : ℕ} → after ≡ offset_after (decode_tag s at) → (after ≡ 0 → ⊥) → list_of n ≡ sizes_at (decode_tag s at) → Skipped s at n after
+pub skipped : (s : List ℕ) (at : ℕ) (n : Option ℕ) {after : ℕ} → after ≡ offset_after (decode_tag s at) → (after ≡ 0 → ⊥) → option_to_list n ≡ sizes_at (decode_tag s at) → Skipped s at n after
 skipped s at n e other z = let t = tag-there s at e other in record { tag = t.0; read = t.1; sizes = z ∙ ap sizes_at t.1 }
 
 pub plain-is : (r : Role) → is_plain r ≡ true → r ≡ plain
@@ -69,7 +69,7 @@ plain-is odd e = differ cc
 plain-is (start d n) e = differ cc
 plain-is (end d n) e = differ cc
 
-pub plain-tag : {s : List ℕ} {at after : ℕ} {n : Number} (k : Skipped s at n after) → is_plain (role_at (decode_tag s at)) ≡ true → role k.tag ≡ plain
+pub plain-tag : {s : List ℕ} {at after : ℕ} {n : Option ℕ} (k : Skipped s at n after) → is_plain (role_at (decode_tag s at)) ≡ true → role k.tag ≡ plain
 plain-tag k p = plain-is (role k.tag) (sym (ap (λ o. is_plain (role_at o)) k.read) ∙ p)
 
 -- Before the first gap tag, with i tags skipped.
@@ -87,7 +87,7 @@ module _ (s : List ℕ) (at count : ℕ) where
       record { tags = []; up_to = begins decode_tag s at count; counted = refl; read = refl; plains = tt; sized = sized-none Sizes.None }
 
   module _ {found : Sizes} {next i : ℕ} (h : Leads s at count found next i) where
-    pub leads-next : {after : ℕ} (n : Number) → i < count → Skipped s next n after → is_plain (role_at (decode_tag s next)) ≡ true
+    pub leads-next : {after : ℕ} (n : Option ℕ) → i < count → Skipped s next n after → is_plain (role_at (decode_tag s next)) ≡ true
         → Leads s at count (joined found n) after (i + 1)
     leads-next n more k p = record {
       tags = h.tags ++ (k.tag ∷ []);
@@ -142,7 +142,7 @@ module _ (s : List ℕ) (at count : ℕ) (before : Sizes) where
     pub ranges-refused : {f : Fault} → i < count → refused f ≡ decode_tag s next → refused f ≡ decode_many count decode_tag s at
     ranges-refused more e = (refuses decode_tag s at count i next more h.up_to e).0
 
-    module _ {after : ℕ} (n : Number) (more : i < count) (k : Skipped s next n after) where
+    module _ {after : ℕ} (n : Option ℕ) (more : i < count) (k : Skipped s next n after) where
       abbrev t : Tag
       t = k.tag
 
@@ -250,8 +250,8 @@ module _ (s : List ℕ) (at count : ℕ) (leading : Leading) (l : LeadingTags s 
         sized = subst (λ l. Sized Sizes.None l r.sizes) (sym items) (sized-append Sizes.None leading.sizes r.sizes l.tags (h.mid ++ h.post) l.sized h.sized);
       }
 
-  pub survey-found : (r : SurveyStep) → RangeFound s leading.end (count - leading.count) leading.sizes r → SurveyFound s at count r
+  pub survey-found : (r : Result Surveyed FaultHere) → RangeFound s leading.end (count - leading.count) leading.sizes r → SurveyFound s at count r
   unfolding ends
-  survey-found (SurveyStep.Got r) h = whole r h
-  survey-found (SurveyStep.Refused f) h =
+  survey-found (Ok r) h = whole r h
+  survey-found (Err f) h =
       ended-refused (decode_many count decode_tag s at) (ap ends h ∙ sym l.left)

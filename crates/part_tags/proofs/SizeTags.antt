@@ -16,11 +16,11 @@ use Rattle.format.specs.Decoding.{bytes_at, passes, violates}
 use Rattle.format.specs.Order.{decode_tag}
 use Rattle.format.specs.PartTagOrder.{size_in, sizes, sole}
 use Rattle.format.proofs.Differ.{differ}
+use Rattle.std.specs.Prelude.{Option as Maybe, None, Some, option_to_list}
 use Rattle.format.proofs.PartTags.{passes_same, same-lengths, same_refl, violates-passes}
-use Rattle.part_tags.specs.declared.Number.{Number}
 use Rattle.part_tags.specs.declared.Sizes.{Sizes}
 use Rattle.part_tags.specs.TagBytes.{TagThere, spec_name_length, spec_digits_at, number_at, spec_dword_at}
-use Rattle.part_tags.specs.Survey.{list_of, sizes_in, sizes_at, joined, only_size, sole_after, Sized}
+use Rattle.part_tags.specs.Survey.{sizes_in, sizes_at, joined, only_size, sole_after, Sized}
 use Rattle.part_tags.proofs.TagLaws.{bytes_of}
 
 other_name : (name : List ℕ) (v : Option ℕ) → same name (0x02 ∷ []) ≡ false → size_in name v ≡ []
@@ -55,13 +55,13 @@ module _ (s : List ℕ) (at : ℕ) (there : TagThere s at) where
       let place : at + 3 + spec_name_length s at ≡ at + 4 = omega (arith, b) in
       sym (sizes-is ∙ rw (eq-eqb (get_or s at 0) 3 c, name, same_refl (0x02 ∷ []), place) refl)
 
-joined-sole : (found : Sizes) (n : Number) (l : List ℕ) → sole_after found (list_of n ++ l) ≡ sole_after (joined found n) l
-joined-sole Sizes.None Number.None l = refl
-joined-sole (Sizes.One m) Number.None l = refl
-joined-sole Sizes.Many Number.None l = refl
-joined-sole Sizes.None (Number.Some n) l = refl
-joined-sole (Sizes.One m) (Number.Some n) l = refl
-joined-sole Sizes.Many (Number.Some n) l = refl
+joined-sole : (found : Sizes) (n : Maybe ℕ) (l : List ℕ) → sole_after found (option_to_list n ++ l) ≡ sole_after (joined found n) l
+joined-sole Sizes.None None l = refl
+joined-sole (Sizes.One m) None l = refl
+joined-sole Sizes.Many None l = refl
+joined-sole Sizes.None (Some n) l = refl
+joined-sole (Sizes.One m) (Some n) l = refl
+joined-sole Sizes.Many (Some n) l = refl
 
 sizes-append : (k l : List Tag) → sizes (k ++ l) ≡ sizes k ++ sizes l
 unfolding sizes
@@ -77,11 +77,11 @@ pub sized-append : (a b c : Sizes) (k l : List Tag) → Sized a k b → Sized b 
 sized-append a b c k l p q r =
     ap (λ x. sole_after a (x ++ r)) (sizes-append k l) ∙ ap (sole_after a) (append_assoc (sizes k) (sizes l) r) ∙ p (sizes l ++ r) ∙ q r
 
-sized-one : (found : Sizes) (n : Number) (t : Tag) → list_of n ≡ sizes_in t → Sized found (t ∷ []) (joined found n)
+sized-one : (found : Sizes) (n : Maybe ℕ) (t : Tag) → option_to_list n ≡ sizes_in t → Sized found (t ∷ []) (joined found n)
 unfolding sizes
 sized-one found n t e l = rw (← e, append_assoc) (joined-sole found n l)
 
-pub sized-next : (before found : Sizes) (n : Number) (l : List Tag) (t : Tag) → Sized before l found → list_of n ≡ sizes_in t → Sized before (l ++ (t ∷ [])) (joined found n)
+pub sized-next : (before found : Sizes) (n : Maybe ℕ) (l : List Tag) (t : Tag) → Sized before l found → option_to_list n ≡ sizes_in t → Sized before (l ++ (t ∷ [])) (joined found n)
 sized-next before found n l t h e = sized-append before found (joined found n) l (t ∷ []) h (sized-one found n t e)
 
 -- two tags that are no size tags
@@ -98,15 +98,15 @@ size_same n m l h = go (sizes l ++ []) (h [])
     go (x ∷ k) e = absurd (violates-passes e)
 
 -- The check of the sizes, when all are seen.
-pub only_none : (found : Sizes) → Number.None ≡ only_size found → sole_after found [] ≡ violates decoding.size_tag
+pub only_none : (found : Sizes) → None ≡ only_size found → sole_after found [] ≡ violates decoding.size_tag
 only_none Sizes.None e = refl
 only_none (Sizes.One n) e = differ cc
 only_none Sizes.Many e = refl
 
-pub only-some : (found : Sizes) {n : ℕ} → Number.Some n ≡ only_size found → sole_after found [] ≡ passes n
+pub only-some : (found : Sizes) {n : ℕ} → Some n ≡ only_size found → sole_after found [] ≡ passes n
 only-some Sizes.None e = differ cc
 only-some (Sizes.One m) e = ap passes (number_same (sym e))
   where
-    number_same : {a b : ℕ} → Number.Some a ≡ Number.Some b → a ≡ b
+    number_same : {a b : ℕ} → Some a ≡ Some b → a ≡ b
     number_same e = cc
 only-some Sizes.Many e = differ cc

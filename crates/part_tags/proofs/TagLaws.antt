@@ -8,6 +8,7 @@ use native.Mathlib.Omega.{arith}
 use lib.ListN.{length, get_or}
 use lib.Dec.{leb, ltb, eqb}
 use borrow.Author.Tests.{eqb-true, eqb-false, leb-true, ltb-true, ltb-false, eq-eqb, ne_eqb}
+use Rattle.std.specs.Prelude.{Ok, Err, IsErr}
 use Rattle.format.specs.Tables.{lookup, pick}
 use Rattle.format.specs.Messages.{Tag, TagType, TagValue, dword_type, float_type, hash_type, string_type}
 use Rattle.format.specs.Decoding.{Outcome, refused, got, bytes_at, checked, choice, found, name_ceiling, passes, settled, violates}
@@ -17,9 +18,9 @@ use Rattle.format.specs.PutGaps.{is_plain}
 use Rattle.format.proofs.Differ.{differ}
 use Rattle.format.proofs.Codec.{never, same_place, same-value, went}
 use Rattle.format.proofs.There.{byte-ends, byte-there, dword-ends, part-cons, run-was, word-ends, word-there}
-use Rattle.wire.specs.WireAnswers.{fault_meaning}
-use Rattle.tags.specs.declared.TagStep.{TagStep}
-use Rattle.tags.specs.TagAnswers.{tag_meaning, tag_fault}
+use Rattle.wire.specs.WireAnswers.{Step}
+use Rattle.tags.specs.declared.Tag.{Tag as TagPlace}
+use Rattle.tags.specs.TagAnswers.{tag_meaning}
 use Rattle.tags.specs.Skips.{offset_after}
 use Rattle.part_tags.specs.TagBytes.{TagThere, spec_dword_at, dword_of, spec_name_length, spec_digits_at, number_at, after_at, role_at}
 
@@ -154,9 +155,9 @@ tag_at s at {t} {next} e =
     }
 
 -- A tag that is refused has no offset after it; one that is there has.
-pub fault-is : (s : List ℕ) (at : ℕ) (r : TagStep) → tag_meaning s r ≡ decode_tag s at → offset_after (decode_tag s at) ≡ 0 → refused (fault_meaning (tag_fault r)) ≡ decode_tag s at
-fault-is s at (TagStep.Refused f) e z = e
-fault-is s at (TagStep.Got t c) e z = absurd (omega (arith, (tag_at s at (sym e)).after, rw (← e) at z))
+pub is-refused : (s : List ℕ) (at : ℕ) (r : Step TagPlace) → tag_meaning s r ≡ decode_tag s at → offset_after (decode_tag s at) ≡ 0 → IsErr r
+is-refused s at (Err f) e z = refl
+is-refused s at (Ok (t, c)) e z = absurd (omega (arith, (tag_at s at (sym e)).after, rw (← e) at z))
 
 pub tag-ends : (s : List ℕ) (at : ℕ) → TagThere s at → offset_after (decode_tag s at) ≡ 0 → ⊥
 tag-ends s at there zero = omega (arith, (tag_at s at there.1.1).after, sym (ap offset_after there.1.1) ∙ zero)

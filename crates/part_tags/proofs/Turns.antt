@@ -6,6 +6,7 @@ use mathlib.Core.List.{List, [], ◌∷◌, ◌++◌, append_assoc, append-nil}
 use native.Mathlib.Nat.{sub-zero}
 use native.Mathlib.Omega.{arith}
 use lib.ListN.{length, length-set, set}
+use Rattle.std.specs.Prelude.{Option}
 use Rattle.format.specs.Messages.{Tag}
 use Rattle.format.specs.Rules.{GapPair}
 use Rattle.format.specs.Decoding as decoding
@@ -18,7 +19,6 @@ use Rattle.wire.specs.declared.Items.{Items}
 use Rattle.wire.specs.declared.Rule.{Rule}
 use Rattle.wire.specs.WireAnswers.{items_in, ItemsPlaced}
 use Rattle.tags.specs.Skips.{offset_after}
-use Rattle.part_tags.specs.declared.Number.{Number}
 use Rattle.part_tags.specs.declared.Progress.{Progress as Reached}
 use Rattle.part_tags.specs.declared.Sizes.{Sizes}
 use Rattle.part_tags.specs.TagBytes.{TagThere, after_at, spec_digits_at, number_at, role_at}
@@ -74,8 +74,8 @@ module _ (s : List ℕ) (size : ℕ) (ps : List GapPair) (left : Items) (placed 
       second-there = next-there decode_tag s n at placed 1 second (omega arith) first.1.1.reached
 
       -- the tag after it does not end the pair
-      pub pair-open : ((ps : List GapPair) → step size (within ps d start) (role_at (decode_tag s second)) ≡ violates decoding.order)
-          → scan size (between ps) (items_in decode_tag s left) ≡ violates decoding.order
+      pub pair-open : {rule : decoding.Rule} → ((ps : List GapPair) → step size (within ps d start) (role_at (decode_tag s second)) ≡ violates rule)
+          → scan size (between ps) (items_in decode_tag s left) ≡ violates rule
       pair-open e =
           let t = second-there in
           let turn = turn-after decode_tag s n at placed 1 second (omega arith) first.1.1.reached (sym (ap offset_after t.1.1)) in
@@ -134,7 +134,7 @@ module _ (s : List ℕ) (at count : ℕ) (before : Sizes) (size : ℕ) where
     abbrev tags : List Tag
     tags = h.ranges.mid ++ h.ranges.post
 
-    pub passing-plain : {after : ℕ} (n : Number) → i < count → Skipped s next n after → is_plain (role_at (decode_tag s next)) ≡ true
+    pub passing-plain : {after : ℕ} (n : Option ℕ) → i < count → Skipped s next n after → is_plain (role_at (decode_tag s next)) ≡ true
         → Passing s at count before size starts progress (joined found n) gap_end gap_count after (i + 1)
     unfolding ranges-plain
     passing-plain n more k p =

@@ -1,5 +1,5 @@
 -- What the pass finds: the pairs of gap tags, each known by the offset of its start tag.
-use Rattle.std.specs.Prelude.{◌≡◌, List, [], ◌∷◌, ◌++◌, ℕ, zero, suc, ◌+◌, ◌*◌, ◌%◌, ◌≤◌, ◌<◌, length, get_or}
+use Rattle.std.specs.Prelude.{◌≡◌, List, [], ◌∷◌, ◌++◌, ℕ, zero, suc, ◌+◌, ◌*◌, ◌%◌, ◌≤◌, ◌<◌, length, get_or, Option, None, Some, Result, Ok, Err}
 use Rattle.format.specs.Gaps as gaps
 use Rattle.format.specs.Gaps.{gap_limit}
 use Rattle.format.specs.Rules.{GapPair}
@@ -11,12 +11,7 @@ use Rattle.format.specs.PartTagOrder.{between, within, next_start, numbered, sca
 use Rattle.tags.specs.Skips.{offset_after}
 use Rattle.wire.specs.declared.Rule.{Rule}
 use Rattle.wire.specs.WireAnswers.{rule_meaning}
-use Rattle.part_tags.specs.declared.Key.{Key}
 use Rattle.part_tags.specs.declared.Progress.{Progress as Reached}
-use Rattle.part_tags.specs.declared.StartStep.{StartStep}
-use Rattle.part_tags.specs.declared.EndStep.{EndStep}
-use Rattle.part_tags.specs.declared.PairStep.{PairStep}
-use Rattle.part_tags.specs.declared.PassStep.{PassStep}
 use Rattle.part_tags.specs.declared.Sizes.{Sizes}
 use Rattle.part_tags.specs.declared.Surveyed.{Surveyed}
 use Rattle.part_tags.specs.TagBytes.{spec_digits_at, number_at, after_at, role_at}
@@ -30,8 +25,8 @@ key_from k (b ∷ l) = key_from (k % 1099511627776 * 16 + b) l
 abbrev pub key_of : List ℕ → ℕ
 key_of d = key_from 0 d
 
-abbrev pub spec_key_found : List ℕ → Key
-spec_key_found d = pick (numbered d) (Key.Some (key_of d)) Key.None
+abbrev pub spec_key_found : List ℕ → Option ℕ
+spec_key_found d = pick (numbered d) (Some (key_of d)) None
 
 -- The pair whose start tag lies there, and its end tag after it.
 abbrev pub start_of : List ℕ → ℕ → ℕ
@@ -85,9 +80,9 @@ pub record StartTakes (s : List ℕ) (ps : List GapPair) (at key start second : 
   pub next : second ≡ offset_after (decode_tag s at)
   pub steps : (size : ℕ) → step size (between ps) (role_at (decode_tag s at)) ≡ passes (within ps (spec_digits_at s at) start)
 
-abbrev pub StartFound : List ℕ → List GapPair → ℕ → StartStep → Type 0
-StartFound s ps at (StartStep.Takes key start second) = StartTakes s ps at key start second
-StartFound s ps at (StartStep.Violates rule) = (size : ℕ) → step size (between ps) (role_at (decode_tag s at)) ≡ violates (rule_meaning rule)
+abbrev pub StartFound : List ℕ → List GapPair → ℕ → Result (ℕ × ℕ × ℕ) Rule → Type 0
+StartFound s ps at (Ok (key, start, second)) = StartTakes s ps at key start second
+StartFound s ps at (Err rule) = (size : ℕ) → step size (between ps) (role_at (decode_tag s at)) ≡ violates (rule_meaning rule)
 
 -- The tag after the start tag of a pair.
 pub record EndTakes (s : List ℕ) (size : ℕ) (d : List ℕ) (start at end after : ℕ) : Type 0 where
@@ -98,9 +93,9 @@ pub record EndTakes (s : List ℕ) (size : ℕ) (d : List ℕ) (start at end aft
   pub steps : (ps : List GapPair) → step size (within ps d start) (role_at (decode_tag s at))
       ≡ passes (between (record { digits = d; start = start; end = end } ∷ ps))
 
-abbrev pub EndFound : List ℕ → ℕ → List ℕ → ℕ → ℕ → EndStep → Type 0
-EndFound s size d start at (EndStep.Takes end after) = EndTakes s size d start at end after
-EndFound s size d start at EndStep.Violates = (ps : List GapPair) → step size (within ps d start) (role_at (decode_tag s at)) ≡ violates (rule_meaning Rule.Order)
+abbrev pub EndFound : List ℕ → ℕ → List ℕ → ℕ → ℕ → Result (ℕ × ℕ) Rule → Type 0
+EndFound s size d start at (Ok (end, after)) = EndTakes s size d start at end after
+EndFound s size d start at (Err rule) = (ps : List GapPair) → step size (within ps d start) (role_at (decode_tag s at)) ≡ violates (rule_meaning rule)
 
 -- A gap tag between two pairs, the first of the tags that are left, and the tag after it.
 pub record PairTakes (s : List ℕ) (size : ℕ) (ps : List GapPair) (at left key end after : ℕ) : Type 0 where
@@ -123,9 +118,9 @@ abbrev pub Stops : List ℕ → (size : ℕ) → List GapPair → (at count : �
 Stops s size ps at count rule = (end : ℕ) → ends (decode_many count decode_tag s at) ≡ got tt end
     → scan size (between ps) (items_of (decode_many count decode_tag s at)) ≡ violates (rule_meaning rule)
 
-abbrev pub PairFound : List ℕ → ℕ → List GapPair → (at left : ℕ) → PairStep → Type 0
-PairFound s size ps at left (PairStep.Takes key end after) = PairTakes s size ps at left key end after
-PairFound s size ps at left (PairStep.Violates rule) = Stops s size ps at left rule
+abbrev pub PairFound : List ℕ → ℕ → List GapPair → (at left : ℕ) → Result (ℕ × ℕ × ℕ) Rule → Type 0
+PairFound s size ps at left (Ok (key, end, after)) = PairTakes s size ps at left key end after
+PairFound s size ps at left (Err rule) = Stops s size ps at left rule
 
 -- The tags from the first gap tag on.
 pub record PassedTags (s : List ℕ) (at count : ℕ) (before : Sizes) (size : ℕ) (starts : List ℕ) (r : Surveyed) (n : ℕ) : Type 0 where
@@ -134,15 +129,6 @@ pub record PassedTags (s : List ℕ) (at count : ℕ) (before : Sizes) (size : �
   pub inside : PairsInside s n starts
   pub scans : scan size (between []) (tags.mid ++ tags.post) ≡ passes (first_pairs s n starts)
 
-abbrev pub PassFound : List ℕ → (at count : ℕ) → Sizes → (size : ℕ) → (starts : List ℕ) → PassStep → Type 0
-PassFound s at count before size starts (PassStep.Passes r n) = PassedTags s at count before size starts r n
-PassFound s at count before size starts (PassStep.Violates rule) = Stops s size [] at count rule
-
--- What the methods `rule` propagate.
-abbrev pub start_rule : StartStep → Rule
-start_rule (StartStep.Takes key start second) = Rule.Order
-start_rule (StartStep.Violates rule) = rule
-
-abbrev pub pair_rule : PairStep → Rule
-pair_rule (PairStep.Takes key end after) = Rule.Order
-pair_rule (PairStep.Violates rule) = rule
+abbrev pub PassFound : List ℕ → (at count : ℕ) → Sizes → (size : ℕ) → (starts : List ℕ) → Result (Surveyed × ℕ) Rule → Type 0
+PassFound s at count before size starts (Ok (r, n)) = PassedTags s at count before size starts r n
+PassFound s at count before size starts (Err rule) = Stops s size [] at count rule

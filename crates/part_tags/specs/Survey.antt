@@ -1,5 +1,5 @@
 -- What the first pass finds: the size tags, and the byte range of the gap tags.
-use Rattle.std.specs.Prelude.{◌≡◌, List, [], ◌∷◌, ◌++◌, ℕ, ◌+◌, ◌-◌, ◌≤◌, length}
+use Rattle.std.specs.Prelude.{◌≡◌, List, [], ◌∷◌, ◌++◌, ℕ, ◌+◌, ◌-◌, ◌≤◌, length, Option, None, Some, Result, Ok, Err}
 use Rattle.format.specs.Messages.{Tag}
 use Rattle.format.specs.Rules.{All}
 use Rattle.format.specs.Decoding as decoding
@@ -9,19 +9,12 @@ use Rattle.format.specs.Order.{decode_tag}
 use Rattle.format.specs.PartTagOrder.{size_in, sizes, sole}
 use Rattle.wire.specs.declared.Fault.{Fault}
 use Rattle.wire.specs.declared.Items.{Items}
-use Rattle.wire.specs.WireAnswers.{fault_meaning, items_in, spec_no_fault}
-use Rattle.part_tags.specs.declared.Number.{Number}
+use Rattle.wire.specs.WireAnswers.{fault_meaning, items_in}
 use Rattle.part_tags.specs.declared.Sizes.{Sizes}
 use Rattle.part_tags.specs.declared.Leading.{Leading}
-use Rattle.part_tags.specs.declared.LeadingStep.{LeadingStep}
 use Rattle.part_tags.specs.declared.Surveyed.{Surveyed}
-use Rattle.part_tags.specs.declared.SurveyStep.{SurveyStep}
 
 -- The sizes
-
-abbrev pub list_of : Number → List ℕ
-list_of Number.None = []
-list_of (Number.Some n) = n ∷ []
 
 -- the numbers of the size tags that a tag adds; what is refused adds none
 abbrev pub sizes_in : Tag → List ℕ
@@ -31,16 +24,16 @@ abbrev pub sizes_at : Outcome Tag → List ℕ
 sizes_at (refused f) = []
 sizes_at (got t next) = sizes_in t
 
-abbrev pub joined : Sizes → Number → Sizes
-joined sizes Number.None = sizes
-joined Sizes.None (Number.Some n) = Sizes.One n
-joined (Sizes.One m) (Number.Some n) = Sizes.Many
-joined Sizes.Many (Number.Some n) = Sizes.Many
+abbrev pub joined : Sizes → Option ℕ → Sizes
+joined sizes None = sizes
+joined Sizes.None (Some n) = Sizes.One n
+joined (Sizes.One m) (Some n) = Sizes.Many
+joined Sizes.Many (Some n) = Sizes.Many
 
-abbrev pub only_size : Sizes → Number
-only_size Sizes.None = Number.None
-only_size (Sizes.One n) = Number.Some n
-only_size Sizes.Many = Number.None
+abbrev pub only_size : Sizes → Option ℕ
+only_size Sizes.None = None
+only_size (Sizes.One n) = Some n
+only_size Sizes.Many = None
 
 -- the check of the sizes seen, with others after them
 abbrev pub sole_after : Sizes → List ℕ → Check ℕ
@@ -79,9 +72,9 @@ pub record LeadingTags (s : List ℕ) (at count : ℕ) (r : Leading) : Type 0 wh
   pub plains : All Plain tags
   pub sized : Sized Sizes.None tags r.sizes
 
-abbrev pub LeadingFound : List ℕ → (at count : ℕ) → LeadingStep → Type 0
-LeadingFound s at count (LeadingStep.Got r) = LeadingTags s at count r
-LeadingFound s at count (LeadingStep.Refused f) = refused (fault_meaning f) ≡ decode_many count decode_tag s at
+abbrev pub LeadingFound : List ℕ → (at count : ℕ) → Result Leading Fault → Type 0
+LeadingFound s at count (Ok r) = LeadingTags s at count r
+LeadingFound s at count (Err f) = refused (fault_meaning f) ≡ decode_many count decode_tag s at
 
 -- From the first gap tag on: those up to the last gap tag, and the others.
 pub record RangeTags (s : List ℕ) (at count : ℕ) (before : Sizes) (r : Surveyed) : Type 0 where
@@ -94,9 +87,9 @@ pub record RangeTags (s : List ℕ) (at count : ℕ) (before : Sizes) (r : Surve
   pub plains : All Plain post
   pub sized : Sized before (mid ++ post) r.sizes
 
-abbrev pub RangeFound : List ℕ → (at count : ℕ) → Sizes → SurveyStep → Type 0
-RangeFound s at count before (SurveyStep.Got r) = RangeTags s at count before r
-RangeFound s at count before (SurveyStep.Refused f) = refused (fault_meaning f) ≡ decode_many count decode_tag s at
+abbrev pub RangeFound : List ℕ → (at count : ℕ) → Sizes → Result Surveyed Fault → Type 0
+RangeFound s at count before (Ok r) = RangeTags s at count before r
+RangeFound s at count before (Err f) = refused (fault_meaning f) ≡ decode_many count decode_tag s at
 
 -- The whole list.
 abbrev pub list_at : (at count : ℕ) → Surveyed → Items
@@ -107,15 +100,6 @@ pub record SurveyedTags (s : List ℕ) (at count : ℕ) (r : Surveyed) : Type 0 
   pub gap-tags : GapTagsIn s (list_at at count r) r.range
   pub sized : Sized Sizes.None (items_in decode_tag s (list_at at count r)) r.sizes
 
-abbrev pub SurveyFound : List ℕ → (at count : ℕ) → SurveyStep → Type 0
-SurveyFound s at count (SurveyStep.Got r) = SurveyedTags s at count r
-SurveyFound s at count (SurveyStep.Refused f) = refused (fault_meaning f) ≡ decode_many count decode_tag s at
-
--- What the methods `fault` propagate.
-abbrev pub leading_fault : LeadingStep → Fault
-leading_fault (LeadingStep.Got r) = spec_no_fault
-leading_fault (LeadingStep.Refused f) = f
-
-abbrev pub survey_fault : SurveyStep → Fault
-survey_fault (SurveyStep.Got r) = spec_no_fault
-survey_fault (SurveyStep.Refused f) = f
+abbrev pub SurveyFound : List ℕ → (at count : ℕ) → Result Surveyed Fault → Type 0
+SurveyFound s at count (Ok r) = SurveyedTags s at count r
+SurveyFound s at count (Err f) = refused (fault_meaning f) ≡ decode_many count decode_tag s at

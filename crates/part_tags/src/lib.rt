@@ -16,14 +16,14 @@ ghost use Rattle.format.specs.Order.{decode_tag};
 ghost use Rattle.format.specs.PartTagOrder.{spec_check_part_tags};
 ghost use Rattle.wire.specs.WireAnswers.{items_in, ItemsPlaced};
 ghost use Rattle.gaps.specs.GapRecords.{place_of, spec_record_of};
-ghost use Rattle.part_tags.specs.PartTagAnswers.{verdict_meaning, gaps_meaning, CheckedFound, checked_fault};
+ghost use Rattle.part_tags.specs.PartTagAnswers.{verdict_meaning, gaps_meaning, CheckedFound};
 ghost use Rattle.part_tags.specs.TagBytes.{spec_dword_at, spec_name_length};
 ghost use Rattle.wire.specs.declared.Items.{Items};
-ghost use Rattle.part_tags.specs.Survey.{joined, only_size, leading_fault, survey_fault};
-ghost use Rattle.part_tags.specs.Pairs.{start_rule, pair_rule, gap_in, first_gaps, PairInside, PairsInside};
+ghost use Rattle.part_tags.specs.Survey.{joined, only_size};
+ghost use Rattle.part_tags.specs.Pairs.{gap_in, first_gaps, PairInside, PairsInside};
 
 use gaps::{Gap, GapRecord, none_missing};
-use wire::{Cursor, DwordStep, Fault, Items, Rule, no_fault};
+use wire::{Cursor, Fault, Items, Rule};
 
 mod pairs;
 mod survey;
@@ -41,17 +41,11 @@ const START_NAME: u8 = 9;
 
 const END_NAME: u8 = 10;
 
-// The size of a tag list that passes, or the rule that it breaks: SizeTag, Order or GapCeiling.
-#[derive(Clone, Copy)]
-pub enum TagsVerdict {
-    Passes(u32),
-    Violates(Rule),
-}
-
-// The verdict, and the gaps of a tag list that passes; where a rule is broken, no gaps of an empty file.
+// The verdict is the size of a tag list that passes, or the rule that it breaks: SizeTag, Order or GapCeiling. The gaps are those of a list
+// that passes; where a rule is broken, none of an empty file.
 #[derive(Clone, Copy)]
 pub struct PartTags {
-    pub verdict: TagsVerdict,
+    pub verdict: Result<u32, Rule>,
     pub gaps: GapRecord,
 }
 
@@ -59,34 +53,9 @@ pub struct PartTags {
 #[derive(Clone, Copy)]
 pub struct CheckedTags {
     pub end: usize,
-    pub verdict: TagsVerdict,
+    pub verdict: Result<u32, Rule>,
     pub range: Items,
     pub gaps: usize,
-}
-
-#[derive(Clone, Copy)]
-pub enum CheckedStep {
-    Got(CheckedTags),
-    Refused(Fault),
-}
-
-impl CheckedStep {
-    // The fault of a refusal.
-    pub fn fault(self) -> Fault
-        ensures { result ≡ checked_fault self }
-    {
-        match self {
-            CheckedStep::Got(_) => no_fault(),
-            CheckedStep::Refused(f) => f,
-        }
-    }
-}
-
-// The number of a DWORD tag.
-#[derive(Clone, Copy)]
-enum Number {
-    None,
-    Some(u32),
 }
 
 // The size tags seen so far.
@@ -98,12 +67,12 @@ enum Sizes {
 }
 
 impl Sizes {
-    fn join(self, number: Number) -> Sizes
+    fn join(self, number: Option<u32>) -> Sizes
         ensures { result ≡ joined self number }
     {
         match number {
-            Number::None => self,
-            Number::Some(n) => match self {
+            None => self,
+            Some(n) => match self {
                 Sizes::None => Sizes::One(n),
                 Sizes::One(_) => Sizes::Many,
                 Sizes::Many => Sizes::Many,
@@ -112,13 +81,13 @@ impl Sizes {
     }
 
     // The size, if there is one size tag.
-    fn only(self) -> Number
+    fn only(self) -> Option<u32>
         ensures { result ≡ only_size self }
     {
         match self {
-            Sizes::None => Number::None,
-            Sizes::One(size) => Number::Some(size),
-            Sizes::Many => Number::None,
+            Sizes::None => None,
+            Sizes::One(size) => Some(size),
+            Sizes::Many => None,
         }
     }
 }
@@ -131,53 +100,12 @@ struct Leading {
     sizes: Sizes,
 }
 
-#[derive(Clone, Copy)]
-enum LeadingStep {
-    Got(Leading),
-    Refused(Fault),
-}
-
-impl LeadingStep {
-    fn fault(self) -> Fault
-        ensures { result ≡ leading_fault self }
-    {
-        match self {
-            LeadingStep::Got(_) => no_fault(),
-            LeadingStep::Refused(f) => f,
-        }
-    }
-}
-
 // The byte range of the gap tags, the offset after all tags, and all size tags.
 #[derive(Clone, Copy)]
 struct Surveyed {
     range: Items,
     end: usize,
     sizes: Sizes,
-}
-
-#[derive(Clone, Copy)]
-enum SurveyStep {
-    Got(Surveyed),
-    Refused(Fault),
-}
-
-impl SurveyStep {
-    fn fault(self) -> Fault
-        ensures { result ≡ survey_fault self }
-    {
-        match self {
-            SurveyStep::Got(_) => no_fault(),
-            SurveyStep::Refused(f) => f,
-        }
-    }
-}
-
-// The key of 1 to 10 decimal digits, which is higher for the digits of a higher number.
-#[derive(Clone, Copy)]
-enum Key {
-    None,
-    Some(u64),
 }
 
 // How many pairs there are, the least start that the next one may have, and the highest key of their digits.
@@ -188,63 +116,12 @@ struct Progress {
     highest: u64,
 }
 
-// A start tag: its key, its number, and the offset after it.
-#[derive(Clone, Copy)]
-enum StartStep {
-    Takes(u64, u32, usize),
-    Violates(Rule),
-}
-
-impl StartStep {
-    fn rule(self) -> Rule
-        ensures { result ≡ start_rule self }
-    {
-        match self {
-            StartStep::Takes(_, _, _) => Rule::Order,
-            StartStep::Violates(rule) => rule,
-        }
-    }
-}
-
-// An end tag: its number, and the offset after it.
-#[derive(Clone, Copy)]
-enum EndStep {
-    Takes(u32, usize),
-    Violates,
-}
-
-// A pair: its key, its end, and the offset after it.
-#[derive(Clone, Copy)]
-enum PairStep {
-    Takes(u64, u32, usize),
-    Violates(Rule),
-}
-
-impl PairStep {
-    fn rule(self) -> Rule
-        ensures { result ≡ pair_rule self }
-    {
-        match self {
-            PairStep::Takes(_, _, _) => Rule::Order,
-            PairStep::Violates(rule) => rule,
-        }
-    }
-}
-
-// Tags that keep the rules of the pairs, with their survey and the number of pairs; or the rule that is broken, if all tags are there.
-#[derive(Clone, Copy)]
-enum PassStep {
-    Passes(Surveyed, usize),
-    Violates(Rule),
-}
-
 // The DWORD that lies there; 0 where none does.
 fn dword_at(s: &[u8], at: usize) -> u32
     ensures { result ≡ spec_dword_at s.now at }
 {
     let c = Cursor { at };
-    let dword_step = c.dword(s);
-    let DwordStep::Got(number, _) = dword_step else {
+    let Ok((number, _)) = c.dword(s) else {
         return 0;
     };
     number
@@ -259,37 +136,34 @@ fn name_length(s: &[u8], at: usize) -> usize
 }
 
 // The check by a survey of all tags and a pass over the range of the gap tags.
-fn check_in_two_passes(s: &[u8], at: usize, count: u32, starts: &mut [usize; 64]) -> CheckedStep
+fn check_in_two_passes(
+    s: &[u8],
+    at: usize,
+    count: u32,
+    starts: &mut [usize; 64],
+) -> Result<CheckedTags, Fault>
     requires { length starts.old ≡ 64 }
     ensures { CheckedFound s.now at count starts.new result }
 {
-    let survey_step = survey::survey(s, at, count);
-    let SurveyStep::Got(surveyed) = survey_step else {
-        return CheckedStep::Refused(survey_step.fault());
-    };
-    let range = surveyed.range;
-    let end = surveyed.end;
-    let sizes = surveyed.sizes;
-    let only = sizes.only();
-    let Number::Some(size) = only else {
-        return CheckedStep::Got(CheckedTags {
+    let Surveyed { range, end, sizes } = survey::survey(s, at, count)?;
+    let Some(size) = sizes.only() else {
+        return Ok(CheckedTags {
             end,
-            verdict: TagsVerdict::Violates(Rule::SizeTag),
+            verdict: Err(Rule::SizeTag),
             range,
             gaps: 0,
         });
     };
-    let pass_step = pairs::pass_gaps(s, range.at, range.count, sizes, size, starts);
-    match pass_step {
-        PassStep::Passes(_, gaps) => CheckedStep::Got(CheckedTags {
+    match pairs::pass_gaps(s, range.at, range.count, sizes, size, starts) {
+        Ok((_, gaps)) => Ok(CheckedTags {
             end,
-            verdict: TagsVerdict::Passes(size),
+            verdict: Ok(size),
             range,
             gaps,
         }),
-        PassStep::Violates(rule) => CheckedStep::Got(CheckedTags {
+        Err(rule) => Ok(CheckedTags {
             end,
-            verdict: TagsVerdict::Violates(rule),
+            verdict: Err(rule),
             range,
             gaps: 0,
         }),
@@ -298,32 +172,36 @@ fn check_in_two_passes(s: &[u8], at: usize, count: u32, starts: &mut [usize; 64]
 
 // `count` tags that lie from `at` on, and their check. The offsets of the start tags are left in the array. Where the size stands before
 // the gaps, as clients write it, and no rule is broken, one pass finds all.
-pub fn part_tags_from(s: &[u8], at: usize, count: u32, starts: &mut [usize; 64]) -> CheckedStep
+pub fn part_tags_from(
+    s: &[u8],
+    at: usize,
+    count: u32,
+    starts: &mut [usize; 64],
+) -> Result<CheckedTags, Fault>
     requires { length starts.old ≡ 64 }
     ensures { CheckedFound s.now at count starts.new result }
 {
-    let leading_step = survey::leading_tags(s, at, count);
-    let LeadingStep::Got(leading) = leading_step else {
-        return CheckedStep::Refused(leading_step.fault());
-    };
-    let passed = leading.count;
-    let sizes = leading.sizes;
-    let Sizes::One(size) = sizes else {
+    let leading = survey::leading_tags(s, at, count)?;
+    let Sizes::One(size) = leading.sizes else {
         return check_in_two_passes(s, at, count, starts);
     };
-    let pass_step = pairs::pass_gaps(s, leading.end, count - passed, sizes, size, starts);
-    let PassStep::Passes(surveyed, gaps) = pass_step else {
+    let Ok((surveyed, gaps)) = pairs::pass_gaps(
+        s,
+        leading.end,
+        count - leading.count,
+        leading.sizes,
+        size,
+        starts,
+    ) else {
         return check_in_two_passes(s, at, count, starts);
     };
-    let all_sizes = surveyed.sizes;
-    let Sizes::One(_) = all_sizes else {
+    let Sizes::One(_) = surveyed.sizes else {
         return check_in_two_passes(s, at, count, starts);
     };
-    let range = surveyed.range;
-    CheckedStep::Got(CheckedTags {
+    Ok(CheckedTags {
         end: surveyed.end,
-        verdict: TagsVerdict::Passes(size),
-        range,
+        verdict: Ok(size),
+        range: surveyed.range,
         gaps,
     })
 }
@@ -351,11 +229,9 @@ pub fn record_of(s: &[u8], starts: &[usize; 64], count: usize, size: u32) -> Gap
 {
     let mut made = none_missing(size as u64);
     made.count = count;
-    let mut filled = 0;
-    while filled < count {
+    for filled in 0..count {
         let at = starts[filled];
         made.gaps[filled] = gap_at(s, at);
-        filled += 1;
     }
     made
 }
@@ -368,22 +244,20 @@ pub fn check_part_tags(s: &[u8], tags: Items) -> PartTags
     ensures gaps { result.gaps ≡ gaps_meaning (items_in decode_tag s.now tags) result.verdict }
 {
     let mut starts: [usize; 64] = [0; 64];
-    let tags_step = part_tags_from(s, tags.at, tags.count, &mut starts);
-    let CheckedStep::Got(checked) = tags_step else {
+    let Ok(checked) = part_tags_from(s, tags.at, tags.count, &mut starts) else {
         // Never taken: the list was read before.
         return PartTags {
-            verdict: TagsVerdict::Violates(Rule::SizeTag),
+            verdict: Err(Rule::SizeTag),
             gaps: none_missing(0),
         };
     };
-    let verdict = checked.verdict;
-    match verdict {
-        TagsVerdict::Passes(size) => PartTags {
-            verdict: TagsVerdict::Passes(size),
+    match checked.verdict {
+        Ok(size) => PartTags {
+            verdict: Ok(size),
             gaps: record_of(s, &starts, checked.gaps, size),
         },
-        TagsVerdict::Violates(rule) => PartTags {
-            verdict: TagsVerdict::Violates(rule),
+        Err(rule) => PartTags {
+            verdict: Err(rule),
             gaps: none_missing(0),
         },
     }

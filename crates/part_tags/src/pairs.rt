@@ -10,8 +10,7 @@ ghost use Rattle.part_tags.specs.Pairs.{spec_key_found, key_of, first_pairs, Pai
 
 use crate::survey::{is_plain, size_at};
 use crate::{
-    DWORD_TYPE, END_NAME, EndStep, GAP_CEILING, Key, PairStep, PassStep, Progress, START_NAME,
-    Sizes, StartStep, Surveyed, dword_at, name_length,
+    DWORD_TYPE, END_NAME, GAP_CEILING, Progress, START_NAME, Sizes, Surveyed, dword_at, name_length,
 };
 use output::same;
 use tags::tag_after;
@@ -29,31 +28,29 @@ fn wide(b: u8) -> u64
     b as u64
 }
 
-// The key of 1 to 10 decimal digits.
-fn digits_key(digits: &[u8]) -> Key
+// The key of 1 to 10 decimal digits, which is higher for the digits of a higher number.
+fn digits_key(digits: &[u8]) -> Option<u64>
     ensures { result ≡ spec_key_found digits.now }
 {
     let n = digits.len();
     if n < 1 {
-        return Key::None;
+        return None;
     }
     if MOST_DIGITS < n {
-        return Key::None;
+        return None;
     }
     let mut key = 0;
-    let mut i = 0;
-    while i < n {
+    for i in 0..n {
         let b = digits[i];
         if b < b'0' {
-            return Key::None;
+            return None;
         }
         if b'9' < b {
-            return Key::None;
+            return None;
         }
         key = key % KEY_ROOM * 16 + wide(b);
-        i += 1;
     }
-    Key::Some(key)
+    Some(key)
 }
 
 // The digits of the gap tag that lies there.
@@ -95,66 +92,68 @@ fn is_taken(s: &[u8], digits: &[u8], key: u64, starts: &[usize; 64], progress: P
     is_used(s, digits, starts, progress.count)
 }
 
-// A gap tag between two pairs must be the start tag of the next one.
-fn start_tag(s: &[u8], at: usize, starts: &[usize; 64], progress: Progress) -> StartStep
+// A gap tag between two pairs must be the start tag of the next one: its key, its number, and the offset after it.
+fn start_tag(
+    s: &[u8],
+    at: usize,
+    starts: &[usize; 64],
+    progress: Progress,
+) -> Result<(u64, u32, usize), Rule>
     requires { TagThere s.now at × (is_plain (role_at (decode_tag s.now at)) ≡ false) × Keeps s.now starts.now progress }
     ensures { StartFound s.now (first_pairs s.now progress.count starts.now) at result }
 {
     if GAP_CEILING <= progress.count {
-        return StartStep::Violates(Rule::GapCeiling);
+        return Err(Rule::GapCeiling);
     }
     let first = s[at + 3];
     if first != START_NAME {
-        return StartStep::Violates(Rule::Order);
+        return Err(Rule::Order);
     }
     let code = s[at];
     if code != DWORD_TYPE {
-        return StartStep::Violates(Rule::Order);
+        return Err(Rule::Order);
     }
     let digits = digits_at(s, at);
-    let key_found = digits_key(digits);
-    let Key::Some(key) = key_found else {
-        return StartStep::Violates(Rule::Order);
-    };
+    let key = digits_key(digits).ok_or(Rule::Order)?;
     if is_taken(s, digits, key, starts, progress) {
-        return StartStep::Violates(Rule::Order);
+        return Err(Rule::Order);
     }
     let length = name_length(s, at);
     let start = dword_at(s, at + 3 + length);
     if (start as u64) < progress.low {
-        return StartStep::Violates(Rule::Order);
+        return Err(Rule::Order);
     }
-    StartStep::Takes(key, start, at + 7 + length)
+    Ok((key, start, at + 7 + length))
 }
 
-// The tag after the start tag of a pair must be its end tag, with the same digits.
-fn end_tag(s: &[u8], size: u32, digits: &[u8], start: u32, at: usize) -> EndStep
+// The tag after the start tag of a pair must be its end tag, with the same digits: its number, and the offset after it.
+fn end_tag(s: &[u8], size: u32, digits: &[u8], start: u32, at: usize) -> Result<(u32, usize), Rule>
     requires { TagThere s.now at }
     ensures { EndFound s.now size digits.now start at result }
 {
     let first = s[at + 3];
     if first != END_NAME {
-        return EndStep::Violates;
+        return Err(Rule::Order);
     }
     let code = s[at];
     if code != DWORD_TYPE {
-        return EndStep::Violates;
+        return Err(Rule::Order);
     }
     if !same(digits, digits_at(s, at)) {
-        return EndStep::Violates;
+        return Err(Rule::Order);
     }
     let length = name_length(s, at);
     let end = dword_at(s, at + 3 + length);
     if end <= start {
-        return EndStep::Violates;
+        return Err(Rule::Order);
     }
     if size < end {
-        return EndStep::Violates;
+        return Err(Rule::Order);
     }
-    EndStep::Takes(end, at + 7 + length)
+    Ok((end, at + 7 + length))
 }
 
-// A gap tag between two pairs, the first of `left` tags, and the tag after it.
+// A gap tag between two pairs, the first of `left` tags, and the tag after it: the pair's key, its end, and the offset after it.
 fn take_pair(
     s: &[u8],
     at: usize,
@@ -162,36 +161,25 @@ fn take_pair(
     size: u32,
     starts: &[usize; 64],
     progress: Progress,
-) -> PairStep
+) -> Result<(u64, u32, usize), Rule>
     requires { TagThere s.now at × (is_plain (role_at (decode_tag s.now at)) ≡ false) × (0 < left) × Keeps s.now starts.now progress }
     ensures { PairFound s.now size (first_pairs s.now progress.count starts.now) at left result }
 {
-    let start_step = start_tag(s, at, starts, progress);
-    let StartStep::Takes(key, start, second) = start_step else {
-        return PairStep::Violates(start_step.rule());
-    };
+    let (key, start, second) = start_tag(s, at, starts, progress)?;
     if left < 2 {
-        return PairStep::Violates(Rule::Order);
+        return Err(Rule::Order);
     }
     let second_end = tag_after(s, second);
     if second_end == 0 {
-        return PairStep::Violates(Rule::Order);
+        return Err(Rule::Order);
     }
-    let end_step = end_tag(s, size, digits_at(s, at), start, second);
-    let EndStep::Takes(end, after) = end_step else {
-        return PairStep::Violates(Rule::Order);
-    };
-    PairStep::Takes(key, end, after)
+    let (end, after) = end_tag(s, size, digits_at(s, at), start, second)?;
+    Ok((key, end, after))
 }
 
-fn higher(a: u64, b: u64) -> u64
-    ensures { (a ≤ result) × (b ≤ result) }
-{
-    if a < b { b } else { a }
-}
-
-// The tags from the first gap tag on, after the sizes seen. The offsets of the start tags are left in the array. A tag that is refused
-// stops the pass, whatever the answer: a survey tells its fault.
+// The tags from the first gap tag on, after the sizes seen: their survey and the number of pairs, or the rule that they break if all are
+// there. The offsets of the start tags are left in the array. A tag that is refused stops the pass, whatever the answer: a survey tells its
+// fault.
 pub fn pass_gaps(
     s: &[u8],
     at: usize,
@@ -199,7 +187,7 @@ pub fn pass_gaps(
     before: Sizes,
     size: u32,
     starts: &mut [usize; 64],
-) -> PassStep
+) -> Result<(Surveyed, usize), Rule>
     requires { length starts.old ≡ 64 }
     ensures found { PassFound s.now at count before size starts.new result }
     ensures places { length starts.new ≡ 64 }
@@ -218,7 +206,7 @@ pub fn pass_gaps(
         let here = next;
         let after = tag_after(s, here);
         if after == 0 {
-            return PassStep::Violates(Rule::Order);
+            return Err(Rule::Order);
         }
         if is_plain(s, here) {
             let number = size_at(s, here);
@@ -226,16 +214,13 @@ pub fn pass_gaps(
             next = after;
             i += 1;
         } else {
-            let pair_step = take_pair(s, here, count - i, size, starts, progress);
-            let PairStep::Takes(key, end, pair_end) = pair_step else {
-                return PassStep::Violates(pair_step.rule());
-            };
+            let (key, end, pair_end) = take_pair(s, here, count - i, size, starts, progress)?;
             let pairs = progress.count;
             starts[pairs] = here;
             progress = Progress {
                 count: pairs + 1,
                 low: end as u64 + 1,
-                highest: higher(progress.highest, key),
+                highest: progress.highest.max(key),
             };
             next = pair_end;
             i += 2;
@@ -243,7 +228,7 @@ pub fn pass_gaps(
             gap_count = i;
         }
     }
-    PassStep::Passes(
+    Ok((
         Surveyed {
             range: Items {
                 at,
@@ -254,5 +239,5 @@ pub fn pass_gaps(
             sizes,
         },
         progress.count,
-    )
+    ))
 }

@@ -1,17 +1,14 @@
 // The survey of the tags: each is skipped, the size tags are counted, and the byte range of the gap tags is found.
-ghost use Rattle.std.specs.Prelude.{◌≡◌};
+ghost use Rattle.std.specs.Prelude.{◌≡◌, option_to_list};
 ghost use Rattle.format.specs.Decoding.{refused};
 ghost use Rattle.format.specs.Order.{decode_tag};
 ghost use Rattle.format.specs.PutGaps.{is_plain};
 ghost use Rattle.wire.specs.WireAnswers.{fault_meaning};
 ghost use Rattle.tags.specs.Skips.{offset_after};
 ghost use Rattle.part_tags.specs.TagBytes.{TagThere, role_at};
-ghost use Rattle.part_tags.specs.Survey.{list_of, sizes_at, LeadingFound, RangeFound, SurveyFound};
+ghost use Rattle.part_tags.specs.Survey.{sizes_at, LeadingFound, RangeFound, SurveyFound};
 
-use crate::{
-    DWORD_TYPE, END_NAME, Leading, LeadingStep, Number, SIZE_NAME, START_NAME, Sizes, SurveyStep,
-    Surveyed, dword_at,
-};
+use crate::{DWORD_TYPE, END_NAME, Leading, SIZE_NAME, START_NAME, Sizes, Surveyed, dword_at};
 use tags::{read_tag, tag_after};
 use wire::{Cursor, Fault, Items};
 
@@ -28,23 +25,23 @@ pub fn is_plain(s: &[u8], at: usize) -> bool
 }
 
 // The number of a size tag: a DWORD whose name is the one byte 02.
-pub fn size_at(s: &[u8], at: usize) -> Number
+pub fn size_at(s: &[u8], at: usize) -> Option<u32>
     requires { TagThere s.now at }
-    ensures { list_of result ≡ sizes_at (decode_tag s.now at) }
+    ensures { option_to_list result ≡ sizes_at (decode_tag s.now at) }
 {
     let first = s[at + 3];
     if first != SIZE_NAME {
-        return Number::None;
+        return None;
     }
     let length = s[at + 1];
     if length != 1 {
-        return Number::None;
+        return None;
     }
     let code = s[at];
     if code != DWORD_TYPE {
-        return Number::None;
+        return None;
     }
-    Number::Some(dword_at(s, at + 4))
+    Some(dword_at(s, at + 4))
 }
 
 // The fault of a tag that is refused.
@@ -52,24 +49,22 @@ fn fault_at(s: &[u8], at: usize) -> Fault
     requires { offset_after (decode_tag s.now at) ≡ 0 }
     ensures { refused (fault_meaning result) ≡ decode_tag s.now at }
 {
-    let tag_step = read_tag(s, Cursor { at });
-    tag_step.fault()
+    read_tag(s, Cursor { at }).unwrap_err()
 }
 
 // The tags before the first gap tag.
-pub fn leading_tags(s: &[u8], at: usize, count: u32) -> LeadingStep
+pub fn leading_tags(s: &[u8], at: usize, count: u32) -> Result<Leading, Fault>
     ensures { LeadingFound s.now at count result }
 {
     let mut sizes = Sizes::None;
     let mut next = at;
-    let mut i: u32 = 0;
-    while i < count {
+    for i in 0..count {
         let after = tag_after(s, next);
         if after == 0 {
-            return LeadingStep::Refused(fault_at(s, next));
+            return Err(fault_at(s, next));
         }
         if !is_plain(s, next) {
-            return LeadingStep::Got(Leading {
+            return Ok(Leading {
                 count: i,
                 end: next,
                 sizes,
@@ -78,40 +73,38 @@ pub fn leading_tags(s: &[u8], at: usize, count: u32) -> LeadingStep
         let number = size_at(s, next);
         sizes = sizes.join(number);
         next = after;
-        i += 1;
     }
-    LeadingStep::Got(Leading {
-        count: i,
+    Ok(Leading {
+        count,
         end: next,
         sizes,
     })
 }
 
 // The tags from the first gap tag on, after the sizes seen.
-fn gap_range(s: &[u8], at: usize, count: u32, before: Sizes) -> SurveyStep
+fn gap_range(s: &[u8], at: usize, count: u32, before: Sizes) -> Result<Surveyed, Fault>
     ensures { RangeFound s.now at count before result }
 {
     let mut sizes = before;
     let mut gap_end = at;
     let mut gap_count: u32 = 0;
     let mut next = at;
-    let mut i: u32 = 0;
-    while i < count {
+    for i in 0..count {
         let here = next;
         let after = tag_after(s, here);
         if after == 0 {
-            return SurveyStep::Refused(fault_at(s, here));
+            return Err(fault_at(s, here));
         }
         let number = size_at(s, here);
         sizes = sizes.join(number);
         next = after;
-        i += 1;
-        if !is_plain(s, here) {
-            gap_end = after;
-            gap_count = i;
+        if is_plain(s, here) {
+            continue;
         }
+        gap_end = after;
+        gap_count = i + 1;
     }
-    SurveyStep::Got(Surveyed {
+    Ok(Surveyed {
         range: Items {
             at,
             end: gap_end,
@@ -123,14 +116,9 @@ fn gap_range(s: &[u8], at: usize, count: u32, before: Sizes) -> SurveyStep
 }
 
 // The whole list.
-pub fn survey(s: &[u8], at: usize, count: u32) -> SurveyStep
+pub fn survey(s: &[u8], at: usize, count: u32) -> Result<Surveyed, Fault>
     ensures { SurveyFound s.now at count result }
 {
-    let leading_step = leading_tags(s, at, count);
-    let LeadingStep::Got(leading) = leading_step else {
-        return SurveyStep::Refused(leading_step.fault());
-    };
-    let passed = leading.count;
-    let sizes = leading.sizes;
-    gap_range(s, leading.end, count - passed, sizes)
+    let leading = leading_tags(s, at, count)?;
+    gap_range(s, leading.end, count - leading.count, leading.sizes)
 }

@@ -4,7 +4,6 @@ use mathlib.Core.Path.{◌≡◌, refl, sym, ap, ◌∙◌}
 use mathlib.Core.Bool.{true, false, not}
 use mathlib.Core.Option.{Option, none, some}
 use mathlib.Core.List.{List, [], ◌∷◌, ◌++◌, append-nil}
-use native.Mathlib.Nat.{sub-zero}
 use native.Mathlib.Omega.{arith}
 use lib.ListN.{length, drop, get_or, length-append, length-drop}
 use lib.Seq.{take_at}
@@ -23,8 +22,8 @@ use Rattle.format.proofs.There.{byte-ends}
 use Rattle.format.proofs.Codec.{anywhere, went}
 use Rattle.format.proofs.PartTags.{either-test}
 use Rattle.format.proofs.Items.{codec-tag}
-use Rattle.part_tags.proofs.Rest.{Reached, reached-first, next-turn, rest, rest-none}
-use Rattle.output.proofs.Loops.{WrittenSoFar, written_none, written_all, piece-room, written_next}
+use Rattle.part_tags.proofs.Rest.{Reached, next-turn, rest, rest-none}
+use Rattle.output.proofs.Loops.{WrittenSoFar, written_all, piece-room, written_next}
 use Rattle.put_gaps.specs.Pieces.{kept_tags, spec_kept_bytes, plain_bytes}
 use Rattle.put_gaps.proofs.Pieces.{encode-append}
 
@@ -121,15 +120,6 @@ module _ (s : List ℕ) (n first : ℕ) where
     pub few : count ≤ i
     pub short : bytes ≤ at
 
-  pub measured-first : Measured 0 0 0 first
-  measured-first = record {
-    reached = reached-first decode_tag s n first;
-    counted = rw sub-zero (omega arith);
-    summed = rw sub-zero (omega arith);
-    few = omega arith;
-    short = omega arith;
-  }
-
   pub measured-all : (count bytes i at : ℕ) → Measured count bytes i at → n ≤ i → (count ≡ length (plain_tags all)) × (bytes ≡ length (plain_bytes all))
   unfolding plain_tags plain_bytes
   measured-all count bytes i at m h =
@@ -158,9 +148,6 @@ module _ (s : List ℕ) (n first : ℕ) where
   pub record Copied (old out : List ℕ) (wrote i at : ℕ) : Type 0 where
     pub reached : Reached decode_tag s n first i at
     pub written : WrittenSoFar (plain_bytes all) old out wrote (plain_bytes (rest decode_tag s n i at))
-
-  pub copied-first : (old : List ℕ) → Copied old old 0 0 first
-  copied-first old = record { reached = reached-first decode_tag s n first; written = rw sub-zero (written_none (plain_bytes all) old) }
 
   pub copied_all : (old out : List ℕ) (wrote i at : ℕ) → Copied old out wrote i at → n ≤ i →
       (wrote ≡ length (plain_bytes all)) × (out ≡ overwritten (plain_bytes all) old)

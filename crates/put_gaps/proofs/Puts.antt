@@ -22,7 +22,6 @@ use Rattle.gaps.specs.declared.GapRecord.{GapRecord}
 use Rattle.gaps.specs.GapRecords.{gaps_of, lawful_record}
 use Rattle.met.specs.declared.PartGaps.{PartGaps}
 use Rattle.met.specs.declared.PartMet as code
-use Rattle.met.specs.declared.PartRead.{PartRead}
 use Rattle.met.specs.MetAnswers.{part_in, part_met_in, part_reply, PartAnswerPlaced, PartReadSized, PartMetSized, tags_place}
 use Rattle.part_tags.specs.PartTagAnswers.{GapsHeld}
 use Rattle.part_tags.proofs.GapTags.{gaps-length}
@@ -30,6 +29,8 @@ use Rattle.tags.specs.TagAnswers.{tags_in}
 use Rattle.wire.specs.declared.Items.{Items}
 use Rattle.put_gaps.specs.PutAnswers.{spec_put_record}
 use Rattle.put_gaps.specs.Pieces.{Accepts, HasGaps}
+use Rattle.std.specs.Prelude.{Result, Ok}
+use Rattle.wire.specs.declared.Rule.{Rule}
 
 accepted-as : (a : Answer PartMet) (m : PartMet) → message m ≡ reply a → a ≡ accepted m
 accepted-as (refusal f) m e = cc
@@ -74,7 +75,7 @@ sized_same s (code.PartMet.E1 m) size h = h
 gaps-held : (s starts : List ℕ) (tags : Items) (n : ℕ) → GapsHeld s starts n (tags_in s tags) → HasGaps s tags n
 gaps-held s starts tags n h = record { few = h.few; counted = sym (gaps-length s n starts) ∙ ap length h.gaps }
 
-pub reads : (s starts : List ℕ) (r : PartRead) (part : code.PartMet) (found : PartGaps) → r ≡ PartRead.Accepted part found →
+pub reads : (s starts : List ℕ) (r : Result (code.PartMet × PartGaps) Rule) (part : code.PartMet) (found : PartGaps) → r ≡ Ok (part, found) →
     (part_reply s (part_in r) ≡ reply (decode part_met s)) × (PartAnswerPlaced s (part_in r) × (PartReadSized s starts r ×
     ((m : PartMet) → (part_reply s (part_in r) ≡ message m) ↔ ((s ≡ encode part_met m) × Valid part_met m)))) → Accepts s part found
 reads s starts r part found e h =
@@ -89,6 +90,6 @@ reads s starts r part found e h =
     }
 
 -- its gaps, as an array of offsets that was lent holds them
-pub reads-gaps : (s starts : List ℕ) (r : PartRead) (part : code.PartMet) (found : PartGaps) → r ≡ PartRead.Accepted part found →
+pub reads-gaps : (s starts : List ℕ) (r : Result (code.PartMet × PartGaps) Rule) (part : code.PartMet) (found : PartGaps) → r ≡ Ok (part, found) →
     PartReadSized s starts r → GapsHeld s starts found.count (tags_in s (tags_place part))
 reads-gaps s starts r part found e h = let k = rw e at h in k.1.1

@@ -30,9 +30,9 @@ ghost use Rattle.put_gaps.specs.Pieces.{head_of, spec_tags_at, kept_tags, spec_k
 
 use gap_numbers::{GAP_NUMBERS, judge_numbers, put_record};
 use gaps::GapRecord;
-use met::{MET_CEILING, PartGaps, PartMet, PartRead, read_part};
-use output::{LIMIT, RANGE, ROOM, WriteAnswer, copy, put_byte, put_dword, put_word, refused};
-use tags::{Tag, TagStep, read_tag};
+use met::{MET_CEILING, PartGaps, PartMet, read_part};
+use output::{Refusal, Written, copy, put_byte, put_dword, put_word};
+use tags::{Tag, read_tag};
 use wire::{Cursor, Items, bytes_at};
 
 // Where the tag list begins: after E0, date, hash, WORD count and the part hashes; or after E1, 02, date and hash.
@@ -113,17 +113,14 @@ fn measure_plain(s: &[u8], tags: Items) -> Plain
     let mut count: u32 = 0;
     let mut bytes: usize = 0;
     let mut next = Cursor { at: tags.at };
-    let mut i: u32 = 0;
-    while i < total {
-        let step = read_tag(s, next);
-        let TagStep::Got(tag, after) = step else {
+    for _ in 0..total {
+        let Ok((tag, after)) = read_tag(s, next) else {
             return Plain { count, bytes };
         };
         let kept = kept_bytes(s, tag, next.at, after.at);
         bytes += kept.len();
         count += kept_count(s, tag);
         next = after;
-        i += 1;
     }
     Plain { count, bytes }
 }
@@ -176,17 +173,14 @@ fn put_plain(out: &mut [u8], s: &[u8], tags: Items) -> usize
     let total = tags.count;
     let mut wrote: usize = 0;
     let mut next = Cursor { at: tags.at };
-    let mut i: u32 = 0;
-    while i < total {
-        let step = read_tag(s, next);
-        let TagStep::Got(tag, after) = step else {
+    for _ in 0..total {
+        let Ok((tag, after)) = read_tag(s, next) else {
             return wrote;
         };
         let kept = kept_bytes(s, tag, next.at, after.at);
         copy(&mut out[wrote..], kept);
         wrote += kept.len();
         next = after;
-        i += 1;
     }
     wrote
 }
@@ -275,12 +269,10 @@ fn put_pairs(out: &mut [u8], gaps: &[u64]) -> usize
 {
     let pairs = gaps[1] as usize;
     let mut wrote: usize = 0;
-    let mut i = 0;
-    while i < pairs {
+    for i in 0..pairs {
         let start = gaps[2 * i + 2];
         let end = gaps[2 * i + 3];
         wrote += put_pair(&mut out[wrote..], i, start, end);
-        i += 1;
     }
     wrote
 }
@@ -373,13 +365,7 @@ pub fn measure_file(
 }
 
 // The new file, if it is not too long for a part.met (6) and for the output (10). The part.met was read from the old one.
-fn put_file(
-    out: &mut [u8],
-    file: &[u8],
-    part: PartMet,
-    found: PartGaps,
-    gaps: &[u64],
-) -> WriteAnswer
+fn put_file(out: &mut [u8], file: &[u8], part: PartMet, found: PartGaps, gaps: &[u64]) -> Written
     requires { Accepts file.now part found × LawfulNumbers gaps.now }
     ensures { answered result out.new
         ≡ within_ceiling (encode_part_met (with_gaps (gaps_of (held gaps.now)) (part_met_in file.now part))) out.old }
@@ -387,10 +373,10 @@ fn put_file(
     let sizes = measure_file(file, part, file, part, found, gaps);
     let length = sizes.length;
     if MET_CEILING < length {
-        return refused(LIMIT);
+        return Err(Refusal::Limit);
     }
     if out.len() < length {
-        return refused(ROOM);
+        return Err(Refusal::Room);
     }
     let at = sizes.at;
     copy(out, bytes_at(file, 0, at));
@@ -405,33 +391,27 @@ fn put_file(
     );
     let end = at + sizes.list;
     copy(&mut out[end..], bytes_at(file, sizes.after, file.len()));
-    WriteAnswer { number: 0, length }
+    Ok(length)
 }
 
 // The part.met `file` with the gaps of the record, at the front of `out`. The record is lawful and has the file's size, else 8; the
 // new file has at most 1,048,576 bytes, else 6. A refusal leaves `out` as it was. The record is lent as numbers.
-pub fn put_gap_numbers(file: &[u8], gaps: &[u64], out: &mut [u8]) -> WriteAnswer
+pub fn put_gap_numbers(file: &[u8], gaps: &[u64], out: &mut [u8]) -> Written
     ensures { answered result out.new ≡ spec_put_record file.now (record_in gaps.now) out.old }
 {
     let mut starts: [usize; 64] = [0; 64];
-    let read = read_part(file, &mut starts);
-    match read {
-        PartRead::Refused(number) => refused(number),
-        PartRead::Accepted(part, found) => {
-            let judged = judge_numbers(gaps);
-            if !judged.lawful {
-                return refused(RANGE);
-            }
-            if gaps[0] != found.size as u64 {
-                return refused(RANGE);
-            }
-            put_file(out, file, part, found, gaps)
-        }
+    let (part, found) = read_part(file, &mut starts)?;
+    if judge_numbers(gaps).is_none() {
+        return Err(Refusal::Data);
     }
+    if gaps[0] != found.size as u64 {
+        return Err(Refusal::Data);
+    }
+    put_file(out, file, part, found, gaps)
 }
 
 // The same of a record by value.
-pub fn put_gaps(file: &[u8], g: GapRecord, out: &mut [u8]) -> WriteAnswer
+pub fn put_gaps(file: &[u8], g: GapRecord, out: &mut [u8]) -> Written
     ensures { answered result out.new ≡ spec_put_record file.now g out.old }
 {
     let mut numbers = [0u64; GAP_NUMBERS];

@@ -55,10 +55,10 @@ module _ (side : Decoder Query) (s : List ℕ) where
       go false false true = leaf-limit next
       go false false false = refl
 
-pub depth-leaf : (left : ℕ) → (left ≡ 0 → ⊥) → (s : List ℕ) (at : ℕ) {code next : ℕ} → got code next ≡ decode_byte s at → (code ≡ 0 → ⊥) →
+pub depth_leaf : (left : ℕ) → (left ≡ 0 → ⊥) → (s : List ℕ) (at : ℕ) {code next : ℕ} → got code next ≡ decode_byte s at → (code ≡ 0 → ⊥) →
     depths (decode_query_in left s at) ≡ decode_leaf s at
 unfolding decode_leaf decode_node decode_code
-depth-leaf left deep s at {code} {next} e other = rw (query-left left deep s at, ← e) (leaf-code (decode_query_in (left - 1)) s at next code other)
+depth_leaf left deep s at {code} {next} e other = rw (query-left left deep s at, ← e) (leaf-code (decode_query_in (left - 1)) s at next code other)
 
 -- The depth of a join is one more than that of its deeper side.
 abbrev depth_in : ℕ → Decoder ℕ
@@ -84,9 +84,9 @@ unfolding depths
 first-side o side s (refused f) = refl
 first-side o side s (got q p) = second-side o q s (side s p)
 
-pub depth-join : (d : ℕ) (s : List ℕ) (at : ℕ) → depths (decode_case (decode_query_in d) is_join s at) ≡ join_depth d s at
+pub depth_join : (d : ℕ) (s : List ℕ) (at : ℕ) → depths (decode_case (decode_query_in d) is_join s at) ≡ join_depth d s at
 unfolding depths
-depth-join d s at = go (decode_code operators s at)
+depth_join d s at = go (decode_code operators s at)
   where
     go : (c : Outcome Operator) →
         depths (and_then s c (λ o s at. and_then s (decode_query_in d s at) (λ q s at. and_then s (decode_query_in d s at) (λ r. pure (messages.join o q r)))))
@@ -123,15 +123,15 @@ unfolding depths
 depths-got (refused f) e = absurd (never e)
 depths-got (got q p) e = (cc, cc)
 
-pub depths-query : (o : Outcome Query) {n p : ℕ} → depths o ≡ got n p → got (query_of o) p ≡ o
-depths-query o e = sym (depths-got o e).0
+pub depths_query : (o : Outcome Query) {n p : ℕ} → depths o ≡ got n p → got (query_of o) p ≡ o
+depths_query o e = sym (depths-got o e).0
 
-pub depths-refused : (o : Outcome Query) {f : Fault} → refused f ≡ depths o → refused f ≡ o
+pub depths_refused : (o : Outcome Query) {f : Fault} → refused f ≡ depths o → refused f ≡ o
 unfolding depths
-depths-refused (refused g) e = cc
-depths-refused (got q p) e = absurd (never e)
+depths_refused (refused g) e = cc
+depths_refused (got q p) e = absurd (never e)
 
-pub within-depths : (d : ℕ) (s : List ℕ) (at : ℕ) {n next : ℕ} → depths (decode_query_in d s at) ≡ got n next → n ≤ d
-within-depths d s at e =
+pub within_depths : (d : ℕ) (s : List ℕ) (at : ℕ) {n next : ℕ} → depths (decode_query_in d s at) ≡ got n next → n ≤ d
+within_depths d s at e =
     let g = depths-got (decode_query_in d s at) e in
     omega (arith, g.1, within-query d s at _ _ g.0)

@@ -1,4 +1,3 @@
-mod Measures
 pub mod Nodes
 pub mod Depths
 pub mod Skips

@@ -27,9 +27,9 @@ module _ (left : ℕ) (deep : left ≡ 0 → ⊥) (s : List ℕ) (at : ℕ) wher
   down : left ≡ suc (left - 1)
   down = omega arith
 
-  pub query-case : decode_query_in left s at ≡ and_then s (decode_code query_cases s at) (decode_case (decode_query_in (left - 1)))
+  pub query_case : decode_query_in left s at ≡ and_then s (decode_code query_cases s at) (decode_case (decode_query_in (left - 1)))
   unfolding decode_query_in
-  query-case = ap (λ d. decode_query_in d s at) down
+  query_case = ap (λ d. decode_query_in d s at) down
 
   pub query-left : decode_query_in left s at ≡ and_then s (decode_node s at) (decode_sides (decode_query_in (left - 1)))
   query-left = ap (λ d. decode_query_in d s at) down ∙ query-node (left - 1) s at

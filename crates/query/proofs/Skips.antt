@@ -18,8 +18,8 @@ use Rattle.format.proofs.There.{byte-there, dword-there, run-there, word-there}
 use Rattle.wire.proofs.Loops.{ended-got}
 use Rattle.query.specs.Nodes.{decode_leaf, decode_node, decode_node_of, depths}
 use Rattle.query.specs.Skips.{EndsAt, Passes, Spans, depth_in, end_in, offset_after}
-use Rattle.query.proofs.Nodes.{query-case}
-use Rattle.query.proofs.Depths.{depth-join, depth-leaf}
+use Rattle.query.proofs.Nodes.{query_case}
+use Rattle.query.proofs.Depths.{depth_join, depth_leaf}
 
 -- What tests tell that do not answer 0.
 pub told : {A : Type 0} {r : ℕ} → (r ≡ 0) ⊎ A → (r ≡ 0 → ⊥) → A
@@ -47,10 +47,10 @@ code-there : {K : Type 0} (table : List (ℕ × K)) (s : List ℕ) (at : ℕ) {k
 unfolding decode_code
 code-there table s at h l = rw (← byte-there s at h, l) refl
 
-pub name-ends : (s : List ℕ) (at n : ℕ) → n ≡ get_or s at 0 → get_or s (at + 1) 0 ≡ 0 → (n ≡ 0 → ⊥) → n ≤ 255 → at + 2 + n ≤ length s →
+pub name_ends : (s : List ℕ) (at n : ℕ) → n ≡ get_or s at 0 → get_or s (at + 1) 0 ≡ 0 → (n ≡ 0 → ⊥) → n ≤ 255 → at + 2 + n ≤ length s →
     EndsAt decode_name s at (at + 2 + n)
 unfolding ends decode_name
-name-ends s at n low high some_bytes few h =
+name_ends s at n low high some_bytes few h =
     let e : n ≡ get_or s at 0 + 256 * get_or s (at + 1) 0 = omega arith in
     (rw (← word-there s at (omega arith), ← e, ne_eqb n 0 some_bytes, le-leb n 255 few, ← run-there s (at + 2) n h) refl, h)
 
@@ -96,11 +96,11 @@ module _ (left : ℕ) (deep : left ≡ 0 → ⊥) (s : List ℕ) (at : ℕ) (h :
       Spans (depths (decode_query_in left s at)) r
   unfolding decode_leaf
   leaf-spans other e is =
-      inr (depth-leaf left deep s at (byte-there s at h) other ∙ rw (← (ended-got (decode_node s at) (sym e.0)).1, is.0, is.1) refl)
+      inr (depth_leaf left deep s at (byte-there s at h) other ∙ rw (← (ended-got (decode_node s at) (sym e.0)).1, is.0, is.1) refl)
 
   pub join-spans : get_or s at 0 ≡ 0 → Spans (depths (decode_case (decode_query_in (left - 1)) is_join s (at + 1))) r →
       Spans (depths (decode_query_in left s at)) r
-  join-spans is e = rw (query-case left deep s at, ← code-there query_cases s at {k = is_join} h (rw is refl)) e
+  join-spans is e = rw (query_case left deep s at, ← code-there query_cases s at {k = is_join} h (rw is refl)) e
 
 -- What the extents of the two sides make of the join's.
 pub sides-span : (d : ℕ) (s : List ℕ) (at a b : ℕ) {r : ℕ} → at + 1 ≤ length s → get_or s at 0 ≤ 2 →
@@ -108,18 +108,18 @@ pub sides-span : (d : ℕ) (s : List ℕ) (at a b : ℕ) {r : ℕ} → at + 1 �
     (end_in r ≡ end_in b) × (depth_in r ≡ max (depth_in a) (depth_in b) + 1) → Spans (depths (decode_case (decode_query_in d) is_join s at)) r
 sides-span d s at a b h few first second is =
     let o = code-there operators s at h (operator-of (get_or s at 0) few).1 in
-    inr (rw (depth-join, ← o, first, second, is.0, is.1) refl)
+    inr (rw (depth_join, ← o, first, second, is.0, is.1) refl)
 
 -- The offset after a query, by its extent, by what was read of it, and where it is not 0.
-pub span-after : (o : Outcome Query) {n p : ℕ} → depths o ≡ got n p → p ≡ offset_after o
+pub span_after : (o : Outcome Query) {n p : ℕ} → depths o ≡ got n p → p ≡ offset_after o
 unfolding depths
-span-after (refused f) e = absurd (never e)
-span-after (got q p) e = sym (same_place e)
+span_after (refused f) e = absurd (never e)
+span_after (got q p) e = sym (same_place e)
 
-pub depths-after : (o : Outcome Query) → offset_after (depths o) ≡ offset_after o
+pub depths_after : (o : Outcome Query) → offset_after (depths o) ≡ offset_after o
 unfolding depths
-depths-after (refused f) = refl
-depths-after (got q p) = refl
+depths_after (refused f) = refl
+depths_after (got q p) = refl
 
 pub after-ends : {A : Type 0} (o : Outcome A) {r : ℕ} → r ≡ offset_after o → (r ≡ 0 → ⊥) → ends o ≡ got tt r
 unfolding ends

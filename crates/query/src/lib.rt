@@ -16,11 +16,9 @@ ghost use Rattle.format.specs.Order.{decode_name, is_join, is_limit, decode_case
 ghost use Rattle.format.specs.MetOrder.{decode};
 ghost use Rattle.query.specs.Nodes.{decode_node_of, decode_node, decode_leaf, depths};
 ghost use Rattle.query.specs.Skips.{Passes, Spans, offset_after, places, end_in, depth_in};
-ghost use Rattle.query.specs.QueryAnswers.{operator_meaning, bound_meaning, node_meaning, NodeStepInside, depth_meaning, query_meaning, query_reply};
-ghost use Rattle.query.specs.QueryAnswers.{operator_fault, bound_fault, node_fault, depth_fault, query_fault};
-ghost use Rattle.query.specs.QueryAnswers.{QueryStepPlaced, QueryAnswerPlaced};
+ghost use Rattle.query.specs.QueryAnswers.{depth_meaning, query_meaning, query_reply, QueryStepPlaced, QueryAnswerPlaced};
 
-use wire::{ByteStep, Cursor, Fault, PACKET_CEILING, Place, Rule};
+use wire::{Cursor, Fault, PACKET_CEILING, Place, Rule, Step};
 
 mod reading;
 
@@ -62,135 +60,31 @@ pub struct Query {
     pub depth: usize,
 }
 
-#[derive(Clone, Copy)]
-pub enum OperatorStep {
-    Got(Operator, Cursor),
-    Refused(Fault),
-}
-
-#[derive(Clone, Copy)]
-pub enum BoundStep {
-    Got(Bound, Cursor),
-    Refused(Fault),
-}
-
-#[derive(Clone, Copy)]
-pub enum NodeStep {
-    Got(Node, Cursor),
-    Refused(Fault),
-}
-
-// The depth of a query that was skipped, and the cursor after it.
-#[derive(Clone, Copy)]
-pub enum DepthStep {
-    Got(usize, Cursor),
-    Refused(Fault),
-}
-
-#[derive(Clone, Copy)]
-pub enum QueryStep {
-    Got(Query, Cursor),
-    Refused(Fault),
-}
-
-// The answer for a whole input: the query, or the number of the refusal.
-#[derive(Clone, Copy)]
-pub enum QueryAnswer {
-    Accepted(Query),
-    Refused(u8),
-}
-
-impl OperatorStep {
-    // The fault of a refusal.
-    pub fn fault(self) -> Fault
-        ensures { result ≡ operator_fault self }
-    {
-        match self {
-            OperatorStep::Got(_, _) => wire::no_fault(),
-            OperatorStep::Refused(f) => f,
-        }
-    }
-}
-
-impl BoundStep {
-    pub fn fault(self) -> Fault
-        ensures { result ≡ bound_fault self }
-    {
-        match self {
-            BoundStep::Got(_, _) => wire::no_fault(),
-            BoundStep::Refused(f) => f,
-        }
-    }
-}
-
-impl NodeStep {
-    pub fn fault(self) -> Fault
-        ensures { result ≡ node_fault self }
-    {
-        match self {
-            NodeStep::Got(_, _) => wire::no_fault(),
-            NodeStep::Refused(f) => f,
-        }
-    }
-}
-
-impl DepthStep {
-    pub fn fault(self) -> Fault
-        ensures { result ≡ depth_fault self }
-    {
-        match self {
-            DepthStep::Got(_, _) => wire::no_fault(),
-            DepthStep::Refused(f) => f,
-        }
-    }
-}
-
-impl QueryStep {
-    pub fn fault(self) -> Fault
-        ensures { result ≡ query_fault self }
-    {
-        match self {
-            QueryStep::Got(_, _) => wire::no_fault(),
-            QueryStep::Refused(f) => f,
-        }
-    }
-}
-
-fn larger(m: usize, n: usize) -> usize
-    ensures { result ≡ max m n }
-{
-    if m < n { n } else { m }
-}
-
 // The leaf at the cursor: its depth, and the cursor after it.
-fn read_leaf(s: &[u8], c: Cursor) -> DepthStep
+#[tactic(auto, unfolding(crate::specs::Nodes::decode_leaf))]
+fn read_leaf(s: &[u8], c: Cursor) -> Step<usize>
     ensures { depth_meaning result ≡ decode_leaf s.now c.at }
 {
-    let node_step = read_node(s, c);
-    let NodeStep::Got(_, next) = node_step else {
-        return DepthStep::Refused(node_step.fault());
-    };
-    DepthStep::Got(1, next)
+    let (_, next) = read_node(s, c)?;
+    Ok((1, next))
 }
 
 // A query of at most `left` depth: its own depth, and the cursor after it. One that would begin below `left` is refused before its
 // first byte is read. A query asks for the reading of its operator, an operator for that of two queries with one less left, one
 // after the other, so every byte is read once and the calls are at most as deep as `left`, whatever the bytes are.
+#[tactic(auto, using(crate::proofs::Nodes::query_case, crate::proofs::Depths::depth_leaf), unfolding(crate::specs::Nodes::depths, format::specs::Order::decode_query_in, format::specs::Order::decode_code))]
 #[cycle(read_operator_read_query_in)]
-pub fn read_query_in(s: &[u8], c: Cursor, left: usize) -> DepthStep
+pub fn read_query_in(s: &[u8], c: Cursor, left: usize) -> Step<usize>
     ensures { depth_meaning result ≡ depths (decode_query_in left s.now c.at) }
 {
     if left == 0 {
-        return DepthStep::Refused(Fault {
+        return Err(Fault {
             rule: Rule::DepthCeiling,
             at: c.at,
             size: 0,
         });
     }
-    let code_step = c.byte(s);
-    let ByteStep::Got(code, next) = code_step else {
-        return DepthStep::Refused(code_step.fault());
-    };
+    let (code, next) = c.byte(s)?;
     if code == 0 {
         return read_operator(s, next, left);
     }
@@ -198,31 +92,24 @@ pub fn read_query_in(s: &[u8], c: Cursor, left: usize) -> DepthStep
 }
 
 // The operator and the two sides of a join of at most `left` depth: the depth of the join, and the cursor after it.
+#[tactic(auto, using(crate::proofs::Depths::depth_join, crate::proofs::Depths::within_depths))]
 #[cycle(read_operator_read_query_in)]
-fn read_operator(s: &[u8], c: Cursor, left: usize) -> DepthStep
+fn read_operator(s: &[u8], c: Cursor, left: usize) -> Step<usize>
     requires { 0 < left }
     ensures { depth_meaning result ≡ depths (decode_case (decode_query_in (left - 1)) is_join s.now c.at) }
 {
-    let operator_step = read_operator_code(s, c);
-    let OperatorStep::Got(_, first) = operator_step else {
-        return DepthStep::Refused(operator_step.fault());
-    };
+    let (_, first) = read_operator_code(s, c)?;
     let side = left - 1;
-    let first_step = read_query_in(s, first, side);
-    let DepthStep::Got(m, second) = first_step else {
-        return DepthStep::Refused(first_step.fault());
-    };
-    let second_step = read_query_in(s, second, side);
-    let DepthStep::Got(n, end) = second_step else {
-        return DepthStep::Refused(second_step.fault());
-    };
-    let depth = larger(m, n) + 1;
-    DepthStep::Got(depth, end)
+    let (m, second) = read_query_in(s, first, side)?;
+    let (n, end) = read_query_in(s, second, side)?;
+    let depth = m.max(n) + 1;
+    Ok((depth, end))
 }
 
 // To skip a query that is accepted needs neither a fault nor the places of its texts. Each function below answers with one number, in
 // a register, where the answers of readers are handed over in memory; or with 0 where its tests do not decide: nothing ends at 0.
 
+#[tactic(auto, using(crate::proofs::Skips::name_ends))]
 fn name_end(s: &[u8], at: usize) -> usize
     requires { at ≤ length s.now }
     ensures { Passes decode_name s.now at result }
@@ -319,7 +206,7 @@ fn join_extent(first: usize, second: usize) -> usize
     requires second_bound { depth_in second < depth_limit }
     ensures { (end_in result ≡ end_in second) × (depth_in result ≡ max (depth_in first) (depth_in second) + 1) }
 {
-    let depth = larger(depth_of(first), depth_of(second)) + 1;
+    let depth = depth_of(first).max(depth_of(second)) + 1;
     extent(end_of(second), depth)
 }
 
@@ -387,6 +274,7 @@ fn extent_in(s: &[u8], at: usize, left: usize) -> usize
 
 // The offset after a query of at most `left` depth, 0 for one that is refused: for a caller that needs nothing else of it. It is skipped,
 // and read where the tests do not decide.
+#[tactic(auto, using(crate::proofs::Skips::depths_after, crate::proofs::Skips::span_after))]
 pub fn query_end(s: &[u8], at: usize, left: usize) -> usize
     ensures { result ≡ offset_after (decode_query_in left s.now at) }
 {
@@ -394,15 +282,15 @@ pub fn query_end(s: &[u8], at: usize, left: usize) -> usize
     if found != 0 {
         return end_of(found);
     }
-    let depth_step = read_query_in(s, Cursor { at }, left);
-    let DepthStep::Got(_, next) = depth_step else {
+    let Ok((_, next)) = read_query_in(s, Cursor { at }, left) else {
         return 0;
     };
     next.at
 }
 
 // A query as packets hold it. It is skipped, and read for its fault where its tests do not decide.
-pub fn read_query(s: &[u8], c: Cursor) -> QueryStep
+#[tactic(auto, using(crate::proofs::Depths::depths_query, crate::proofs::Depths::depths_refused), unfolding(format::specs::Order::decode_query))]
+pub fn read_query(s: &[u8], c: Cursor) -> Step<Query>
     ensures meaning { query_meaning s.now result ≡ decode_query s.now c.at }
     ensures placed { QueryStepPlaced s.now result }
 {
@@ -411,35 +299,27 @@ pub fn read_query(s: &[u8], c: Cursor) -> QueryStep
     if found != 0 {
         let end = end_of(found);
         let depth = depth_of(found);
-        return QueryStep::Got(Query { at, end, depth }, Cursor { at: end });
+        return Ok((Query { at, end, depth }, Cursor { at: end }));
     }
-    let depth_step = read_query_in(s, c, DEPTH_LIMIT);
-    let DepthStep::Got(depth, next) = depth_step else {
-        return QueryStep::Refused(depth_step.fault());
-    };
+    let (depth, next) = read_query_in(s, c, DEPTH_LIMIT)?;
     let end = next.at;
-    QueryStep::Got(Query { at, end, depth }, next)
+    Ok((Query { at, end, depth }, next))
 }
 
 // The lent bytes as one query: the byte ceiling first, then the query, then that nothing is left after it. `demand3` says that
 // exactly the bytes of a valid query are accepted, and that it is that query.
-pub fn read_lone_query(s: &[u8]) -> QueryAnswer
+pub fn read_lone_query(s: &[u8]) -> Result<Query, Rule>
     ensures meaning { query_reply s.now result ≡ reply (decode messages.lone_query s.now) }
     ensures placed { QueryAnswerPlaced s.now result }
     ensures demand3 { (m : messages.Query) →
         (query_reply s.now result ≡ message m) ↔ ((s.now ≡ encode_query m) × Valid messages.lone_query m) }
 {
     if PACKET_CEILING < s.len() {
-        return QueryAnswer::Refused(wire::number(Rule::BytesCeiling));
+        return Err(Rule::BytesCeiling);
     }
-    let query_step = read_query(s, Cursor { at: 0 });
-    let QueryStep::Got(query, next) = query_step else {
-        let f = query_step.fault();
-        let rule = f.rule;
-        return QueryAnswer::Refused(wire::number(rule));
-    };
+    let (query, next) = read_query(s, Cursor { at: 0 })?;
     if next.at == s.len() {
-        return QueryAnswer::Accepted(query);
+        return Ok(query);
     }
-    QueryAnswer::Refused(wire::number(Rule::Rest))
+    Err(Rule::Rest)
 }

@@ -3,20 +3,18 @@ use Rattle.std.specs.Prelude.{ℕ, List, [], ◌∷◌, length}
 use Rattle.std.proofs.Math.Option.{Option, none, some}
 use Rattle.format.specs.Messages as messages
 use Rattle.format.specs.Messages.{server_link, client_link, udp_link, known_met, server_met, part_met, lone_query, lone_tags, e0, e1}
-use Rattle.format.specs.Decoding.{Reply, refused_with, message, reply}
+use Rattle.format.specs.Decoding.{Reply, refused_with, message, reply, number}
 use Rattle.format.specs.MetOrder.{decode}
 use Rattle.packets.specs.PacketAnswers.{packet_reply, PacketPlaced}
-use Rattle.packets.specs.declared.PacketAnswer.{PacketAnswer}
 use Rattle.met.specs.MetAnswers.{known_reply, server_reply, part_reply, KnownAnswerPlaced, ServerAnswerPlaced, PartAnswerPlaced, PartAnswerSized}
-use Rattle.met.specs.declared.KnownAnswer.{KnownAnswer}
-use Rattle.met.specs.declared.ServerAnswer.{ServerAnswer}
-use Rattle.met.specs.declared.PartAnswer.{PartAnswer}
 use Rattle.met.specs.declared.PartMet.{PartMet}
 use Rattle.read_any.specs.declared.Kind.{Kind}
 use Rattle.read_any.specs.declared.Message.{Message}
-use Rattle.read_any.specs.declared.Answer.{Answer}
 use Rattle.read_any.specs.declared.Summary.{Summary}
-use Rattle.read_any.specs.declared.Lettered.{Lettered}
+use Rattle.std.specs.Prelude as prelude
+use Rattle.std.specs.Prelude.{Result, Ok, Err}
+use Rattle.wire.specs.declared.Rule.{Rule}
+use Rattle.wire.specs.WireAnswers.{option_meaning, rule_meaning}
 
 abbrev pub kind_of : Kind → messages.Kind
 kind_of Kind.ServerLink = server_link
@@ -27,36 +25,36 @@ kind_of Kind.ServerMet = server_met
 kind_of Kind.PartMet = part_met
 
 -- An answer as one about packets, known.met, server.met or part.met; nothing where it is about another.
-abbrev pub packet_answer : List ℕ → Answer → Option (Reply messages.Packet)
-packet_answer s (Answer.Accepted (Message.Packet p)) = some (packet_reply s (PacketAnswer.Accepted p))
-packet_answer s (Answer.Accepted (Message.KnownMet m)) = none
-packet_answer s (Answer.Accepted (Message.ServerMet m)) = none
-packet_answer s (Answer.Accepted (Message.PartMet m n)) = none
-packet_answer s (Answer.Refused n) = some (refused_with n)
+abbrev pub packet_answer : List ℕ → Result Message Rule → Option (Reply messages.Packet)
+packet_answer s (Ok (Message.Packet p)) = some (packet_reply s (Ok p))
+packet_answer s (Ok (Message.KnownMet m)) = none
+packet_answer s (Ok (Message.ServerMet m)) = none
+packet_answer s (Ok (Message.PartMet m n)) = none
+packet_answer s (Err rule) = some (refused_with (number (rule_meaning rule)))
 
-abbrev pub known_answer : List ℕ → Answer → Option (Reply messages.KnownMet)
-known_answer s (Answer.Accepted (Message.Packet p)) = none
-known_answer s (Answer.Accepted (Message.KnownMet m)) = some (known_reply s (KnownAnswer.Accepted m))
-known_answer s (Answer.Accepted (Message.ServerMet m)) = none
-known_answer s (Answer.Accepted (Message.PartMet m n)) = none
-known_answer s (Answer.Refused n) = some (refused_with n)
+abbrev pub known_answer : List ℕ → Result Message Rule → Option (Reply messages.KnownMet)
+known_answer s (Ok (Message.Packet p)) = none
+known_answer s (Ok (Message.KnownMet m)) = some (known_reply s (Ok m))
+known_answer s (Ok (Message.ServerMet m)) = none
+known_answer s (Ok (Message.PartMet m n)) = none
+known_answer s (Err rule) = some (refused_with (number (rule_meaning rule)))
 
-abbrev pub server_answer : List ℕ → Answer → Option (Reply messages.ServerMet)
-server_answer s (Answer.Accepted (Message.Packet p)) = none
-server_answer s (Answer.Accepted (Message.KnownMet m)) = none
-server_answer s (Answer.Accepted (Message.ServerMet m)) = some (server_reply s (ServerAnswer.Accepted m))
-server_answer s (Answer.Accepted (Message.PartMet m n)) = none
-server_answer s (Answer.Refused n) = some (refused_with n)
+abbrev pub server_answer : List ℕ → Result Message Rule → Option (Reply messages.ServerMet)
+server_answer s (Ok (Message.Packet p)) = none
+server_answer s (Ok (Message.KnownMet m)) = none
+server_answer s (Ok (Message.ServerMet m)) = some (server_reply s (Ok m))
+server_answer s (Ok (Message.PartMet m n)) = none
+server_answer s (Err rule) = some (refused_with (number (rule_meaning rule)))
 
-abbrev pub part_answer : List ℕ → Answer → Option (Reply messages.PartMet)
-part_answer s (Answer.Accepted (Message.Packet p)) = none
-part_answer s (Answer.Accepted (Message.KnownMet m)) = none
-part_answer s (Answer.Accepted (Message.ServerMet m)) = none
-part_answer s (Answer.Accepted (Message.PartMet m n)) = some (part_reply s (PartAnswer.Accepted m n))
-part_answer s (Answer.Refused n) = some (refused_with n)
+abbrev pub part_answer : List ℕ → Result Message Rule → Option (Reply messages.PartMet)
+part_answer s (Ok (Message.Packet p)) = none
+part_answer s (Ok (Message.KnownMet m)) = none
+part_answer s (Ok (Message.ServerMet m)) = none
+part_answer s (Ok (Message.PartMet m n)) = some (part_reply s (Ok (m, n)))
+part_answer s (Err rule) = some (refused_with (number (rule_meaning rule)))
 
 -- An answer as one about a kind. The lone query and the lone tag list have calls of their own.
-abbrev pub answer_in : (k : messages.Kind) → List ℕ → Answer → Option (Reply (messages.Message k))
+abbrev pub answer_in : (k : messages.Kind) → List ℕ → Result Message Rule → Option (Reply (messages.Message k))
 answer_in server_link s r = packet_answer s r
 answer_in client_link s r = packet_answer s r
 answer_in udp_link s r = packet_answer s r
@@ -67,29 +65,13 @@ answer_in lone_query s r = none
 answer_in lone_tags s r = none
 
 -- Each list of an answer lies where it says, and the size beside a part.met is that of its file.
-abbrev pub AnswerPlaced : List ℕ → Answer → Type 0
-AnswerPlaced s (Answer.Accepted (Message.Packet p)) = PacketPlaced s (PacketAnswer.Accepted p)
-AnswerPlaced s (Answer.Accepted (Message.KnownMet m)) = KnownAnswerPlaced s (KnownAnswer.Accepted m)
-AnswerPlaced s (Answer.Accepted (Message.ServerMet m)) = ServerAnswerPlaced s (ServerAnswer.Accepted m)
-AnswerPlaced s (Answer.Accepted (Message.PartMet m n)) =
-    PartAnswerPlaced s (PartAnswer.Accepted m n) × PartAnswerSized s (PartAnswer.Accepted m n)
-AnswerPlaced s (Answer.Refused n) = Unit {0}
-
-abbrev pub spec_from_packet : PacketAnswer → Answer
-spec_from_packet (PacketAnswer.Accepted p) = Answer.Accepted (Message.Packet p)
-spec_from_packet (PacketAnswer.Refused n) = Answer.Refused n
-
-abbrev pub spec_from_known : KnownAnswer → Answer
-spec_from_known (KnownAnswer.Accepted m) = Answer.Accepted (Message.KnownMet m)
-spec_from_known (KnownAnswer.Refused n) = Answer.Refused n
-
-abbrev pub spec_from_server : ServerAnswer → Answer
-spec_from_server (ServerAnswer.Accepted m) = Answer.Accepted (Message.ServerMet m)
-spec_from_server (ServerAnswer.Refused n) = Answer.Refused n
-
-abbrev pub spec_from_part : PartAnswer → Answer
-spec_from_part (PartAnswer.Accepted m n) = Answer.Accepted (Message.PartMet m n)
-spec_from_part (PartAnswer.Refused n) = Answer.Refused n
+abbrev pub AnswerPlaced : List ℕ → Result Message Rule → Type 0
+AnswerPlaced s (Ok (Message.Packet p)) = PacketPlaced s (Ok p)
+AnswerPlaced s (Ok (Message.KnownMet m)) = KnownAnswerPlaced s (Ok m)
+AnswerPlaced s (Ok (Message.ServerMet m)) = ServerAnswerPlaced s (Ok m)
+AnswerPlaced s (Ok (Message.PartMet m n)) =
+    PartAnswerPlaced s (Ok (m, n)) × PartAnswerSized s (Ok (m, n))
+AnswerPlaced s (Err rule) = Unit {0}
 
 -- The reading program's line: an accepted input's opcode or opening byte and its length, or the number of the refusal.
 abbrev pub part_code : messages.PartMet → ℕ
@@ -128,6 +110,5 @@ abbrev pub letters : List (ℕ × messages.Kind)
 letters =
     (0x73, server_link) ∷ (0x63, client_link) ∷ (0x75, udp_link) ∷ (0x6B, known_met) ∷ (0x76, server_met) ∷ (0x70, part_met) ∷ []
 
-abbrev pub lettered_of : Lettered → Option messages.Kind
-lettered_of (Lettered.Is k) = some (kind_of k)
-lettered_of Lettered.Nothing = none
+abbrev pub lettered_of : prelude.Option Kind → Option messages.Kind
+lettered_of = option_meaning kind_of

@@ -10,14 +10,12 @@ ghost use Rattle.format.specs.Rules.{Valid};
 ghost use Rattle.format.specs.Decoding.{message, reply};
 ghost use Rattle.format.specs.MetOrder.{decode};
 ghost use Rattle.format.specs.Tables.{lookup};
-ghost use Rattle.read_any.specs.AnyAnswers.{kind_of, answer_in, AnswerPlaced, spec_from_packet, spec_from_known, spec_from_server, spec_from_part};
+ghost use Rattle.read_any.specs.AnyAnswers.{kind_of, answer_in, AnswerPlaced};
 ghost use Rattle.read_any.specs.AnyAnswers.{code_of, summary_of, letters, lettered_of};
 
-use met::{
-    KnownAnswer, KnownMet, PartAnswer, PartMet, ServerAnswer, ServerMet, read_known_met,
-    read_part_met, read_server_met,
-};
-use packets::{Link, Packet, PacketAnswer, read_packet};
+use met::{KnownMet, PartMet, ServerMet, read_known_met, read_part_met, read_server_met};
+use packets::{Link, Packet, read_packet};
+use wire::Rule;
 
 #[derive(Clone, Copy)]
 pub enum Kind {
@@ -38,52 +36,11 @@ pub enum Message {
     PartMet(PartMet, u32),
 }
 
-#[derive(Clone, Copy)]
-pub enum Answer {
-    Accepted(Message),
-    Refused(u8),
-}
-
-fn from_packet(a: PacketAnswer) -> Answer
-    ensures { result ≡ spec_from_packet a }
-{
-    match a {
-        PacketAnswer::Accepted(p) => Answer::Accepted(Message::Packet(p)),
-        PacketAnswer::Refused(n) => Answer::Refused(n),
-    }
-}
-
-fn from_known(a: KnownAnswer) -> Answer
-    ensures { result ≡ spec_from_known a }
-{
-    match a {
-        KnownAnswer::Accepted(m) => Answer::Accepted(Message::KnownMet(m)),
-        KnownAnswer::Refused(n) => Answer::Refused(n),
-    }
-}
-
-fn from_server(a: ServerAnswer) -> Answer
-    ensures { result ≡ spec_from_server a }
-{
-    match a {
-        ServerAnswer::Accepted(m) => Answer::Accepted(Message::ServerMet(m)),
-        ServerAnswer::Refused(n) => Answer::Refused(n),
-    }
-}
-
-fn from_part(a: PartAnswer) -> Answer
-    ensures { result ≡ spec_from_part a }
-{
-    match a {
-        PartAnswer::Accepted(m, size) => Answer::Accepted(Message::PartMet(m, size)),
-        PartAnswer::Refused(n) => Answer::Refused(n),
-    }
-}
-
 // What the bytes of a kind are. The clauses: the answer is the format's (`meaning`); each list lies where the answer says
 // (`placed`); a message is the answer exactly when it is valid and the bytes are its encoding (`demand3`); and beside that,
 // no bytes are those of two valid messages of one kind (`unambiguous`, a law of the format alone).
-pub fn read(kind: Kind, s: &[u8]) -> Answer
+#[tactic(auto, using(format::proofs::Acceptance::unambiguous))]
+pub fn read(kind: Kind, s: &[u8]) -> Result<Message, Rule>
     ensures meaning { answer_in (kind_of kind) s.now result ≡ some (reply (decode (kind_of kind) s.now)) }
     ensures placed { AnswerPlaced s.now result }
     ensures demand3 { (m : messages.Message (kind_of kind)) →
@@ -92,12 +49,12 @@ pub fn read(kind: Kind, s: &[u8]) -> Answer
         Valid (kind_of kind) m → Valid (kind_of kind) n → encode (kind_of kind) m ≡ encode (kind_of kind) n → m ≡ n }
 {
     match kind {
-        Kind::ServerLink => from_packet(read_packet(s, Link::Server)),
-        Kind::ClientLink => from_packet(read_packet(s, Link::Client)),
-        Kind::UdpLink => from_packet(read_packet(s, Link::Udp)),
-        Kind::KnownMet => from_known(read_known_met(s)),
-        Kind::ServerMet => from_server(read_server_met(s)),
-        Kind::PartMet => from_part(read_part_met(s)),
+        Kind::ServerLink => read_packet(s, Link::Server).map(Message::Packet),
+        Kind::ClientLink => read_packet(s, Link::Client).map(Message::Packet),
+        Kind::UdpLink => read_packet(s, Link::Udp).map(Message::Packet),
+        Kind::KnownMet => read_known_met(s).map(Message::KnownMet),
+        Kind::ServerMet => read_server_met(s).map(Message::ServerMet),
+        Kind::PartMet => read_part_met(s).map(|(part, size)| Message::PartMet(part, size)),
     }
 }
 
@@ -123,41 +80,35 @@ fn code_of(m: Message) -> u8
     }
 }
 
+#[tactic(auto, using(crate::proofs::Lines::line_is))]
 pub fn summarize(kind: Kind, s: &[u8]) -> Summary
     ensures { result ≡ summary_of (kind_of kind) s.now }
 {
-    let a = read(kind, s);
-    match a {
-        Answer::Accepted(m) => Summary {
+    match read(kind, s) {
+        Ok(m) => Summary {
             number: 0,
             code: code_of(m),
             length: s.len(),
         },
-        Answer::Refused(n) => Summary {
-            number: n,
+        Err(rule) => Summary {
+            number: rule.number(),
             code: 0,
             length: 0,
         },
     }
 }
 
-// The letters that the reading program takes.
-#[derive(Clone, Copy)]
-pub enum Lettered {
-    Is(Kind),
-    Nothing,
-}
-
-pub fn kind_of_letter(letter: u8) -> Lettered
+// The kind for a letter that the reading program takes.
+pub fn kind_of_letter(letter: u8) -> Option<Kind>
     ensures { lettered_of result ≡ lookup letters letter }
 {
     match letter {
-        b's' => Lettered::Is(Kind::ServerLink),
-        b'c' => Lettered::Is(Kind::ClientLink),
-        b'u' => Lettered::Is(Kind::UdpLink),
-        b'k' => Lettered::Is(Kind::KnownMet),
-        b'v' => Lettered::Is(Kind::ServerMet),
-        b'p' => Lettered::Is(Kind::PartMet),
-        _ => Lettered::Nothing,
+        b's' => Some(Kind::ServerLink),
+        b'c' => Some(Kind::ClientLink),
+        b'u' => Some(Kind::UdpLink),
+        b'k' => Some(Kind::KnownMet),
+        b'v' => Some(Kind::ServerMet),
+        b'p' => Some(Kind::PartMet),
+        _ => None,
     }
 }

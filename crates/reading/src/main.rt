@@ -7,7 +7,7 @@
 ghost use Rattle.std.specs.Prelude.{◌<◌, length};
 
 use console::{print_refused, print_summary, read_all, read_some};
-use read_any::{Kind, Lettered, kind_of_letter, summarize};
+use read_any::{Kind, kind_of_letter, summarize};
 use std::io;
 use std::io::Read;
 
@@ -47,8 +47,7 @@ fn print_line<R: Read>(rt: &impl Print, input: &mut R, bytes: &mut [u8]) -> io::
     if n == 0 {
         return print_refused(rt, 1);
     }
-    let lettered = kind_of_letter(bytes[0]);
-    let Lettered::Is(kind) = lettered else {
+    let Some(kind) = kind_of_letter(bytes[0]) else {
         return print_refused(rt, 4);
     };
     print_bytes(rt, input, kind, bytes)

@@ -10,21 +10,15 @@ ghost use Rattle.format.specs.Decoding.{decode_many, ends};
 ghost use Rattle.format.specs.Order.{decode_byte, decode_word, decode_dword, decode_hash, decode_address, decode_record, decode_counted};
 ghost use Rattle.wire.specs.WireAnswers.{items_meaning, ItemsStepPlaced, ItemsStepInside};
 ghost use Rattle.tags.specs.Skips.{EndsThere};
-ghost use Rattle.records.specs.RecordAnswers.{address_meaning, record_meaning, RecordStepPlaced, address_fault, record_fault};
+ghost use Rattle.records.specs.RecordAnswers.{address_meaning, record_meaning, RecordStepPlaced};
 
 use tags::{read_tags, tag_list_end};
-use wire::{ByteStep, Cursor, DwordStep, Fault, HashStep, Items, ItemsStep, WordStep, no_fault};
+use wire::{Cursor, Fault, Items, Step};
 
 #[derive(Clone, Copy)]
 pub struct Address {
     pub ip: u32,
     pub port: u16,
-}
-
-#[derive(Clone, Copy)]
-pub enum AddressStep {
-    Got(Address, Cursor),
-    Refused(Fault),
 }
 
 // A file or a client, as peers and servers list it: `hash` is the offset of its 16 bytes.
@@ -36,72 +30,26 @@ pub struct Record {
     pub tags: Items,
 }
 
-#[derive(Clone, Copy)]
-pub enum RecordStep {
-    Got(Record, Cursor),
-    Refused(Fault),
-}
-
-impl AddressStep {
-    pub fn fault(self) -> Fault
-        ensures { result ≡ address_fault self }
-    {
-        match self {
-            AddressStep::Got(_, _) => no_fault(),
-            AddressStep::Refused(f) => f,
-        }
-    }
-}
-
-impl RecordStep {
-    pub fn fault(self) -> Fault
-        ensures { result ≡ record_fault self }
-    {
-        match self {
-            RecordStep::Got(_, _) => no_fault(),
-            RecordStep::Refused(f) => f,
-        }
-    }
-}
-
-pub fn read_address(s: &[u8], c: Cursor) -> AddressStep
+pub fn read_address(s: &[u8], c: Cursor) -> Step<Address>
     ensures { address_meaning result ≡ decode_address s.now c.at }
 {
-    let ip_step = c.dword(s);
-    let DwordStep::Got(ip, after_ip) = ip_step else {
-        return AddressStep::Refused(ip_step.fault());
-    };
-    let port_step = after_ip.word(s);
-    let WordStep::Got(port, next) = port_step else {
-        return AddressStep::Refused(port_step.fault());
-    };
-    AddressStep::Got(Address { ip, port }, next)
+    let (ip, after_ip) = c.dword(s)?;
+    let (port, next) = after_ip.word(s)?;
+    Ok((Address { ip, port }, next))
 }
 
 // The HASH, the client and the port of a record, in bytes.
 const BEFORE_TAGS: usize = 22;
 
-pub fn read_record(s: &[u8], c: Cursor) -> RecordStep
+pub fn read_record(s: &[u8], c: Cursor) -> Step<Record>
     ensures meaning { record_meaning s.now result ≡ decode_record s.now c.at }
     ensures placed { RecordStepPlaced s.now result }
 {
-    let hash_step = c.hash(s);
-    let HashStep::Got(hash, after_hash) = hash_step else {
-        return RecordStep::Refused(hash_step.fault());
-    };
-    let client_step = after_hash.dword(s);
-    let DwordStep::Got(client, after_client) = client_step else {
-        return RecordStep::Refused(client_step.fault());
-    };
-    let port_step = after_client.word(s);
-    let WordStep::Got(port, after_port) = port_step else {
-        return RecordStep::Refused(port_step.fault());
-    };
-    let tags_step = read_tags(s, after_port);
-    let ItemsStep::Got(tags, next) = tags_step else {
-        return RecordStep::Refused(tags_step.fault());
-    };
-    RecordStep::Got(
+    let (hash, after_hash) = c.hash(s)?;
+    let (client, after_client) = after_hash.dword(s)?;
+    let (port, after_port) = after_client.word(s)?;
+    let (tags, next) = read_tags(s, after_port)?;
+    Ok((
         Record {
             hash,
             client,
@@ -109,31 +57,26 @@ pub fn read_record(s: &[u8], c: Cursor) -> RecordStep
             tags,
         },
         next,
-    )
+    ))
 }
 
 // Items one after the other, each read by itself. A count that is too high ends at the first missing item.
-fn address_by_address(s: &[u8], first: Cursor, count: u32) -> ItemsStep
+fn address_by_address(s: &[u8], first: Cursor, count: u32) -> Step<Items>
     ensures meaning { items_meaning decode_address s.now result ≡ decode_many count decode_address s.now first.at }
     ensures placed { ItemsStepPlaced decode_address s.now result }
 {
     let mut next = first;
-    let mut i: u32 = 0;
-    while i < count {
-        let address_step = read_address(s, next);
-        let AddressStep::Got(_, after) = address_step else {
-            return ItemsStep::Refused(address_step.fault());
-        };
+    for _ in 0..count {
+        let (_, after) = read_address(s, next)?;
         next = after;
-        i += 1;
     }
     let at = first.at;
     let end = next.at;
-    ItemsStep::Got(Items { at, end, count }, next)
+    Ok((Items { at, end, count }, next))
 }
 
 // Addresses all have 6 bytes: where the bytes of all are there, none is read.
-pub fn addresses_from(s: &[u8], first: Cursor, count: u32) -> ItemsStep
+pub fn addresses_from(s: &[u8], first: Cursor, count: u32) -> Step<Items>
     ensures meaning { items_meaning decode_address s.now result ≡ decode_many count decode_address s.now first.at }
     ensures placed { ItemsStepPlaced decode_address s.now result }
 {
@@ -146,7 +89,7 @@ pub fn addresses_from(s: &[u8], first: Cursor, count: u32) -> ItemsStep
         return address_by_address(s, first, count);
     }
     let end = at + size;
-    ItemsStep::Got(Items { at, end, count }, Cursor { at: end })
+    Ok((Items { at, end, count }, Cursor { at: end }))
 }
 
 // The offset after the record at `at`, or 0 where the tests do not tell, as crates/tags skips a tag.
@@ -163,51 +106,40 @@ fn record_end(s: &[u8], at: usize) -> usize
 }
 
 // Records one after the other: each is skipped, and where the tests do not tell, it is read for the fault.
-pub fn records_from(s: &[u8], first: Cursor, count: u32) -> ItemsStep
+pub fn records_from(s: &[u8], first: Cursor, count: u32) -> Step<Items>
     ensures meaning { items_meaning decode_record s.now result ≡ decode_many count decode_record s.now first.at }
     ensures placed { ItemsStepPlaced decode_record s.now result }
 {
     let at = first.at;
     let mut end = at;
-    let mut passed: u32 = 0;
-    while passed < count {
+    for _ in 0..count {
         let next = record_end(s, end);
         if next != 0 {
             end = next;
-            passed += 1;
             continue;
         }
-        let record_step = read_record(s, Cursor { at: end });
-        let RecordStep::Got(_, after) = record_step else {
-            return ItemsStep::Refused(record_step.fault());
-        };
+        let (_, after) = read_record(s, Cursor { at: end })?;
         end = after.at;
-        passed += 1;
     }
-    ItemsStep::Got(Items { at, end, count }, Cursor { at: end })
+    Ok((Items { at, end, count }, Cursor { at: end }))
 }
 
-fn hash_by_hash(s: &[u8], first: Cursor, count: u32) -> ItemsStep
+fn hash_by_hash(s: &[u8], first: Cursor, count: u32) -> Step<Items>
     ensures meaning { items_meaning decode_hash s.now result ≡ decode_many count decode_hash s.now first.at }
     ensures placed { ItemsStepPlaced decode_hash s.now result }
 {
     let mut next = first;
-    let mut i: u32 = 0;
-    while i < count {
-        let hash_step = next.hash(s);
-        let HashStep::Got(_, after) = hash_step else {
-            return ItemsStep::Refused(hash_step.fault());
-        };
+    for _ in 0..count {
+        let (_, after) = next.hash(s)?;
         next = after;
-        i += 1;
     }
     let at = first.at;
     let end = next.at;
-    ItemsStep::Got(Items { at, end, count }, next)
+    Ok((Items { at, end, count }, next))
 }
 
 // Hashes with no count before them, as the blocks of a part.met have them. They all have 16 bytes.
-pub fn hashes_from(s: &[u8], first: Cursor, count: u32) -> ItemsStep
+pub fn hashes_from(s: &[u8], first: Cursor, count: u32) -> Step<Items>
     ensures meaning { items_meaning decode_hash s.now result ≡ decode_many count decode_hash s.now first.at }
     ensures placed { ItemsStepPlaced decode_hash s.now result }
 {
@@ -220,41 +152,32 @@ pub fn hashes_from(s: &[u8], first: Cursor, count: u32) -> ItemsStep
         return hash_by_hash(s, first, count);
     }
     let end = at + size;
-    ItemsStep::Got(Items { at, end, count }, Cursor { at: end })
+    Ok((Items { at, end, count }, Cursor { at: end }))
 }
 
 // BYTE count, then the addresses.
-pub fn read_addresses(s: &[u8], c: Cursor) -> ItemsStep
+pub fn read_addresses(s: &[u8], c: Cursor) -> Step<Items>
     ensures meaning { items_meaning decode_address s.now result ≡ decode_counted decode_byte decode_address s.now c.at }
     ensures placed { ItemsStepInside decode_address s.now result }
 {
-    let count_step = c.byte(s);
-    let ByteStep::Got(count, first) = count_step else {
-        return ItemsStep::Refused(count_step.fault());
-    };
+    let (count, first) = c.byte(s)?;
     addresses_from(s, first, count as u32)
 }
 
 // DWORD count, then the records.
-pub fn read_records(s: &[u8], c: Cursor) -> ItemsStep
+pub fn read_records(s: &[u8], c: Cursor) -> Step<Items>
     ensures meaning { items_meaning decode_record s.now result ≡ decode_counted decode_dword decode_record s.now c.at }
     ensures placed { ItemsStepInside decode_record s.now result }
 {
-    let count_step = c.dword(s);
-    let DwordStep::Got(count, first) = count_step else {
-        return ItemsStep::Refused(count_step.fault());
-    };
+    let (count, first) = c.dword(s)?;
     records_from(s, first, count)
 }
 
 // WORD count, then the hashes.
-pub fn read_hashes(s: &[u8], c: Cursor) -> ItemsStep
+pub fn read_hashes(s: &[u8], c: Cursor) -> Step<Items>
     ensures meaning { items_meaning decode_hash s.now result ≡ decode_counted decode_word decode_hash s.now c.at }
     ensures placed { ItemsStepInside decode_hash s.now result }
 {
-    let count_step = c.word(s);
-    let WordStep::Got(count, first) = count_step else {
-        return ItemsStep::Refused(count_step.fault());
-    };
+    let (count, first) = c.word(s)?;
     hashes_from(s, first, count as u32)
 }

@@ -6,12 +6,13 @@ use mathlib.Core.List.{List}
 use Rattle.format.specs.Saving.{Saves}
 use Rattle.format.specs.EitherOrder.{AllAccepted}
 use Rattle.format.proofs.EitherOrder.{either-order-holds}
-use Rattle.output.specs.declared.WriteAnswer.{WriteAnswer}
+use Rattle.std.specs.Prelude.{Result}
+use Rattle.output.specs.declared.Refusal.{Refusal}
 use Rattle.output.specs.WriteAnswers.{answered}
-use Rattle.merge.proofs.EitherOrder.{same-answered}
+use Rattle.output.proofs.Refusals.{answered_same}
 
-pub calls-exchanged : (stored opened new out : List ℕ) (r q : WriteAnswer) (left right : List ℕ) →
+pub calls-exchanged : (stored opened new out : List ℕ) (r q : Result ℕ Refusal) (left right : List ℕ) →
     AllAccepted opened stored new → (stored ≡ opened → ⊥) → (new ≡ opened → ⊥) →
     Saves stored opened new out (answered r left) → Saves new opened stored out (answered q right) → (r ≡ q) × (left ≡ right)
 calls-exchanged stored opened new out r q left right h d e s t =
-    same-answered r q left right (either-order-holds.save_either_order stored opened new out (answered r left) (answered q right) h d e s t)
+    answered_same r q left right (either-order-holds.save_either_order stored opened new out (answered r left) (answered q right) h d e s t)

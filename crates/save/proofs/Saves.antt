@@ -1,11 +1,11 @@
 -- What a save comes to, by what the comparison says; and over another file than the opened one, by what the reader says of the new bytes.
 use Prim.Native.Nat.{ℕ}
-use mathlib.Core.Path.{◌≡◌, refl, sym, ap, subst, ◌∙◌}
+use mathlib.Core.Path.{◌≡◌, refl, sym, subst, ◌∙◌}
 use mathlib.Core.Bool.{Bool, true, false}
 use mathlib.Core.List.{List, []}
 use Rattle.format.specs.Tables.{same}
 use Rattle.format.specs.Messages.{PartMet, part_met}
-use Rattle.format.specs.Decoding.{Answer, Fault, Reply, accepted, refusal, refused_with, reply}
+use Rattle.format.specs.Decoding.{Answer, Reply, accepted, number, refusal, refused_with, reply}
 use Rattle.format.specs.MetOrder.{decode}
 use Rattle.format.specs.Writing.{Written, unwritten}
 use Rattle.format.specs.Merging.{Merges}
@@ -13,10 +13,14 @@ use Rattle.format.specs.Saving.{Saves, merges_new, over_opened, refuses_new, spe
 use Rattle.format.proofs.Differ.{differ}
 use Rattle.format.proofs.Gaps.{never}
 use Rattle.format.proofs.PartTags.{same_refl, same_true}
-use Rattle.format.proofs.Writing.{number-some}
 use Rattle.save.proofs.Strict.{strict_same}
-use Rattle.met.specs.declared.PartRead.{PartRead}
-use Rattle.merge.specs.Choices.{ReadAs, number_in}
+use Rattle.merge.specs.Choices.{ReadAs}
+use Rattle.merge.proofs.Answers.{accepted-as, read_of, refused-of}
+use Rattle.met.specs.declared.PartGaps.{PartGaps}
+use Rattle.met.specs.declared.PartMet as code
+use Rattle.std.specs.Prelude.{Result, Ok, Err}
+use Rattle.wire.specs.declared.Rule.{Rule}
+use Rattle.wire.specs.WireAnswers.{rule_meaning}
 
 -- What a comparison says.
 pub equal-files : (stored opened : List ℕ) (t : Bool) → t ≡ same stored opened → t ≡ true → stored ≡ opened
@@ -33,23 +37,15 @@ over-opened stored opened new output w e h =
 same_number : {n k : ℕ} → ◌≡◌ {A = Reply PartMet} (refused_with n) (refused_with k) → n ≡ k
 same_number e = cc
 
--- What was read of the new bytes has a number of its own, or none.
-module _ (stored opened new output starts : List ℕ) (other : stored ≡ opened → ⊥) where
-  pub own-refused : (r : PartRead) → ReadAs new starts r → (number_in r ≡ 0 → ⊥) → Saves stored opened new output (unwritten (number_in r) output)
-  own-refused (PartRead.Accepted part gaps) h n = absurd (n refl)
-  own-refused (PartRead.Refused n) h k = go (decode part_met new) refl h.0
+-- What was read of the new bytes: refused, or accepted.
+module _ (stored opened new output starts : List ℕ) (other : stored ≡ opened → ⊥) (r : Result (code.PartMet × PartGaps) Rule) (h : ReadAs new starts r) where
+  pub own-refused : (rule : Rule) → r ≡ Err rule → Saves stored opened new output (unwritten (number (rule_meaning rule)) output)
+  own-refused rule e = go (decode part_met new) refl (refused-of new starts r rule e h)
     where
-      go : (a : Answer PartMet) → decode part_met new ≡ a → refused_with n ≡ reply a → Saves stored opened new output (unwritten n output)
+      go : (a : Answer PartMet) → decode part_met new ≡ a → refused_with (number (rule_meaning rule)) ≡ reply a →
+          Saves stored opened new output (unwritten (number (rule_meaning rule)) output)
       go (refusal f) p e = subst (λ k. Saves stored opened new output (unwritten k output)) (sym (same_number e)) (refuses_new other f p)
       go (accepted m) p e = differ cc
 
-  read_whole : (r : PartRead) (f : Fault) → ReadAs new starts r → number_in r ≡ 0 → decode part_met new ≡ refusal f → ⊥
-  read_whole (PartRead.Accepted part gaps) f h n p = let e = h.0 ∙ ap reply p in differ cc
-  read_whole (PartRead.Refused n) f h e p = number-some f.rule (sym (same_number (h.0 ∙ ap reply p)) ∙ e)
-
-  pub own-accepted : (r : PartRead) → ReadAs new starts r → number_in r ≡ 0 → (w : Written) → Merges opened stored new output w → Saves stored opened new output w
-  own-accepted r h n w k = go (decode part_met new) refl
-    where
-      go : (a : Answer PartMet) → decode part_met new ≡ a → Saves stored opened new output w
-      go (refusal f) p = absurd (read_whole r f h n p)
-      go (accepted m) p = merges_new other m p w k
+  pub own-accepted : (part : code.PartMet) (gaps : PartGaps) → r ≡ Ok (part, gaps) → (w : Written) → Merges opened stored new output w → Saves stored opened new output w
+  own-accepted part gaps e w k = merges_new other _ (accepted-as (decode part_met new) _ (read_of new starts r part gaps e h)) w k

@@ -13,17 +13,20 @@ use Rattle.format.specs.Tables.{pick}
 use Rattle.format.specs.Messages as messages
 use Rattle.format.specs.Messages.{lone_tags}
 use Rattle.format.specs.Rules.{ceiling}
-use Rattle.format.specs.Decoding.{fault, rest, bytes_ceiling, Answer, Outcome, refused, got, and_then, pure, decode_many, finish, accepted, refusal, refused_with, reply}
+use Rattle.format.specs.Decoding as decoding
+use Rattle.format.specs.Decoding.{fault, rest, bytes_ceiling, Answer, Outcome, refused, got, and_then, pure, decode_many, finish, accepted}
 use Rattle.format.specs.Order.{decode_dword, decode_tag, decode_counted, decode_tags}
 use Rattle.format.specs.MetOrder.{decode}
 use Rattle.format.proofs.Differ.{differ}
 use Rattle.format.proofs.There.{dword-ends}
+use Rattle.std.specs.Prelude.{Some, None, Ok, Err}
+use Rattle.wire.specs.declared.Fault.{Fault}
+use Rattle.wire.specs.WireAnswers.{fault_meaning}
 use Rattle.tags.specs.declared.Tag.{Tag}
 use Rattle.tags.specs.TagAnswers.{tag_of}
 use Rattle.tag_walker.specs.declared.TagWalker.{TagWalker}
-use Rattle.tag_walker.specs.declared.WalkStep.{WalkStep}
 use Rattle.tag_walker.specs.Walk as walk
-use Rattle.tag_walker.specs.Walk.{Walk, tag, end, walk_of, spec_walk_from, begin, spec_walk_at, step_meaning, begun}
+use Rattle.tag_walker.specs.Walk.{WalkStep, Walk, tag, end, walk_of, spec_walk_from, begin, spec_walk_at, step_meaning, begun}
 use Rattle.tag_walker.proofs.TagEnds.{tag-ends}
 use Rattle.tag_walker.specs.Walks as calls
 use Rattle.tag_walker.specs.Walks.{Walks, stops, goes, WalkTells, Keeps, Calls, CallsTell, TagMoves}
@@ -31,7 +34,7 @@ use Rattle.tag_walker.specs.Walks.{Walks, stops, goes, WalkTells, Keeps, Calls, 
 -- A walk with these tags and this last step tells an answer.
 data Told (a : Answer (List messages.Tag)) : List messages.Tag → Walk → Type 0 where
   accepts : {l : List messages.Tag} → a ≡ accepted l → Told a l end
-  refuses : {l : List messages.Tag} {k : ℕ} → reply a ≡ refused_with k → Told a l (walk.refusal k)
+  refuses : {l : List messages.Tag} {f : decoding.Fault} → a ≡ decoding.refusal f → Told a l (walk.refusal f)
 
 record Whole (s : List ℕ) (at left : ℕ) (a : Answer (List messages.Tag)) : Type 0 where
   tags : List messages.Tag
@@ -47,7 +50,7 @@ told-cons s t (refused f) (refuses e) = refuses e
 told-cons s t (got l p) h = go (eqb p (length s)) h
   where
     go : (b : Bool) {k : List messages.Tag} {last : Walk} →
-        Told (pick b (accepted l) (refusal (fault rest p 1))) k last → Told (pick b (accepted (t ∷ l)) (refusal (fault rest p 1))) (t ∷ k) last
+        Told (pick b (accepted l) (decoding.refusal (fault rest p 1))) k last → Told (pick b (accepted (t ∷ l)) (decoding.refusal (fault rest p 1))) (t ∷ k) last
     go true {k} (accepts e) = accepts {l = t ∷ k} cc
     go true (refuses e) = differ cc
     go false (accepts e) = differ cc
@@ -59,7 +62,7 @@ module _ (s : List ℕ) where
   unfolding spec_walk_at
   behind at left h = rw (ne_eqb at 0 (λ e. omega arith)) refl
 
-  step-none : (at : ℕ) → 0 < at → spec_walk_at s at 0 ≡ pick (ltb at (length s)) (walk.refusal 7) end
+  step-none : (at : ℕ) → 0 < at → spec_walk_at s at 0 ≡ pick (ltb at (length s)) (walk.refusal (fault rest at 1)) end
   unfolding spec_walk_from
   step-none at h = behind at 0 h
 
@@ -77,9 +80,9 @@ module _ (s : List ℕ) where
   last_step : (at : ℕ) → 0 < at → at ≤ length s → (b : Bool) → ltb at (length s) ≡ b → Whole s at 0 (finish s (got [] at))
   last_step at some h true q = record {
     tags = [];
-    last = walk.refusal 7;
+    last = walk.refusal (fault rest at 1);
     walks = stops (step-none at some ∙ rw q refl);
-    told = refuses {k = 7} (rw (ne_eqb at (length s) (λ e. omega (arith, ltb-true at (length s) q))) refl);
+    told = refuses (rw (ne_eqb at (length s) (λ e. omega (arith, ltb-true at (length s) q))) refl);
   }
   last_step at some h false q = record {
     tags = [];
@@ -112,7 +115,7 @@ module _ (s : List ℕ) where
   from (suc n) at some h = one_more n at some (λ next. from n next) (decode_tag s at) refl
 
   -- At the beginning come the ceiling and the count.
-  start : (b : Bool) → leb (length s) (ceiling lone_tags) ≡ b → spec_walk_at s 0 0 ≡ pick b (begin s (decode_dword s 0)) (walk.refusal 6)
+  start : (b : Bool) → leb (length s) (ceiling lone_tags) ≡ b → spec_walk_at s 0 0 ≡ pick b (begin s (decode_dword s 0)) (walk.refusal (fault bytes_ceiling 0 (length s)))
   unfolding spec_walk_at
   start b q = rw q refl
 
@@ -136,9 +139,9 @@ module _ (s : List ℕ) where
       }
 
   by-ceiling : (b : Bool) → leb (length s) (ceiling lone_tags) ≡ b →
-      Whole s 0 0 (pick b (finish s (decode_tags s 0)) (refusal (fault bytes_ceiling 0 (length s))))
+      Whole s 0 0 (pick b (finish s (decode_tags s 0)) (decoding.refusal (fault bytes_ceiling 0 (length s))))
   unfolding decode_tags decode_counted
-  by-ceiling false c = record { tags = []; last = walk.refusal 6; walks = stops (start false c); told = refuses refl }
+  by-ceiling false c = record { tags = []; last = walk.refusal (fault bytes_ceiling 0 (length s)); walks = stops (start false c); told = refuses refl }
   by-ceiling true c = counted c (decode_dword s 0) refl
 
   whole : Whole s 0 0 (decode lone_tags s)
@@ -149,7 +152,7 @@ module _ (s : List ℕ) where
 abbrev Stop : Walk → Type 0
 Stop (tag t next left) = ⊥
 Stop end = Unit {0}
-Stop (walk.refusal k) = Unit {0}
+Stop (walk.refusal f) = Unit {0}
 
 told-stops : {a : Answer (List messages.Tag)} {l : List messages.Tag} {last : Walk} → Told a l last → Stop last
 told-stops (accepts e) = tt
@@ -182,45 +185,45 @@ module _ {s : List ℕ} where
 
   ended : {a : Answer (List messages.Tag)} {l k : List messages.Tag} {last : Walk} → Walks s last 0 0 k → Told a k last → a ≡ accepted l → Walks s end 0 0 l
   ended {l = l} {k} w (accepts h) e = let p = sym h ∙ e in let q : k ≡ l = cc in subst (λ l. Walks s end 0 0 l) q w
-  ended w (refuses h) e = let p = sym h ∙ ap reply e in differ cc
+  ended w (refuses h) e = let p = sym h ∙ e in differ cc
 
   stopped : {a : Answer (List messages.Tag)} {l : List messages.Tag} {last : Walk} → Walks s last 0 0 l → Told a l last →
-      Walks s end 0 0 l ⊎ ((k : ℕ) × Walks s (walk.refusal k) 0 0 l)
+      Walks s end 0 0 l ⊎ ((f : decoding.Fault) × Walks s (walk.refusal f) 0 0 l)
   stopped w (accepts e) = inl w
-  stopped w (refuses {k = k} e) = inr (k, w)
+  stopped w (refuses {f = f} e) = inr (f, w)
 
 -- what an end and a refusal tell
 accepted-as : {a : Answer (List messages.Tag)} {l : List messages.Tag} → Told a l end → a ≡ accepted l
 accepted-as (accepts e) = e
 
-refused-with : {a : Answer (List messages.Tag)} {l : List messages.Tag} {k : ℕ} → Told a l (walk.refusal k) → reply a ≡ refused_with k
-refused-with (refuses e) = e
+refused-for : {a : Answer (List messages.Tag)} {l : List messages.Tag} {f : decoding.Fault} → Told a l (walk.refusal f) → a ≡ decoding.refusal f
+refused-for (refuses e) = e
 
 pub walk-tells : (s : List ℕ) → WalkTells s
 walk-tells s =
     let x = whole s in
     record {
       accepts = λ l. (λ w. accepted-as (only-walk x tt w), λ e. ended x.walks x.told e);
-      refuses = λ l k w. refused-with (only-walk x tt w);
+      refuses = λ l f w. refused-for (only-walk x tt w);
       comes = (x.tags, stopped x.walks x.told);
     }
 
 -- What a step stands for tells the step.
 as-tag : (s : List ℕ) (r : WalkStep) (at left : ℕ) {t : messages.Tag} {next more : ℕ} → step_meaning s r at left ≡ tag t next more →
-    (u : Tag) × ((r ≡ WalkStep.Tag u) × ((at ≡ next) × (left ≡ more)))
-as-tag s (WalkStep.Tag u) at left e = (u, (refl, (cc, cc)))
-as-tag s WalkStep.End at left e = differ cc
-as-tag s (WalkStep.Refused n) at left e = differ cc
+    (u : Tag) × ((r ≡ Ok (Some u)) × ((at ≡ next) × (left ≡ more)))
+as-tag s (Ok (Some u)) at left e = (u, (refl, (cc, cc)))
+as-tag s (Ok None) at left e = differ cc
+as-tag s (Err f) at left e = differ cc
 
-as-end : (s : List ℕ) (r : WalkStep) (at left : ℕ) → step_meaning s r at left ≡ end → r ≡ WalkStep.End
-as-end s (WalkStep.Tag u) at left e = differ cc
-as-end s WalkStep.End at left e = refl
-as-end s (WalkStep.Refused n) at left e = differ cc
+as-end : (s : List ℕ) (r : WalkStep) (at left : ℕ) → step_meaning s r at left ≡ end → r ≡ Ok None
+as-end s (Ok (Some u)) at left e = differ cc
+as-end s (Ok None) at left e = refl
+as-end s (Err f) at left e = differ cc
 
-as-refusal : {k : ℕ} (s : List ℕ) (r : WalkStep) (at left : ℕ) → step_meaning s r at left ≡ walk.refusal k → r ≡ WalkStep.Refused k
-as-refusal s (WalkStep.Tag u) at left e = differ cc
-as-refusal s WalkStep.End at left e = differ cc
-as-refusal s (WalkStep.Refused n) at left e = cc
+as-refusal : {x : decoding.Fault} (s : List ℕ) (r : WalkStep) (at left : ℕ) → step_meaning s r at left ≡ walk.refusal x → (f : Fault) × (r ≡ Err f)
+as-refusal s (Ok (Some u)) at left e = differ cc
+as-refusal s (Ok None) at left e = differ cc
+as-refusal s (Err f) at left e = (f, refl)
 
 module _ (next : TagWalker → WalkStep × TagWalker) (keeps : Keeps next) (tags : Bor (List ℕ)) where
   abbrev s : List ℕ
@@ -241,26 +244,31 @@ module _ (next : TagWalker → WalkStep × TagWalker) (keeps : Keeps next) (tags
   calls-walk {w = w} stop stands e (calls.goes q c) =
       goes (sym (step w e) ∙ ap (λ r. step_meaning s r (next w).1.at (next w).1.left) q) (calls-walk stop stands (over w e) c)
 
-  walk-calls : {stop : Walk} {at left : ℕ} {l : List messages.Tag} (last : WalkStep) →
-      ((r : WalkStep) (at left : ℕ) → step_meaning s r at left ≡ stop → r ≡ last) →
-      (w : TagWalker) → w.tags ≡ tags → w.at ≡ at → w.left ≡ left → Walks s stop at left l → (l : List Tag) × Calls next last w l
-  walk-calls last is w e a b (stops q) = ([], calls.stops (is _ _ _ (step w e ∙ ap₂ (spec_walk_at s) a b ∙ q)))
-  walk-calls last is w e a b (goes q v) =
+  walk-calls : {stop : Walk} {at left : ℕ} {l : List messages.Tag} (Last : WalkStep → Type 0) →
+      ((r : WalkStep) (at left : ℕ) → step_meaning s r at left ≡ stop → Last r) →
+      (w : TagWalker) → w.tags ≡ tags → w.at ≡ at → w.left ≡ left → Walks s stop at left l →
+      (l : List Tag) × ((last : WalkStep) × (Last last × Calls next last w l))
+  walk-calls Last is w e a b (stops q) = ([], ((next w).0, (is _ _ _ (step w e ∙ ap₂ (spec_walk_at s) a b ∙ q), calls.stops refl)))
+  walk-calls Last is w e a b (goes q v) =
       let x = as-tag s (next w).0 (next w).1.at (next w).1.left (step w e ∙ ap₂ (spec_walk_at s) a b ∙ q) in
-      let c = walk-calls last is (next w).1 (over w e) x.1.1.0 x.1.1.1 v in
-      (x.0 ∷ c.0, calls.goes x.1.0 c.1)
+      let c = walk-calls Last is (next w).1 (over w e) x.1.1.0 x.1.1.1 v in
+      (x.0 ∷ c.0, (c.1.0, (c.1.1.0, calls.goes x.1.0 c.1.1.1)))
 
-  found : (l : List messages.Tag) → Walks s end 0 0 l ⊎ ((k : ℕ) × Walks s (walk.refusal k) 0 0 l) →
-      (l : List Tag) × (Calls next WalkStep.End (begun tags) l ⊎ ((k : ℕ) × Calls next (WalkStep.Refused k) (begun tags) l))
-  found l (inl v) = let c = walk-calls WalkStep.End (as-end s) (begun tags) refl refl refl v in (c.0, inl c.1)
-  found l (inr v) = let c = walk-calls (WalkStep.Refused v.0) (as-refusal s) (begun tags) refl refl refl v.1 in (c.0, inr (v.0, c.1))
+  found : (l : List messages.Tag) → Walks s end 0 0 l ⊎ ((f : decoding.Fault) × Walks s (walk.refusal f) 0 0 l) →
+      (l : List Tag) × (Calls next (Ok None) (begun tags) l ⊎ ((f : Fault) × Calls next (Err f) (begun tags) l))
+  found l (inl v) =
+      let c = walk-calls (λ r. r ≡ Ok None) (as-end s) (begun tags) refl refl refl v in
+      (c.0, inl (subst (λ r. Calls next r (begun tags) c.0) c.1.1.0 c.1.1.1))
+  found l (inr v) =
+      let c = walk-calls (λ r. (f : Fault) × (r ≡ Err f)) (as-refusal s) (begun tags) refl refl refl v.1 in
+      (c.0, inr (c.1.1.0.0, subst (λ r. Calls next r (begun tags) c.0) c.1.1.0.1 c.1.1.1))
 
 pub calls-tell : (next : TagWalker → WalkStep × TagWalker) → Keeps next → (tags : Bor (List ℕ)) → CallsTell next tags
 calls-tell next keeps tags =
     let x = walk-tells tags.now in
     record {
       accepts = λ l c. (x.accepts (map (tag_of tags.now) l)).0 (calls-walk next keeps tags end (λ at left. refl) refl c);
-      refuses = λ l k c. x.refuses (map (tag_of tags.now) l) k (calls-walk next keeps tags (walk.refusal k) (λ at left. refl) refl c);
+      refuses = λ l f c. x.refuses (map (tag_of tags.now) l) (fault_meaning f) (calls-walk next keeps tags (walk.refusal (fault_meaning f)) (λ at left. refl) refl c);
       comes = found next keeps tags x.comes.0 x.comes.1;
     }
 
@@ -269,7 +277,7 @@ from-moves : (s : List ℕ) (at left : ℕ) {t : messages.Tag} {next more : ℕ}
 unfolding spec_walk_from
 from-moves s at left {t} {next} {more} e = go (eqb left 0) e
   where
-    none : (b : Bool) {P : Type 0} → pick b (walk.refusal 7) end ≡ tag t next more → P
+    none : (b : Bool) {P : Type 0} → pick b (walk.refusal (fault rest at 1)) end ≡ tag t next more → P
     none true e = differ cc
     none false e = differ cc
 
@@ -277,7 +285,7 @@ from-moves s at left {t} {next} {more} e = go (eqb left 0) e
     some (refused f) e = differ cc
     some (got u p) e = cc
 
-    go : (b : Bool) → pick b (pick (ltb at (length s)) (walk.refusal 7) end) (walk_of (decode_tag s at) (left - 1)) ≡ tag t next more → (at < next) × (next ≤ length s)
+    go : (b : Bool) → pick b (pick (ltb at (length s)) (walk.refusal (fault rest at 1)) end) (walk_of (decode_tag s at) (left - 1)) ≡ tag t next more → (at < next) × (next ≤ length s)
     go true e = none (ltb at (length s)) e
     go false e = tag-ends s (some (decode_tag s at) e)
 
@@ -289,11 +297,11 @@ at-moves : (s : List ℕ) (at left : ℕ) {t : messages.Tag} {next more : ℕ} �
 unfolding spec_walk_at
 at-moves s at left {t} {next} {more} e = go (eqb at 0) refl e
   where
-    within : (b : Bool) → pick b (begin s (decode_dword s 0)) (walk.refusal 6) ≡ tag t next more → (0 < next) × (next ≤ length s)
+    within : (b : Bool) → pick b (begin s (decode_dword s 0)) (walk.refusal (fault bytes_ceiling 0 (length s))) ≡ tag t next more → (0 < next) × (next ≤ length s)
     within true e = begin-moves s (decode_dword s 0) e
     within false e = differ cc
 
-    go : (b : Bool) → eqb at 0 ≡ b → pick b (pick (leb (length s) (ceiling lone_tags)) (begin s (decode_dword s 0)) (walk.refusal 6)) (spec_walk_from s at left) ≡ tag t next more →
+    go : (b : Bool) → eqb at 0 ≡ b → pick b (pick (leb (length s) (ceiling lone_tags)) (begin s (decode_dword s 0)) (walk.refusal (fault bytes_ceiling 0 (length s)))) (spec_walk_from s at left) ≡ tag t next more →
         (at < next) × (next ≤ length s)
     go true q e = let x = within (leb (length s) (ceiling lone_tags)) e in (omega (arith, eqb-true at 0 q, x.0), x.1)
     go false q e = from-moves s at left e

@@ -19,12 +19,8 @@ ghost use Rattle.format.specs.MetOrder.{decode};
 ghost use Rattle.wire.specs.WireAnswers.{items_meaning, ItemsStepPlaced, ItemsStepInside};
 ghost use Rattle.tags.specs.TagAnswers.{type_of, type_meaning, value_meaning, ValueStepInside, tag_meaning, TagStepInside, tag_list_reply, TagListPlaced};
 ghost use Rattle.tags.specs.Skips.{EndsThere, Lies, spec_own_size, offset_after, spec_text_size};
-ghost use Rattle.tags.specs.TagAnswers.{type_fault, value_fault, tag_fault};
 
-use wire::{
-    ByteStep, Cursor, DwordStep, Fault, HashStep, Items, ItemsStep, PACKET_CEILING, Place,
-    PlaceStep, Rule, no_fault, number, pair,
-};
+use wire::{Cursor, Fault, Items, PACKET_CEILING, Place, Rule, Step, pair};
 
 #[derive(Clone, Copy)]
 pub enum TagType {
@@ -51,71 +47,17 @@ pub struct Tag {
     pub value: TagValue,
 }
 
-#[derive(Clone, Copy)]
-pub enum TypeStep {
-    Got(TagType, Cursor),
-    Refused(Fault),
-}
-
-#[derive(Clone, Copy)]
-pub enum ValueStep {
-    Got(TagValue, Cursor),
-    Refused(Fault),
-}
-
-#[derive(Clone, Copy)]
-pub enum TagStep {
-    Got(Tag, Cursor),
-    Refused(Fault),
-}
-
-impl TypeStep {
-    // The fault of a refusal.
-    pub fn fault(self) -> Fault
-        ensures { result ≡ type_fault self }
-    {
-        match self {
-            TypeStep::Got(_, _) => no_fault(),
-            TypeStep::Refused(f) => f,
-        }
-    }
-}
-
-impl ValueStep {
-    pub fn fault(self) -> Fault
-        ensures { result ≡ value_fault self }
-    {
-        match self {
-            ValueStep::Got(_, _) => no_fault(),
-            ValueStep::Refused(f) => f,
-        }
-    }
-}
-
-impl TagStep {
-    pub fn fault(self) -> Fault
-        ensures { result ≡ tag_fault self }
-    {
-        match self {
-            TagStep::Got(_, _) => no_fault(),
-            TagStep::Refused(f) => f,
-        }
-    }
-}
-
-pub fn read_type(s: &[u8], c: Cursor) -> TypeStep
+#[tactic(auto, unfolding(format::specs::Order::decode_type, format::specs::Order::decode_code))]
+pub fn read_type(s: &[u8], c: Cursor) -> Step<TagType>
     ensures { type_meaning result ≡ decode_type s.now c.at }
 {
-    let code_step = c.byte(s);
-    let ByteStep::Got(code, next) = code_step else {
-        return TypeStep::Refused(code_step.fault());
-    };
+    let (code, next) = c.byte(s)?;
     match code {
-        1 => TypeStep::Got(TagType::Hash, next),
-        2 => TypeStep::Got(TagType::Text, next),
-        3 => TypeStep::Got(TagType::Dword, next),
-        4 => TypeStep::Got(TagType::Float, next),
-        _ => TypeStep::Refused(Fault {
+        1 => Ok((TagType::Hash, next)),
+        2 => Ok((TagType::Text, next)),
+        3 => Ok((TagType::Dword, next)),
+        4 => Ok((TagType::Float, next)),
+        _ => Err(Fault {
             rule: Rule::Choice,
             at: c.at,
             size: 1,
@@ -124,66 +66,46 @@ pub fn read_type(s: &[u8], c: Cursor) -> TypeStep
 }
 
 // A value of a type that was read before the name.
-pub fn read_value(s: &[u8], c: Cursor, tag_type: TagType) -> ValueStep
+pub fn read_value(s: &[u8], c: Cursor, tag_type: TagType) -> Step<TagValue>
     ensures result_value { value_meaning s.now result ≡ decode_value (type_of tag_type) s.now c.at }
     ensures inside { ValueStepInside s.now result }
 {
     match tag_type {
         TagType::Hash => {
-            let hash_step = c.hash(s);
-            let HashStep::Got(at, next) = hash_step else {
-                return ValueStep::Refused(hash_step.fault());
-            };
-            ValueStep::Got(TagValue::Hash(at), next)
+            let (at, next) = c.hash(s)?;
+            Ok((TagValue::Hash(at), next))
         }
         TagType::Text => {
-            let text_step = c.string(s);
-            let PlaceStep::Got(text, next) = text_step else {
-                return ValueStep::Refused(text_step.fault());
-            };
-            ValueStep::Got(TagValue::Text(text), next)
+            let (text, next) = c.string(s)?;
+            Ok((TagValue::Text(text), next))
         }
         TagType::Dword => {
-            let dword_step = c.dword(s);
-            let DwordStep::Got(value, next) = dword_step else {
-                return ValueStep::Refused(dword_step.fault());
-            };
-            ValueStep::Got(TagValue::Dword(value), next)
+            let (value, next) = c.dword(s)?;
+            Ok((TagValue::Dword(value), next))
         }
         TagType::Float => {
-            let bits_step = c.dword(s);
-            let DwordStep::Got(bits, next) = bits_step else {
-                return ValueStep::Refused(bits_step.fault());
-            };
-            ValueStep::Got(TagValue::Float(bits), next)
+            let (bits, next) = c.dword(s)?;
+            Ok((TagValue::Float(bits), next))
         }
     }
 }
 
-pub fn read_tag(s: &[u8], c: Cursor) -> TagStep
+#[tactic(auto, unfolding(format::specs::Order::decode_tag))]
+pub fn read_tag(s: &[u8], c: Cursor) -> Step<Tag>
     ensures result_value { tag_meaning s.now result ≡ decode_tag s.now c.at }
     ensures inside { TagStepInside s.now result }
 {
-    let type_step = read_type(s, c);
-    let TypeStep::Got(tag_type, after_type) = type_step else {
-        return TagStep::Refused(type_step.fault());
-    };
-    let name_step = after_type.name(s);
-    let PlaceStep::Got(name, after_name) = name_step else {
-        return TagStep::Refused(name_step.fault());
-    };
-    let value_step = read_value(s, after_name, tag_type);
-    let ValueStep::Got(value, next) = value_step else {
-        return TagStep::Refused(value_step.fault());
-    };
-    TagStep::Got(
+    let (tag_type, after_type) = read_type(s, c)?;
+    let (name, after_name) = after_type.name(s)?;
+    let (value, next) = read_value(s, after_name, tag_type)?;
+    Ok((
         Tag {
             name_at: name.at,
             name_len: name.len,
             value,
         },
         next,
-    )
+    ))
 }
 
 // To skip tags without their values takes a few tests and no step of the cursor. Each function below returns the offset after what
@@ -302,8 +224,7 @@ pub fn whole_tag_end(s: &[u8], at: usize) -> usize
 fn read_tag_after(s: &[u8], at: usize) -> usize
     ensures { result ≡ offset_after (decode_tag s.now at) }
 {
-    let tag_step = read_tag(s, Cursor { at });
-    let TagStep::Got(_, next) = tag_step else {
+    let Ok((_, next)) = read_tag(s, Cursor { at }) else {
         return 0;
     };
     next.at
@@ -325,41 +246,34 @@ fn tags_end(s: &[u8], at: usize, count: u32) -> usize
     ensures { EndsThere (ends (decode_many count decode_tag s.now at)) result }
 {
     let mut next = at;
-    let mut passed: u32 = 0;
-    while passed < count {
+    for _ in 0..count {
         let end = tag_end(s, next);
         if end == 0 {
             return 0;
         }
         next = end;
-        passed += 1;
     }
     next
 }
 
 // Tags one after the other, each read by itself. A count that is too high ends at the first missing tag.
-fn tag_by_tag(s: &[u8], first: Cursor, count: u32) -> ItemsStep
+fn tag_by_tag(s: &[u8], first: Cursor, count: u32) -> Step<Items>
     ensures meaning { items_meaning decode_tag s.now result ≡ decode_many count decode_tag s.now first.at }
     ensures placed { ItemsStepPlaced decode_tag s.now result }
 {
     let mut next = first;
-    let mut i: u32 = 0;
-    while i < count {
-        let tag_step = read_tag(s, next);
-        let TagStep::Got(_, after) = tag_step else {
-            return ItemsStep::Refused(tag_step.fault());
-        };
+    for _ in 0..count {
+        let (_, after) = read_tag(s, next)?;
         next = after;
-        i += 1;
     }
     let at = first.at;
     let end = next.at;
-    ItemsStep::Got(Items { at, end, count }, next)
+    Ok((Items { at, end, count }, next))
 }
 
 // Tags one after the other, as many as counted. Every tag is skipped, so that the list returned is known to lie there whole. Where the
 // tests do not tell, the tags are read again one by one for the fault.
-pub fn tags_from(s: &[u8], first: Cursor, count: u32) -> ItemsStep
+pub fn tags_from(s: &[u8], first: Cursor, count: u32) -> Step<Items>
     ensures meaning { items_meaning decode_tag s.now result ≡ decode_many count decode_tag s.now first.at }
     ensures placed { ItemsStepPlaced decode_tag s.now result }
 {
@@ -368,65 +282,53 @@ pub fn tags_from(s: &[u8], first: Cursor, count: u32) -> ItemsStep
     if end == 0 {
         return tag_by_tag(s, first, count);
     }
-    ItemsStep::Got(Items { at, end, count }, Cursor { at: end })
+    Ok((Items { at, end, count }, Cursor { at: end }))
 }
 
 // The offset after a tag list; 0 for one that is refused.
+#[tactic(auto, unfolding(format::specs::Order::decode_tags, format::specs::Order::decode_counted))]
 pub fn tag_list_end(s: &[u8], at: usize) -> usize
     ensures { result ≡ offset_after (decode_tags s.now at) }
 {
     let c = Cursor { at };
-    let count_step = c.dword(s);
-    let DwordStep::Got(count, first) = count_step else {
+    let Ok((count, first)) = c.dword(s) else {
         return 0;
     };
     let end = tags_end(s, first.at, count);
     if end != 0 {
         return end;
     }
-    let tags_step = tag_by_tag(s, first, count);
-    let ItemsStep::Got(_, next) = tags_step else {
+    let Ok((_, next)) = tag_by_tag(s, first, count) else {
         return 0;
     };
     next.at
 }
 
 // A tag list: DWORD count, then the tags.
-pub fn read_tags(s: &[u8], c: Cursor) -> ItemsStep
+#[tactic(auto, unfolding(format::specs::Order::decode_tags, format::specs::Order::decode_counted))]
+pub fn read_tags(s: &[u8], c: Cursor) -> Step<Items>
     ensures result_value { items_meaning decode_tag s.now result ≡ decode_tags s.now c.at }
     ensures placed { ItemsStepInside decode_tag s.now result }
 {
-    let count_step = c.dword(s);
-    let DwordStep::Got(count, first) = count_step else {
-        return ItemsStep::Refused(count_step.fault());
-    };
+    let (count, first) = c.dword(s)?;
     tags_from(s, first, count)
-}
-
-#[derive(Clone, Copy)]
-pub enum TagListAnswer {
-    Accepted(Items),
-    Refused(u8),
 }
 
 // A lone tag list: at most 65,536 bytes that are one tag list and nothing else. By the last clause it is accepted exactly
 // when some valid tags have these bytes as their encoding, and then as these tags.
-pub fn read_tag_list(s: &[u8]) -> TagListAnswer
+pub fn read_tag_list(s: &[u8]) -> Result<Items, Rule>
     ensures result_value { tag_list_reply s.now result ≡ reply (decode lone_tags s.now) }
     ensures placed { TagListPlaced s.now result }
     ensures exact { (m : List messages.Tag) →
         (tag_list_reply s.now result ≡ message m) ↔ ((s.now ≡ encode_tags m) × Valid lone_tags m) }
 {
     if PACKET_CEILING < s.len() {
-        return TagListAnswer::Refused(number(Rule::BytesCeiling));
+        return Err(Rule::BytesCeiling);
     }
-    let tags_step = read_tags(s, Cursor { at: 0 });
-    let ItemsStep::Got(list, next) = tags_step else {
-        return TagListAnswer::Refused(tags_step.fault().number());
-    };
+    let (list, next) = read_tags(s, Cursor { at: 0 })?;
     let end = next.at;
     if end == s.len() {
-        return TagListAnswer::Accepted(list);
+        return Ok(list);
     }
-    TagListAnswer::Refused(number(Rule::Rest))
+    Err(Rule::Rest)
 }

@@ -1,36 +1,39 @@
--- The calls in both orders, by the theorems of the order (format's and gaps' specs/EitherOrder).
-use mathlib.Core.Path.{◌≡◌, ap, ◌∙◌}
+-- The calls in both orders, by the theorem of the order (gaps' specs/EitherOrder).
+use mathlib.Core.Path.{◌≡◌, ap, sym, ◌∙◌}
+use Rattle.std.specs.Prelude.{Result, Ok}
 use Rattle.format.specs.Gaps.{size_limit}
 use Rattle.gaps.specs.declared.Gap.{Gap}
 use Rattle.gaps.specs.declared.GapRecord.{GapRecord}
 use Rattle.gaps.specs.declared.Marked.{Marked}
-use Rattle.gaps.specs.declared.MarkAnswer.{MarkAnswer}
 use Rattle.gaps.specs.GapRecords.{gap_of}
-use Rattle.gaps.specs.Marking.{answer_of}
-use Rattle.gaps.specs.EitherOrder.{ByValue, MarkedInTurn}
-use Rattle.gaps.proofs.EitherOrder.{by_value}
+use Rattle.gaps.specs.Marking.{MarkOutcome, mark_meaning}
+use Rattle.gaps.proofs.EitherOrder.{same-marked}
+use Rattle.output.specs.declared.Refusal.{Refusal}
 use Rattle.test_cases.specs.Orders.{MarkedInBothOrders, marked_one}
 
--- Two calls of `mark`, one after the other.
-in-turn : (g : GapRecord) (r q : Gap) (a b : Marked) → a ≡ marked_one g r → b ≡ marked_one a.after q → a.number ≡ 0 → b.number ≡ 0 →
-    MarkedInTurn (ByValue size_limit) g (gap_of r) (gap_of q) (answer_of b) b.after
-in-turn g r q a b h k x y = record { answer_between = answer_of a; between = a.after; one = h; one_accepted = x; other = k; other_accepted = y }
+-- What an accepted marking means tells what it answered.
+accepted : (g : GapRecord) {m : Marked} {o : MarkOutcome} {a : Result Marked Refusal} → mark_meaning g a ≡ o → a ≡ Ok m → o ≡ mark_meaning g (Ok m)
+accepted g h e = sym h ∙ ap (mark_meaning g) e
 
--- An answer by its parts
-marked-by-parts : (a b : Marked) → answer_of a ≡ answer_of b → a.after ≡ b.after → a ≡ b
-marked-by-parts a b e f =
-    ap (λ (x : MarkAnswer). record { number = x.number; missing = x.missing; after = a.after }) e
-    ∙ ap (λ (g : GapRecord). record { number = b.number; missing = b.missing; after = g }) f
+number : {o n : MarkOutcome} → o ≡ n → o.number ≡ n.number
+number = ap (λ (o : MarkOutcome). o.number)
 
-pub marked-both : (g : GapRecord) (r q : Gap) (a one b other : Marked) → a ≡ marked_one g r → one ≡ marked_one a.after q →
-    b ≡ marked_one g q → other ≡ marked_one b.after r →
-    MarkedInBothOrders g r q (record { first = a.number; one = one; second = b.number; other = other })
-marked-both g r q a one b other h k i j = record {
-  numbers = (ap (λ (m : Marked). m.number) h, ap (λ (m : Marked). m.number) i);
-  answers = (k ∙ ap (λ (m : Marked). marked_one m.after q) h, j ∙ ap (λ (m : Marked). marked_one m.after r) i);
-  equal =
-      λ x y z w. let same =
-      by_value size_limit g (gap_of r) (gap_of q) (answer_of one) (answer_of other) one.after other.after
-      (in-turn g r q a one h k x y) (in-turn g q r b other i j z w) in
-      marked-by-parts one other same.0 same.1;
-}
+pub marked-both : (g u v : GapRecord) (a b : Gap) (first one second other : Result Marked Refusal) →
+    mark_meaning g first ≡ marked_one g a → u ≡ (mark_meaning g first).after → mark_meaning u one ≡ marked_one u b →
+    mark_meaning g second ≡ marked_one g b → v ≡ (mark_meaning g second).after → mark_meaning v other ≡ marked_one v a →
+    MarkedInBothOrders g a b (record { first = first; one = one; second = second; other = other })
+marked-both g u v a b first one second other h d k i e j =
+    let k' = rw (d, h) at k in
+    let j' = rw (e, i) at j in
+    record {
+      first = h;
+      one = k';
+      second = i;
+      other = j';
+      equal =
+          λ x m y n p q r s.
+          let last = accepted _ k' q in
+          let last' = accepted _ j' s in
+          let same = same-marked size_limit g (gap_of a) (gap_of b) (number (accepted g h p)) (number last) (number (accepted g i r)) (number last') in
+          ap (λ (o : MarkOutcome). record { missing = o.missing; after = o.after }) (sym last ∙ same ∙ last');
+    }

@@ -4,12 +4,13 @@
 
 ghost use Rattle.std.specs.Prelude.{◌≡◌, ◌+◌, ◌≤◌, ◌<◌, IfOk};
 ghost use Rattle.format.specs.Gaps.{size_limit};
-ghost use Rattle.gaps.specs.Marking.{marked};
+ghost use Rattle.gaps.specs.Marking.{marked, mark_meaning};
 ghost use Rattle.test_cases.specs.Orders.{MarkedInBothOrders, tallied};
 
-use gaps::{Gap, GapRecord, MarkAnswer, Marked, all_missing, mark, mark_in_place};
+use gaps::{Gap, GapRecord, Marked, all_missing, mark, mark_in_place};
 use met::{block_count, part_count};
-use query::{QueryAnswer, read_lone_query};
+use output::Refusal;
+use query::read_lone_query;
 use std::io;
 
 fn say(rt: &impl Print, words: &str, n: u64) -> io::Result<()> {
@@ -17,10 +18,9 @@ fn say(rt: &impl Print, words: &str, n: u64) -> io::Result<()> {
 }
 
 fn show_query(rt: &impl Print, bytes: &[u8]) -> io::Result<()> {
-    let answer = read_lone_query(bytes);
-    match answer {
-        QueryAnswer::Accepted(q) => say(rt, "query of depth ", q.depth as u64),
-        QueryAnswer::Refused(n) => say(rt, "query refused ", n as u64),
+    match read_lone_query(bytes) {
+        Ok(q) => say(rt, "query of depth ", q.depth as u64),
+        Err(rule) => say(rt, "query refused ", rule.number() as u64),
     }
 }
 
@@ -66,17 +66,33 @@ fn show_depths(rt: &impl Print) -> io::Result<()> {
     )
 }
 
-fn show_answer(rt: &impl Print, words: &str, start: u64, end: u64, number: u8) -> io::Result<()> {
+// The record after a marking: on a refusal the one given.
+fn record_after(given: GapRecord, answer: Result<Marked, Refusal>) -> GapRecord
+    ensures { result ≡ (mark_meaning given answer).after }
+{
+    answer.map_or(given, |marked| marked.after)
+}
+
+// Prints the number of an answer to a marking: 0 where it is accepted.
+fn show_answer(
+    rt: &impl Print,
+    words: &str,
+    start: u64,
+    end: u64,
+    answer: Result<u64, Refusal>,
+) -> io::Result<()> {
+    let number = answer.err().map_or(0, |refusal| refusal.number());
     print!(rt; "{words}{start} to {end}: answer {number}")
 }
 
 // Marks a range, and prints the number of the answer, how many gaps are left and how many bytes are missing.
 fn show_mark(rt: &impl Print, g: GapRecord, start: u64, end: u64) -> io::Result<GapRecord> {
-    let marked = mark(g, start, end);
-    let after = marked.after;
-    show_answer(rt, "mark ", start, end, marked.number)?;
+    let answer = mark(g, start, end);
+    let after = record_after(g, answer);
+    let missing = answer.map(|marked| marked.missing);
+    show_answer(rt, "mark ", start, end, missing)?;
     print!(rt; ", gaps {}", after.count)?;
-    say(rt, ", missing ", marked.missing)?;
+    say(rt, ", missing ", missing.unwrap_or(0))?;
     Ok(after)
 }
 
@@ -89,9 +105,14 @@ fn show_gap(rt: &impl Print, g: GapRecord, i: usize) -> io::Result<()> {
     Ok(())
 }
 
-fn show_in_place(rt: &impl Print, answer: MarkAnswer, start: u64, end: u64) -> io::Result<()> {
-    show_answer(rt, "mark in place ", start, end, answer.number)?;
-    say(rt, ", missing ", answer.missing)
+fn show_in_place(
+    rt: &impl Print,
+    answer: Result<u64, Refusal>,
+    start: u64,
+    end: u64,
+) -> io::Result<()> {
+    show_answer(rt, "mark in place ", start, end, answer)?;
+    say(rt, ", missing ", answer.unwrap_or(0))
 }
 
 // Marks a range of a record that is lent to the marking call, and hands the record back as the call left it.
@@ -103,37 +124,8 @@ fn mark_lent(rt: &impl Print, mut g: GapRecord, start: u64, end: u64) -> io::Res
     Ok(g)
 }
 
-fn is_same_gap(a: GapRecord, b: GapRecord, i: usize) -> bool {
-    if 64 <= i {
-        return true;
-    }
-    let first = a.gaps[i];
-    let second = b.gaps[i];
-    if first.start != second.start {
-        return false;
-    }
-    first.end == second.end
-}
-
-fn is_same(a: GapRecord, b: GapRecord) -> bool {
-    if a.size != b.size {
-        return false;
-    }
-    if a.count != b.count {
-        return false;
-    }
-    let mut i = 0;
-    while i < 64 {
-        if !is_same_gap(a, b, i) {
-            return false;
-        }
-        i += 1;
-    }
-    true
-}
-
 fn show_same(rt: &impl Print, a: GapRecord, b: GapRecord) -> io::Result<()> {
-    if is_same(a, b) {
+    if a == b {
         println!(rt; "the record is equal")
     } else {
         println!(rt; "the record differs")
@@ -143,11 +135,8 @@ fn show_same(rt: &impl Print, a: GapRecord, b: GapRecord) -> io::Result<()> {
 // A file of 640 bytes of which every tenth has arrived: 64 gaps.
 fn many_gaps() -> GapRecord {
     let mut record = all_missing(640);
-    let mut at = 9;
-    while at < 640 {
-        let marked = mark(record, at, at + 1);
-        record = marked.after;
-        at += 10;
+    for at in (9..640).step_by(10) {
+        record = record_after(record, mark(record, at, at + 1));
     }
     record
 }
@@ -163,26 +152,26 @@ fn show_lent(rt: &impl Print) -> io::Result<()> {
     show_same(rt, full, mark_lent(rt, full, 3, 4)?)
 }
 
-// Two markings in each order: the number of the first one, and the answer of the last one.
+// Two markings in each order: the answers of all four calls.
 #[derive(Clone, Copy)]
 struct Markings {
-    first: u8,
-    one: Marked,
-    second: u8,
-    other: Marked,
+    first: Result<Marked, Refusal>,
+    one: Result<Marked, Refusal>,
+    second: Result<Marked, Refusal>,
+    other: Result<Marked, Refusal>,
 }
 
-fn mark_both(given: GapRecord, first: Gap, second: Gap) -> Markings
-    ensures { MarkedInBothOrders given first second result }
+fn mark_both(given: GapRecord, a: Gap, b: Gap) -> Markings
+    ensures { MarkedInBothOrders given a b result }
 {
-    let a = mark(given, first.start, first.end);
-    let one = mark(a.after, second.start, second.end);
-    let b = mark(given, second.start, second.end);
-    let other = mark(b.after, first.start, first.end);
+    let first = mark(given, a.start, a.end);
+    let one = mark(record_after(given, first), b.start, b.end);
+    let second = mark(given, b.start, b.end);
+    let other = mark(record_after(given, second), a.start, a.end);
     Markings {
-        first: a.number,
+        first,
         one,
-        second: b.number,
+        second,
         other,
     }
 }
@@ -195,24 +184,15 @@ enum Pair {
     Differs,
 }
 
-fn compare_answers(one: Marked, other: Marked) -> Pair {
-    if one.missing != other.missing {
-        return Pair::Differs;
-    }
-    if is_same(one.after, other.after) {
+fn compare_orders(given: GapRecord, first: Gap, second: Gap) -> Pair {
+    let both = mark_both(given, first, second);
+    let (Ok(_), Ok(one), Ok(_), Ok(other)) = (both.first, both.one, both.second, both.other) else {
+        return Pair::Refused;
+    };
+    if one == other {
         return Pair::Equal;
     }
     Pair::Differs
-}
-
-fn compare_orders(given: GapRecord, first: Gap, second: Gap) -> Pair {
-    let both = mark_both(given, first, second);
-    let one = both.one;
-    let other = both.other;
-    if both.first != 0 || one.number != 0 || both.second != 0 || other.number != 0 {
-        return Pair::Refused;
-    }
-    compare_answers(one, other)
 }
 
 // Numbers that look random lie below this one.
@@ -244,19 +224,16 @@ fn random_range(random: u64, length: u64) -> Gap
 // Marks a range of up to three bytes. One that would leave too many gaps is refused.
 fn mark_random(given: GapRecord, random: u64) -> GapRecord {
     let range = random_range(random, random / 512 % 3 + 1);
-    let marked = mark(given, range.start, range.end);
-    marked.after
+    record_after(given, mark(given, range.start, range.end))
 }
 
 // A file of which up to 128 such ranges have arrived.
 fn random_record(random: u64) -> GapRecord {
     let mut record = all_missing(DRAWN_SIZE);
-    let mut left = random / 1024 % 129;
     let mut next = random;
-    while 0 < left {
+    for _ in 0..random / 1024 % 129 {
         next = next_random(next);
         record = mark_random(record, next);
-        left -= 1;
     }
     record
 }
@@ -302,13 +279,11 @@ fn show_pairs(rt: &impl Print) -> io::Result<()> {
         equal: 0,
     };
     let mut random = 1;
-    let mut pairs = 0;
-    while pairs < PAIRS {
+    for _ in 0..PAIRS {
         random = next_random(random);
         tally = add_pair(tally, random_pair(random));
-        pairs += 1;
     }
-    say(rt, "pairs of ranges ", pairs)?;
+    say(rt, "pairs of ranges ", PAIRS)?;
     say(rt, "pairs with no refusal in either order ", tally.accepted)?;
     say(
         rt,

@@ -10,7 +10,7 @@ ghost use Rattle.std.specs.Prelude.{◌≤◌, ◌<◌};
 
 use console::{field_end, read_all, read_hex};
 use merge::merge;
-use output::{WriteAnswer, copy, same};
+use output::{Written, copy, same};
 use save::save;
 use std::fs::File;
 use std::io;
@@ -70,13 +70,7 @@ enum Call {
 }
 
 // Calls with the three files of a case, in the order of its line.
-fn answer_of(
-    call: Call,
-    first: &[u8],
-    second: &[u8],
-    third: &[u8],
-    output: &mut [u8],
-) -> WriteAnswer {
+fn answer_of(call: Call, first: &[u8], second: &[u8], third: &[u8], output: &mut [u8]) -> Written {
     match call {
         Call::Merge => merge(first, second, third, output),
         Call::Save => save(first, second, third, output),
@@ -97,7 +91,10 @@ fn print_answer(
 ) -> io::Result<()> {
     let taken = room_within(room, output.len());
     let answer = answer_of(call, first, second, third, &mut output[..taken]);
-    print!(rt; "{} {}", answer.number, answer.length)?;
+    match answer {
+        Ok(length) => print!(rt; "0 {length}")?,
+        Err(refusal) => print!(rt; "{} 0", refusal.number())?,
+    }
     if is_as_told(output, outcome) {
         println!(rt; " as told")
     } else {

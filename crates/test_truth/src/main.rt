@@ -18,11 +18,10 @@ const ROOM: usize = 32768;
 fn print_truth(rt: &impl Print, words: &[u8], query: &[u8], tags: &[u8]) -> io::Result<()> {
     let truth = truth_of(query, tags);
     rt.write_all(words)?;
-    print!(rt; ": {}", truth.number)?;
-    if truth.holds {
-        println!(rt; " yes")
-    } else {
-        println!(rt; " no")
+    match truth {
+        Ok(true) => println!(rt; ": 0 yes"),
+        Ok(false) => println!(rt; ": 0 no"),
+        Err(rule) => println!(rt; ": {} no", rule.number()),
     }
 }
 

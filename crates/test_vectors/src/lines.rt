@@ -1,6 +1,6 @@
 // Prints the line that the reader gives for each input of the two files.
-use console::{Input, next_input, print_summary};
-use read_any::{Lettered, kind_of_letter, summarize};
+use console::{next_input, print_summary};
+use read_any::{kind_of_letter, summarize};
 use std::fs::File;
 use std::io;
 use std::io::Read;
@@ -9,15 +9,13 @@ use wire::bytes_at;
 
 // Prints the line for the next input of a file: whether there is one.
 fn print_next<R: Read>(rt: &impl Print, file: &mut R, bytes: &mut [u8]) -> io::Result<bool> {
-    let input = next_input(file, bytes)?;
-    let Input::Of(letter, length) = input else {
+    let Some(input) = next_input(file, bytes)? else {
         return Ok(false);
     };
-    let lettered = kind_of_letter(letter);
-    let Lettered::Is(kind) = lettered else {
+    let Some(kind) = kind_of_letter(input.letter) else {
         return Ok(false);
     };
-    print_summary(rt, summarize(kind, bytes_at(bytes, 0, length)))?;
+    print_summary(rt, summarize(kind, bytes_at(bytes, 0, input.length)))?;
     Ok(true)
 }
 

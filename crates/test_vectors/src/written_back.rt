@@ -1,9 +1,9 @@
 // Writes again each packet and file that is read from the two files. Prints for each kind how many were read, and how many of them
 // were written as the same bytes.
-use console::{Input, next_input};
-use output::{WriteAnswer, same};
+use console::next_input;
+use output::{Written, same};
 use packets::{Link, Packet};
-use read_any::{Answer, Kind, Message, read};
+use read_any::{Kind, Message, read};
 use std::fs::File;
 use std::io;
 use std::io::Read;
@@ -20,7 +20,7 @@ struct Tally {
 }
 
 // A packet of a kind that is a link.
-fn write_link(kind: Kind, s: &[u8], p: Packet, out: &mut [u8]) -> WriteAnswer {
+fn write_link(kind: Kind, s: &[u8], p: Packet, out: &mut [u8]) -> Written {
     match kind {
         Kind::ClientLink => write_packet(s, Link::Client, p, out),
         Kind::UdpLink => write_packet(s, Link::Udp, p, out),
@@ -29,7 +29,7 @@ fn write_link(kind: Kind, s: &[u8], p: Packet, out: &mut [u8]) -> WriteAnswer {
 }
 
 // What was read from s as a kind.
-fn write_message(kind: Kind, s: &[u8], m: Message, out: &mut [u8]) -> WriteAnswer {
+fn write_message(kind: Kind, s: &[u8], m: Message, out: &mut [u8]) -> Written {
     match m {
         Message::Packet(p) => write_link(kind, s, p, out),
         Message::KnownMet(k) => write_known_met(s, k, out),
@@ -40,18 +40,17 @@ fn write_message(kind: Kind, s: &[u8], m: Message, out: &mut [u8]) -> WriteAnswe
 
 // Counts the message that is read from the bytes of s, if there is one, and whether it is written as these.
 fn tally_message(tally: Tally, kind: Kind, s: &[u8], out: &mut [u8]) -> Tally {
-    let answer = read(kind, s);
-    let Answer::Accepted(message) = answer else {
+    let Ok(message) = read(kind, s) else {
         return tally;
     };
-    let written = write_message(kind, s, message, out);
     let read = tally.read.wrapping_add(1);
-    let length = written.length;
-    if written.number == 0 && same(bytes_at(out, 0, length), s) {
-        return Tally {
-            read,
-            same: tally.same.wrapping_add(1),
-        };
+    if let Ok(length) = write_message(kind, s, message, out) {
+        if same(bytes_at(out, 0, length), s) {
+            return Tally {
+                read,
+                same: tally.same.wrapping_add(1),
+            };
+        }
     }
     Tally {
         read,
@@ -78,15 +77,14 @@ fn tally_inputs<R: Read>(
 ) -> io::Result<Tally> {
     let mut so_far = tally;
     for _ in 0..u64::MAX {
-        let input = next_input(file, bytes)?;
-        let Input::Of(found, length) = input else {
+        let Some(input) = next_input(file, bytes)? else {
             return Ok(so_far);
         };
         so_far = tally_input(
             so_far,
-            found == letter,
+            input.letter == letter,
             kind,
-            bytes_at(bytes, 0, length),
+            bytes_at(bytes, 0, input.length),
             out,
         );
     }

@@ -63,17 +63,17 @@ fn show(rt: &impl Print, list: &[u8], step: WalkStep, stops: u8) -> io::Result<u
     ensures { IfOk result (λ count. count ≡ stops_after step stops) }
 {
     match step {
-        WalkStep::Tag(tag) => {
+        Ok(Some(tag)) => {
             show_tag(rt, list, tag)?;
             Ok(stops)
         }
-        WalkStep::End => {
+        Ok(None) => {
             write(rt, b"  end\n")?;
             Ok(stops + 1)
         }
-        WalkStep::Refused(n) => {
+        Err(fault) => {
             write(rt, b"  refused ")?;
-            write_number(rt, byte_wide(n))?;
+            write_number(rt, byte_wide(fault.rule.number()))?;
             Ok(stops + 1)
         }
     }

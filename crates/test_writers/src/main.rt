@@ -5,7 +5,7 @@
 
 use bodies::{Body, Form, StatusRequest};
 use met::{HashBlocks, PartE1, PartMet};
-use output::{WriteAnswer, same};
+use output::{Refusal, Written, same};
 use packets::{Link, Packet, opcode};
 use std::io;
 use wire::{Items, bytes_at};
@@ -23,17 +23,21 @@ fn items(at: usize, count: u32) -> Items {
     Items { at, end: at, count }
 }
 
-// Prints an answer; where it is a refusal, also whether a byte of the output, which held 0 before, has changed.
-fn show(rt: &impl Print, words: &str, answer: WriteAnswer, out: &[u8]) -> io::Result<()> {
-    print!(rt;
-        "{words}: answer {}, bytes {}",
-        answer.number, answer.length
-    )?;
+// Prints a refusal, and whether a byte of the output, which held 0 before, has changed.
+fn show_refused(rt: &impl Print, words: &str, refusal: Refusal, out: &[u8]) -> io::Result<()> {
+    print!(rt; "{words}: answer {}, bytes 0", refusal.number())?;
     let before = [0u8; 64];
-    if answer.number != 0 && !same(out, bytes_at(&before, 0, out.len())) {
+    if !same(out, bytes_at(&before, 0, out.len())) {
         print!(rt; ", output changed")?;
     }
     println!(rt)
+}
+
+fn show(rt: &impl Print, words: &str, answer: Written, out: &[u8]) -> io::Result<()> {
+    match answer {
+        Ok(length) => println!(rt; "{words}: answer 0, bytes {length}"),
+        Err(refusal) => show_refused(rt, words, refusal, out),
+    }
 }
 
 // A packet into an output of 64 bytes.

@@ -39,29 +39,29 @@ on-refused-tags (accepted q) (accepted l) e k = no-reply k
 
 -- The truth by the two replies.
 module _ (s t : List ℕ) where
-  pub query-refused : {n : ℕ} → refused_with n ≡ reply (decode lone_query s) → record { number = n; holds = false } ≡ truth s t
+  pub query_refused : {n : ℕ} → refused_with n ≡ reply (decode lone_query s) → record { number = n; holds = false } ≡ truth s t
   unfolding truth
-  query-refused e = on-refused-query (decode lone_query s) (decode lone_tags t) e
+  query_refused e = on-refused-query (decode lone_query s) (decode lone_tags t) e
 
-  pub tags-refused : {q : Query} {n : ℕ} → message q ≡ reply (decode lone_query s) → refused_with n ≡ reply (decode lone_tags t) →
+  pub tags_refused : {q : Query} {n : ℕ} → message q ≡ reply (decode lone_query s) → refused_with n ≡ reply (decode lone_tags t) →
       record { number = n; holds = false } ≡ truth s t
   unfolding truth
-  tags-refused e k = on-refused-tags (decode lone_query s) (decode lone_tags t) e k
+  tags_refused e k = on-refused-tags (decode lone_query s) (decode lone_tags t) e k
 
-  pub tags-accepted : {l : List Tag} → message l ≡ reply (decode lone_tags t) → on_query (decode lone_query s) (accepted l) ≡ truth s t
+  pub tags_accepted : {l : List Tag} → message l ≡ reply (decode lone_tags t) → on_query (decode lone_query s) (accepted l) ≡ truth s t
   unfolding truth
-  tags-accepted k = ap (on_query (decode lone_query s)) (reply-accepted (decode lone_tags t) k)
+  tags_accepted k = ap (on_query (decode lone_query s)) (reply-accepted (decode lone_tags t) k)
 
 -- A list that ends with the bytes is a lone list.
 module _ (t : List ℕ) (some : length t ≡ 0 → ⊥) (few : length t ≤ 65536) (end : length t ≡ offset_after (decode_tags t 0)) {count first : ℕ} (counted : got count first ≡ decode_dword t 0) where
-  pub list-placed : ends (decode_many count decode_tag t first) ≡ got tt (length t)
+  pub list_placed : ends (decode_many count decode_tag t first) ≡ got tt (length t)
   unfolding decode_tags decode_counted
-  list-placed = after-ends (decode_many count decode_tag t first) (rw (← counted) at end) some
+  list_placed = after-ends (decode_many count decode_tag t first) (rw (← counted) at end) some
 
-  pub list-accepted : message (items_of (decode_many count decode_tag t first)) ≡ reply (decode lone_tags t)
+  pub list_accepted : message (items_of (decode_many count decode_tag t first)) ≡ reply (decode lone_tags t)
   unfolding decode decode_tags decode_counted
-  list-accepted =
-      let g = ended-got (decode_many count decode_tag t first) (sym list-placed) in
+  list_accepted =
+      let g = ended-got (decode_many count decode_tag t first) (sym list_placed) in
       rw (le-leb _ 65536 few, ← counted, ← g.1, eq-eqb (length t) (length t) refl) refl
 
 -- The truth by the evaluation of the query, which refuses what the reader of the query refuses.
@@ -86,9 +86,9 @@ module _ (s : List ℕ) (l : List Tag) where
     unfolding decode decode_query
     whole = rw (le-leb _ 65536 few) refl
 
-    pub evaluation-refused : {f : Fault} → refused f ≡ truths l (decode_query_in 24 s 0) →
+    pub evaluation_refused : {f : Fault} → refused f ≡ truths l (decode_query_in 24 s 0) →
         record { number = number f.rule; holds = false } ≡ on_query (decode lone_query s) (accepted l)
-    evaluation-refused e = refused-by (decode_query_in 24 s 0) e ∙ whole
+    evaluation_refused e = refused-by (decode_query_in 24 s 0) e ∙ whole
 
     pub evaluated : {b : Bool} {next : ℕ} → got b next ≡ truths l (decode_query_in 24 s 0) → next ≡ length s →
         record { number = 0; holds = b } ≡ on_query (decode lone_query s) (accepted l)

@@ -1,19 +1,21 @@
 -- The laws of a loop that looks for an item of a list that lies in the bytes, item by item: the first one, or one of the rest.
-use Prim.Native.Nat.{ℕ, suc, ◌-◌, ◌<◌}
+use Prim.Native.Nat.{ℕ, suc, ◌+◌, ◌-◌, ◌<◌, ◌≤◌}
 use mathlib.Core.Path.{◌≡◌, refl, sym, ap, ◌∙◌}
 use mathlib.Core.Bool.{Bool, true, false}
 use mathlib.Core.List.{List, [], ◌∷◌}
 use native.Mathlib.Omega.{arith}
 use Rattle.format.specs.Tables.{pick}
 use Rattle.format.specs.Decoding.{Decoder, Outcome, refused, got, and_then, pure, decode_many, items_of, ends}
+use Rattle.format.specs.Messages.{Tag}
+use Rattle.format.specs.Order.{decode_tag}
 use Rattle.format.specs.Truth.{some}
 use Rattle.format.proofs.Codec.{never}
 use Rattle.wire.proofs.Loops.{ended-got}
 use Rattle.tags.specs.Skips.{Lies}
-use Rattle.truth.specs.TruthAnswers.{on_item}
+use Rattle.truth.specs.TruthAnswers.{TellsOf, on_item}
 
 -- What was decoded and has an end lies there.
-pub ended-lies : {A : Type 0} (o : Outcome A) {end : ℕ} → ends o ≡ got tt end → Lies o
+ended-lies : {A : Type 0} (o : Outcome A) {end : ℕ} → ends o ≡ got tt end → Lies o
 unfolding ends
 ended-lies (refused f) e = absurd (never e)
 ended-lies (got a next) e = tt
@@ -44,20 +46,17 @@ module _ {A : Type 0} (d : Decoder A) (s : List ℕ) where
       let m = rest_of n at e l in
       rw (← g.1) (rw (cons-items s g.0 (decode_many n d s next) m) refl)
 
-  -- Some items are left.
-  module _ (left at : ℕ) (h : 0 < left) (lie : Lies (decode_many left d s at)) where
-    whole : left ≡ suc (left - 1)
-    whole = omega arith
-
-    pub first-lies : Lies (d s at)
-    first-lies = first_of (left - 1) at (rw whole at lie)
+  -- Some items are left: one, and then so many.
+  module _ (left at n : ℕ) (more : left ≡ suc n) (lie : Lies (decode_many left d s at)) where
+    first-lies : Lies (d s at)
+    first-lies = first_of n at (rw more at lie)
 
     module _ {next : ℕ} (e : ends (d s at) ≡ got tt next) where
-      rest-lies : Lies (decode_many (left - 1) d s next)
-      rest-lies = rest_of (left - 1) at e (rw whole at lie)
+      rest-lies : Lies (decode_many n d s next)
+      rest-lies = rest_of n at e (rw more at lie)
 
-      some-step : (p : A → Bool) → false ≡ on_item p (d s at) → some p (items_of (decode_many left d s at)) ≡ some p (items_of (decode_many (left - 1) d s next))
-      some-step p f = ap (λ n. some p (items_of (decode_many n d s at))) whole ∙ some_of (left - 1) at p e (rw whole at lie) ∙ rw (← f) refl
+      some-step : (p : A → Bool) → false ≡ on_item p (d s at) → some p (items_of (decode_many left d s at)) ≡ some p (items_of (decode_many n d s next))
+      some-step p f = ap (λ n. some p (items_of (decode_many n d s at))) more ∙ some_of n at p e (rw more at lie) ∙ rw (← f) refl
 
     some-here : (p : A → Bool) → true ≡ on_item p (d s at) → some p (items_of (decode_many left d s at)) ≡ true
     unfolding ends
@@ -66,25 +65,43 @@ module _ {A : Type 0} (d : Decoder A) (s : List ℕ) where
         go : (o : Outcome A) → o ≡ d s at → some p (items_of (decode_many left d s at)) ≡ true
         go (refused f) r = absurd (rw (← r) at first-lies)
         go (got a next) r =
-            ap (λ n. some p (items_of (decode_many n d s at))) whole ∙ some_of (left - 1) at p {next = next} (rw (← r) refl) (rw whole at lie) ∙ rw (← t) refl
+            ap (λ n. some p (items_of (decode_many n d s at))) more ∙ some_of n at p {next = next} (rw (← r) refl) (rw more at lie) ∙ rw (← t) refl
 
 some-none : {A : Type 0} (d : Decoder A) (s : List ℕ) (left at : ℕ) (p : A → Bool) → left ≡ 0 → some p (items_of (decode_many left d s at)) ≡ false
 some-none d s left at p e = rw e refl
 
--- No item before the offset is such a one: from there on there is one if there was one from the start on.
-abbrev pub Looked : {A : Type 0} → Decoder A → (A → Bool) → List ℕ → (left₀ at₀ left at : ℕ) → Type 0
-Looked d p s left₀ at₀ left at =
-    Lies (decode_many left d s at) × (some p (items_of (decode_many left₀ d s at₀)) ≡ some p (items_of (decode_many left d s at)))
+-- So many tags of the list are before the offset, and the test tells of none of them: there is one from there on if there was one from the
+-- start on.
+pub record Looked (s : List ℕ) (Answers : ℕ → Bool → Type 0) (count start counter at : ℕ) : Type 0 where
+  pub lies : Lies (decode_many (count - counter) decode_tag s at)
+  pub same : (p : Tag → Bool) → TellsOf p s Answers →
+      some p (items_of (decode_many count decode_tag s start)) ≡ some p (items_of (decode_many (count - counter) decode_tag s at))
 
-module _ {A : Type 0} (d : Decoder A) (p : A → Bool) (s : List ℕ) (left₀ at₀ left at : ℕ) (looked : Looked d p s left₀ at₀ left at) where
-  pub look-on : 0 < left → {next : ℕ} → ends (d s at) ≡ got tt next → false ≡ on_item p (d s at) → Looked d p s left₀ at₀ (left - 1) next
-  look-on h e f = (rest-lies d s left at h looked.0 e, looked.1 ∙ some-step d s left at h looked.0 e p f)
+pub look_first : (s : List ℕ) (Answers : ℕ → Bool → Type 0) (count start : ℕ) {end : ℕ} →
+    ends (decode_many count decode_tag s start) ≡ got tt end → Looked s Answers count start 0 start
+look_first s Answers count start placed =
+    let e : count ≡ count - 0 = omega arith in
+    record { lies = ended-lies _ (rw e at placed); same = λ p tells. ap (λ n. some p (items_of (decode_many n decode_tag s start))) e }
 
-  pub look-found : 0 < left → true ≡ on_item p (d s at) → true ≡ some p (items_of (decode_many left₀ d s at₀))
-  look-found h t = sym (looked.1 ∙ some-here d s left at h looked.0 p t)
+module _ {s : List ℕ} {Answers : ℕ → Bool → Type 0} {count start counter at : ℕ} (looked : Looked s Answers count start counter at) where
+  module _ (h : counter < count) where
+    more : count - counter ≡ suc (count - (counter + 1))
+    more = omega arith
 
-  pub look-ended : left ≡ 0 → false ≡ some p (items_of (decode_many left₀ d s at₀))
-  look-ended h = sym (looked.1 ∙ some-none d s left at p h)
+    pub look_lies : Lies (decode_tag s at)
+    look_lies = first-lies decode_tag s _ at _ more looked.lies
+
+    pub look_on : {next : ℕ} {answer : Bool} → ends (decode_tag s at) ≡ got tt next → answer ≡ false → Answers at answer → Looked s Answers count start (counter + 1) next
+    look_on e f answers = record {
+      lies = rest-lies decode_tag s _ at _ more looked.lies e;
+      same = λ p tells. looked.same p tells ∙ some-step decode_tag s _ at _ more looked.lies e p (sym f ∙ tells at _ look_lies answers);
+    }
+
+    pub look_found : {answer : Bool} → answer ≡ true → Answers at answer → (p : Tag → Bool) → TellsOf p s Answers → true ≡ some p (items_of (decode_many count decode_tag s start))
+    look_found t answers p tells = sym (looked.same p tells ∙ some-here decode_tag s _ at _ more looked.lies p (sym t ∙ tells at _ look_lies answers))
+
+  pub look_ended : count ≤ counter → (p : Tag → Bool) → TellsOf p s Answers → false ≡ some p (items_of (decode_many count decode_tag s start))
+  look_ended h p tells = sym (looked.same p tells ∙ some-none decode_tag s (count - counter) at p (omega arith))
 
 pub some-never : {A : Type 0} (p : A → Bool) → ((a : A) → p a ≡ false) → (l : List A) → some p l ≡ false
 some-never p never [] = refl

@@ -6,11 +6,11 @@ use mathlib.Core.List.{List}
 use Rattle.format.specs.Messages as messages
 use Rattle.format.specs.Tables.{pick}
 use Rattle.format.specs.Messages.{Operator, and, or, and_not, Query, Tag}
-use Rattle.format.specs.Decoding.{Outcome, refused, got, and_then, Decoder, pure, ends}
+use Rattle.format.specs.Decoding.{Outcome, refused, got, and_then, Decoder, pure}
 use Rattle.format.specs.Order.{decode_query_in}
 use Rattle.format.specs.Truth.{combine, holds}
 use Rattle.format.proofs.Differ.{differ}
-use Rattle.format.proofs.Codec.{never, same_place}
+use Rattle.tags.specs.Skips.{offset_after}
 use Rattle.query.specs.Nodes.{join, decode_sides}
 use Rattle.truth.specs.TruthAnswers.{settled_by, truths}
 
@@ -40,14 +40,14 @@ module _ (tags : List Tag) (o : Operator) (s : List ℕ) where
   first-side side (refused f) = refl
   first-side side (got q p) = second-side q (side s p)
 
-  pub truth-join : (d at : ℕ) →
+  pub truth_join : (d at : ℕ) →
       truths tags (decode_sides (decode_query_in d) (join o) s at)
       ≡ and_then s (truths tags (decode_query_in d s at)) (λ x s at. and_then s (truths tags (decode_query_in d s at)) (λ y. pure (combine o x y)))
-  truth-join d at = first-side (decode_query_in d) (decode_query_in d s at)
+  truth_join d at = first-side (decode_query_in d) (decode_query_in d s at)
 
   -- The right side is decoded, and its truth does not matter.
-  pub truth-settled : (b : Outcome Query) (x : Bool) {end : ℕ} → true ≡ settled_by o x → ends b ≡ got tt end →
+  pub truth_settled : (b : Outcome Query) (x : Bool) {end : ℕ} → true ≡ settled_by o x → end ≡ offset_after b → (end ≡ 0 → ⊥) →
       got x end ≡ and_then s (truths tags b) (λ y. pure (combine o x y))
-  unfolding truths ends
-  truth-settled (refused f) x is e = absurd (never e)
-  truth-settled (got r p) x is e = rw (← same_place e) (ap (λ x. got x p) (settled o x (holds r tags) is))
+  unfolding truths
+  truth_settled (refused f) x is e other = absurd (other e)
+  truth_settled (got r p) x is e other = rw e (ap (λ x. got x p) (settled o x (holds r tags) is))

@@ -1,15 +1,16 @@
 -- What each answer of the code stands for.
-use Rattle.std.specs.Prelude.{ℕ, ◌+◌, ◌*◌, Bool, true, false, List, [], ◌∷◌, get_or, eqb}
+use Rattle.std.specs.Prelude.{ℕ, ◌+◌, ◌*◌, ◌≡◌, Bool, true, false, List, [], ◌∷◌, get_or, eqb}
 use Rattle.format.specs.Tables.{pick, same}
 use Rattle.format.specs.Messages.{Query, Tag, TagType, TagValue, hash_type, string_type, dword_type, float_type, Operator, and, or, and_not}
 use Rattle.format.specs.Layout.{type_code}
-use Rattle.format.specs.Decoding.{Outcome, refused, got}
+use Rattle.format.specs.Decoding.{Outcome, refused, got, number}
+use Rattle.format.specs.Order.{decode_tag}
 use Rattle.format.specs.Truth.{occurs, string_tag, dword_tag, within, holds, TruthReply}
-use Rattle.wire.specs.WireAnswers.{fault_meaning, spec_no_fault}
-use Rattle.wire.specs.declared.Fault.{Fault}
 use Rattle.query.specs.Nodes.{Node, join, keyword, field, limit}
-use Rattle.truth.specs.declared.TruthStep.{TruthStep}
-use Rattle.truth.specs.declared.Truth.{Truth}
+use Rattle.std.specs.Prelude.{Result, Ok, Err}
+use Rattle.wire.specs.declared.Rule.{Rule}
+use Rattle.wire.specs.WireAnswers.{Step, rule_meaning, step_meaning}
+use Rattle.tags.specs.Skips.{Lies}
 
 -- The tag is one that the leaf looks for: a leaf holds when this is so of some tag of the list.
 unfoldable pub tag_meets : Node → Tag → Bool
@@ -63,14 +64,14 @@ unfoldable pub truths : List Tag → Outcome Query → Outcome Bool
 truths tags (refused f) = refused f
 truths tags (got q next) = got (holds q tags) next
 
-abbrev pub truth_step_meaning : TruthStep → Outcome Bool
-truth_step_meaning (TruthStep.Got b c) = got b c.at
-truth_step_meaning (TruthStep.Refused f) = refused (fault_meaning f)
+abbrev pub truth_step_meaning : Step Bool → Outcome Bool
+truth_step_meaning = step_meaning (λ b. b)
 
-abbrev pub truth_meaning : Truth → TruthReply
-truth_meaning t = record { number = t.number; holds = t.holds }
+-- A refusal has a truth of no.
+abbrev pub truth_meaning : Result Bool Rule → TruthReply
+truth_meaning (Ok holds) = record { number = 0; holds = holds }
+truth_meaning (Err rule) = record { number = number (rule_meaning rule); holds = false }
 
--- What the method `fault` propagates.
-abbrev pub truth_fault : TruthStep → Fault
-truth_fault (TruthStep.Got b c) = spec_no_fault
-truth_fault (TruthStep.Refused f) = f
+-- What a test answers at the offset of a tag is whether the tag is one that it looks for.
+abbrev pub TellsOf : (Tag → Bool) → List ℕ → (ℕ → Bool → Type 0) → Type 0
+TellsOf p s Answers = (at : ℕ) (answer : Bool) → Lies (decode_tag s at) → Answers at answer → answer ≡ on_item p (decode_tag s at)

@@ -10,7 +10,8 @@
 
 #![tactic(auto)]
 
-ghost use Rattle.std.specs.Prelude.{◌≡◌, get_or};
+ghost use Rattle.std.specs.Prelude.{◌≡◌, ℕ, Bool, get_or};
+ghost use Rattle.format.specs.Messages as messages;
 ghost use Rattle.format.specs.Messages.{lone_query};
 ghost use Rattle.format.specs.Decoding.{accepted};
 ghost use Rattle.format.specs.Order.{decode_tag, decode_query_in};
@@ -22,16 +23,14 @@ ghost use Rattle.tags.specs.Skips.{Lies};
 ghost use Rattle.tags.specs.TagAnswers.{tags_in};
 ghost use Rattle.query.specs.Nodes.{keyword, field, limit};
 ghost use Rattle.query.specs.QueryAnswers.{operator_of, bound_of, node_in};
-ghost use Rattle.truth.specs.TruthAnswers.{is_of, number_of, on_item, settled_by, tag_meets, text_of, value_offset};
-ghost use Rattle.truth.specs.TruthAnswers.{truths, truth_step_meaning, truth_meaning, truth_fault};
+ghost use Rattle.truth.specs.TruthAnswers.{is_of, number_of, on_item, settled_by, tag_meets, text_of, value_offset, TellsOf};
+ghost use Rattle.truth.specs.TruthAnswers.{truths, truth_step_meaning, truth_meaning};
 
 use find::contains;
 use output::same;
-use query::{Bound, Node, NodeStep, Operator, QueryAnswer, query_end, read_lone_query, read_node};
-use tags::{TagListAnswer, read_tag_list, tag_list_end, whole_tag_end};
-use wire::{
-    Cursor, DwordStep, Fault, Items, PACKET_CEILING, Rule, bytes_at, no_fault, number, pair,
-};
+use query::{Bound, Node, Operator, query_end, read_lone_query, read_node};
+use tags::{read_tag_list, tag_list_end, whole_tag_end};
+use wire::{Cursor, Fault, Items, PACKET_CEILING, Rule, Step, bytes_at, pair};
 
 // Leaves look for tags of two types. These are their codes.
 const TEXT: u8 = 2;
@@ -40,25 +39,6 @@ const DWORD: u8 = 3;
 
 const DEPTH_LIMIT: usize = 24;
 
-// The truth of a query, and the cursor after the query.
-#[derive(Clone, Copy)]
-enum TruthStep {
-    Got(bool, Cursor),
-    Refused(Fault),
-}
-
-impl TruthStep {
-    // The fault of a refusal.
-    fn fault(self) -> Fault
-        ensures { result ≡ truth_fault self }
-    {
-        match self {
-            TruthStep::Got(_, _) => no_fault(),
-            TruthStep::Refused(f) => f,
-        }
-    }
-}
-
 // Whether s begins with the bytes t.
 fn starts_with(s: &[u8], t: &[u8]) -> bool
     ensures { result ≡ prefix t.now s.now }
@@ -66,11 +46,8 @@ fn starts_with(s: &[u8], t: &[u8]) -> bool
     if s.len() < t.len() {
         return false;
     }
-    let mut i = 0;
-    while i < t.len() {
-        if t[i] == s[i] {
-            i += 1;
-        } else {
+    for i in 0..t.len() {
+        if t[i] != s[i] {
             return false;
         }
     }
@@ -141,16 +118,15 @@ fn number_at(tags: &[u8], at: usize) -> u32
     let value = Cursor {
         at: value_at(tags, at),
     };
-    let step = value.dword(tags);
-    let DwordStep::Got(number, _) = step else {
+    let Ok((number, _)) = value.dword(tags) else {
         return 0;
     };
     number
 }
 
 // Whether the tag at an offset is one that a leaf looks for, and whether some tag of the list is: a keyword and a field look for a String
-// tag, a limit for a DWORD tag. Most tags are of another type or name: their values are not read. Each kind of leaf has a loop of its own, so that
-// what it looks for is known in the loop.
+// tag, a limit for a DWORD tag. Most tags are of another type or name: their values are not read. The loop is compiled for each kind of
+// leaf, so that what it looks for is known in it.
 
 fn keyword_at(tags: &[u8], at: usize, text: &[u8]) -> bool
     requires { Lies (decode_tag tags.now at) }
@@ -158,22 +134,6 @@ fn keyword_at(tags: &[u8], at: usize, text: &[u8]) -> bool
 {
     if is_candidate(tags, at, TEXT, b"\x01") {
         return contains(text_at(tags, at), text);
-    }
-    false
-}
-
-fn keyword_holds(tags: &[u8], list: Items, text: &[u8]) -> bool
-    requires { ItemsPlaced decode_tag tags.now list }
-    ensures { result ≡ some (tag_meets (keyword text.now)) (tags_in tags.now list) }
-{
-    let mut left = list.count;
-    let mut at = list.at;
-    while 0 < left {
-        if keyword_at(tags, at, text) {
-            return true;
-        }
-        at = whole_tag_end(tags, at);
-        left -= 1;
     }
     false
 }
@@ -188,22 +148,6 @@ fn field_at(tags: &[u8], at: usize, text: &[u8], name: &[u8]) -> bool
     false
 }
 
-fn field_holds(tags: &[u8], list: Items, text: &[u8], name: &[u8]) -> bool
-    requires { ItemsPlaced decode_tag tags.now list }
-    ensures { result ≡ some (tag_meets (field text.now name.now)) (tags_in tags.now list) }
-{
-    let mut left = list.count;
-    let mut at = list.at;
-    while 0 < left {
-        if field_at(tags, at, text, name) {
-            return true;
-        }
-        at = whole_tag_end(tags, at);
-        left -= 1;
-    }
-    false
-}
-
 fn limit_at(tags: &[u8], at: usize, threshold: u32, bound: Bound, name: &[u8]) -> bool
     requires { Lies (decode_tag tags.now at) }
     ensures { result ≡ on_item (tag_meets (limit threshold (bound_of bound) name.now)) (decode_tag tags.now at) }
@@ -214,18 +158,19 @@ fn limit_at(tags: &[u8], at: usize, threshold: u32, bound: Bound, name: &[u8]) -
     false
 }
 
-fn limit_holds(tags: &[u8], list: Items, threshold: u32, bound: Bound, name: &[u8]) -> bool
-    requires { ItemsPlaced decode_tag tags.now list }
-    ensures { result ≡ some (tag_meets (limit threshold (bound_of bound) name.now)) (tags_in tags.now list) }
+// Whether some tag of the list meets what a leaf looks for.
+#[tactic(auto, using(crate::proofs::Found::look_lies, crate::proofs::Found::look_found, crate::proofs::Found::look_ended))]
+fn some_tag<F: Fn(usize) -> bool>(tags: &[u8], list: Items, meets: F) -> bool
+    requires placed { ItemsPlaced decode_tag tags.now list }
+    requires tells { (at : ℕ) → Lies (decode_tag tags.now at) → F.pre meets at }
+    ensures { (p : messages.Tag → Bool) → TellsOf p tags.now (F.post meets) → result ≡ some p (tags_in tags.now list) }
 {
-    let mut left = list.count;
     let mut at = list.at;
-    while 0 < left {
-        if limit_at(tags, at, threshold, bound, name) {
+    for _ in 0..list.count {
+        if meets(at) {
             return true;
         }
         at = whole_tag_end(tags, at);
-        left -= 1;
     }
     false
 }
@@ -237,20 +182,19 @@ fn leaf_holds(query: &[u8], leaf: Node, tags: &[u8], list: Items) -> bool
 {
     match leaf {
         Node::Join(_) => false,
-        Node::Keyword(text) => keyword_holds(tags, list, bytes_at(query, text.at, text.len)),
-        Node::Field(text, name) => field_holds(
-            tags,
-            list,
-            bytes_at(query, text.at, text.len),
-            bytes_at(query, name.at, name.len),
-        ),
-        Node::Limit(threshold, bound, name) => limit_holds(
-            tags,
-            list,
-            threshold,
-            bound,
-            bytes_at(query, name.at, name.len),
-        ),
+        Node::Keyword(text) => {
+            let text = bytes_at(query, text.at, text.len);
+            some_tag(tags, list, |at| keyword_at(tags, at, text))
+        }
+        Node::Field(text, name) => {
+            let text = bytes_at(query, text.at, text.len);
+            let name = bytes_at(query, name.at, name.len);
+            some_tag(tags, list, |at| field_at(tags, at, text, name))
+        }
+        Node::Limit(threshold, bound, name) => {
+            let name = bytes_at(query, name.at, name.len);
+            some_tag(tags, list, |at| limit_at(tags, at, threshold, bound, name))
+        }
     }
 }
 
@@ -277,107 +221,72 @@ fn combine(operator: Operator, first: bool, second: bool) -> bool
 
 // The truth of the query at the cursor, of at most `left` depth, on a tag list that lies in `tags`. A right side that cannot change the
 // truth is skipped, and evaluated for its fault alone.
-fn evaluate(query: &[u8], c: Cursor, left: usize, tags: &[u8], list: Items) -> TruthStep
+fn evaluate(query: &[u8], c: Cursor, left: usize, tags: &[u8], list: Items) -> Step<bool>
     requires { ItemsPlaced decode_tag tags.now list }
     ensures { truth_step_meaning result ≡ truths (tags_in tags.now list) (decode_query_in left query.now c.at) }
 {
     if left == 0 {
-        return TruthStep::Refused(Fault {
+        return Err(Fault {
             rule: Rule::DepthCeiling,
             at: c.at,
             size: 0,
         });
     }
-    let node_step = read_node(query, c);
-    let NodeStep::Got(node, next) = node_step else {
-        return TruthStep::Refused(node_step.fault());
-    };
+    let (node, next) = read_node(query, c)?;
     match node {
         Node::Join(operator) => {
             let side = left - 1;
-            let first_step = evaluate(query, next, side, tags, list);
-            let TruthStep::Got(first, middle) = first_step else {
-                return TruthStep::Refused(first_step.fault());
-            };
+            let (first, middle) = evaluate(query, next, side, tags, list)?;
             if is_settled(operator, first) {
                 let end = query_end(query, middle.at, side);
                 if end != 0 {
-                    return TruthStep::Got(first, Cursor { at: end });
+                    return Ok((first, Cursor { at: end }));
                 }
             }
-            let second_step = evaluate(query, middle, side, tags, list);
-            let TruthStep::Got(second, end) = second_step else {
-                return TruthStep::Refused(second_step.fault());
-            };
-            TruthStep::Got(combine(operator, first, second), end)
+            let (second, end) = evaluate(query, middle, side, tags, list)?;
+            Ok((combine(operator, first, second), end))
         }
-        Node::Keyword(_) => TruthStep::Got(leaf_holds(query, node, tags, list), next),
-        Node::Field(_, _) => TruthStep::Got(leaf_holds(query, node, tags, list), next),
-        Node::Limit(_, _, _) => TruthStep::Got(leaf_holds(query, node, tags, list), next),
+        Node::Keyword(_) => Ok((leaf_holds(query, node, tags, list), next)),
+        Node::Field(_, _) => Ok((leaf_holds(query, node, tags, list), next)),
+        Node::Limit(_, _, _) => Ok((leaf_holds(query, node, tags, list), next)),
     }
 }
 
-// The number that a caller gets, and the truth: a refusal has a truth of no.
-#[derive(Clone, Copy)]
-pub struct Truth {
-    pub number: u8,
-    pub holds: bool,
-}
-
 // The truth of a lone query on a list that was read. The query is read as it is evaluated.
-fn truth_on(query: &[u8], tags: &[u8], list: Items) -> Truth
+#[tactic(auto, using(crate::proofs::Answers::bytes_left, crate::proofs::Answers::evaluated), unfolding(format::specs::MetOrder::decode))]
+fn truth_on(query: &[u8], tags: &[u8], list: Items) -> Result<bool, Rule>
     requires { ItemsPlaced decode_tag tags.now list }
     ensures { truth_meaning result ≡ on_query (decode lone_query query.now) (accepted (tags_in tags.now list)) }
 {
     if PACKET_CEILING < query.len() {
-        return Truth {
-            number: number(Rule::BytesCeiling),
-            holds: false,
-        };
+        return Err(Rule::BytesCeiling);
     }
-    let step = evaluate(query, Cursor { at: 0 }, DEPTH_LIMIT, tags, list);
-    let TruthStep::Got(holds, end) = step else {
-        return Truth {
-            number: step.fault().number(),
-            holds: false,
-        };
-    };
+    let (holds, end) = evaluate(query, Cursor { at: 0 }, DEPTH_LIMIT, tags, list)?;
     if end.at == query.len() {
-        return Truth { number: 0, holds };
+        return Ok(holds);
     }
-    Truth {
-        number: number(Rule::Rest),
-        holds: false,
-    }
+    Err(Rule::Rest)
 }
 
 // The truth of a lone query on a lone tag list, by the readers' answers. The list is read first, since the query's leaves look into it, but a
 // refusal of the query comes before one of the list.
-fn truth_by_readers(query: &[u8], tags: &[u8]) -> Truth
+#[tactic(auto, using(crate::proofs::Answers::query_refused, crate::proofs::Answers::tags_accepted, crate::proofs::Answers::tags_refused))]
+fn truth_by_readers(query: &[u8], tags: &[u8]) -> Result<bool, Rule>
     ensures { truth_meaning result ≡ format.truth query.now tags.now }
 {
-    let list_answer = read_tag_list(tags);
-    match list_answer {
-        TagListAnswer::Accepted(list) => truth_on(query, tags, list),
-        TagListAnswer::Refused(list_number) => {
-            let query_answer = read_lone_query(query);
-            if let QueryAnswer::Refused(number) = query_answer {
-                return Truth {
-                    number,
-                    holds: false,
-                };
-            }
-            Truth {
-                number: list_number,
-                holds: false,
-            }
+    match read_tag_list(tags) {
+        Ok(list) => truth_on(query, tags, list),
+        Err(rule) => {
+            read_lone_query(query)?;
+            Err(rule)
         }
     }
 }
 
-// The truth of a lone query on a lone tag list: each is at most 65,536 bytes, and nothing else. The list is skipped, and its reader is asked
-// where it does not end with the bytes.
-pub fn truth_of(query: &[u8], tags: &[u8]) -> Truth
+// The truth of a lone query on a lone tag list, or the rule that one of them breaks: each is at most 65,536 bytes, and nothing else. The
+// list is skipped, and its reader is asked where it does not end with the bytes.
+#[tactic(auto, using(crate::proofs::Answers::list_placed, crate::proofs::Answers::list_accepted, crate::proofs::Answers::tags_accepted))]
+pub fn truth_of(query: &[u8], tags: &[u8]) -> Result<bool, Rule>
     ensures { truth_meaning result ≡ format.truth query.now tags.now }
 {
     let size = tags.len();
@@ -388,8 +297,7 @@ pub fn truth_of(query: &[u8], tags: &[u8]) -> Truth
         return truth_by_readers(query, tags);
     }
     let start = Cursor { at: 0 };
-    let count_step = start.dword(tags);
-    let DwordStep::Got(count, first) = count_step else {
+    let Ok((count, first)) = start.dword(tags) else {
         return truth_by_readers(query, tags);
     };
     let list = Items {

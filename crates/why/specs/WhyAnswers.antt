@@ -1,13 +1,13 @@
 -- What the answer of `why` stands for, and the numbers that a caller from C gets for it.
+use Rattle.std.specs.Prelude as prelude
 use Rattle.std.specs.Prelude.{ℕ, List, [], ◌∷◌}
 use Rattle.std.proofs.Math.Option.{Option, none, some}
 use Rattle.format.specs.Decoding as decoding
-use Rattle.wire.specs.WireAnswers.{fault_meaning}
-use Rattle.why.specs.declared.Reason.{Reason}
+use Rattle.wire.specs.WireAnswers.{fault_meaning, option_meaning}
+use Rattle.wire.specs.declared.Fault.{Fault}
 
-abbrev pub reason_meaning : Reason → Option decoding.Fault
-reason_meaning Reason.Accepted = none
-reason_meaning (Reason.Refused f) = some (fault_meaning f)
+abbrev pub reason_meaning : prelude.Option Fault → Option decoding.Fault
+reason_meaning = option_meaning fault_meaning
 
 -- The rules by number: ED2K_RULE_.. in ed2k.h. Rules to come have the numbers after these.
 abbrev pub rule_code : decoding.Rule → ℕ

@@ -8,25 +8,14 @@ ghost use Rattle.wire.specs.WireAnswers.{rule_meaning};
 ghost use Rattle.packets.specs.PacketAnswers.{link_kind};
 ghost use Rattle.why.specs.WhyAnswers.{reason_meaning, spec_reason_numbers, rule_code};
 
-use packets::{Link, PacketStep, packet_step};
-use wire::{Fault, Rule, number};
+use packets::{Link, packet_step};
+use wire::{Fault, Rule};
 
-// The fault that decides, if there is one.
-#[derive(Clone, Copy)]
-pub enum Reason {
-    Accepted,
-    Refused(Fault),
-}
-
-// What `packets::read_packet` answers to the same bytes, with the reason.
-pub fn why(s: &[u8], link: Link) -> Reason
+// The fault that decides what `packets::read_packet` answers to the same bytes, if there is one.
+pub fn why(s: &[u8], link: Link) -> Option<Fault>
     ensures { Explains (link_kind link) s.now (reason_meaning result) }
 {
-    let step = packet_step(s, link);
-    match step {
-        PacketStep::Got(_) => Reason::Accepted,
-        PacketStep::Refused(fault) => Reason::Refused(fault),
-    }
+    packet_step(s, link).err()
 }
 
 // The number that a rule has for callers from C.
@@ -52,15 +41,15 @@ fn code_of(rule: Rule) -> u8
 }
 
 // Number, rule, offset and size of a reason, as a caller from C gets them.
-pub fn reason_numbers(reason: Reason) -> [u64; 4]
+pub fn reason_numbers(reason: Option<Fault>) -> [u64; 4]
     ensures { result ≡ spec_reason_numbers (reason_meaning reason) }
 {
     match reason {
-        Reason::Accepted => [0, 0, 0, 0],
-        Reason::Refused(fault) => {
+        None => [0, 0, 0, 0],
+        Some(fault) => {
             let rule = fault.rule;
             [
-                number(rule) as u64,
+                rule.number() as u64,
                 code_of(rule) as u64,
                 fault.at as u64,
                 fault.size as u64,

@@ -10,8 +10,9 @@ use Rattle.format.specs.Decoding.{Decoder, bytes_at, decode_many, got}
 use Rattle.format.specs.Order.{decode_counted, decode_hash}
 use Rattle.format.proofs.Codec.{Codec, anywhere, codec-many}
 use Rattle.format.proofs.There.{run_length, run-was}
-use Rattle.wire.specs.declared.ItemsStep.{ItemsStep}
-use Rattle.wire.specs.WireAnswers.{HashInside, ItemsStepInside, ItemsStepPlaced, hash_at, items_meaning}
+use Rattle.std.specs.Prelude.{Ok, Err}
+use Rattle.wire.specs.declared.Items.{Items}
+use Rattle.wire.specs.WireAnswers.{HashInside, ItemsStepInside, ItemsStepPlaced, Step, hash_at, items_meaning}
 use Rattle.wire.proofs.Replies.{slice-bytes}
 
 -- A hash that was decoded has 16 bytes, and only a place wholly inside has as many.
@@ -23,13 +24,13 @@ hash-inside s at from e =
 
 -- A list that begins inside and ends at the cursor.
 module _ {A : Type 0} {d : Decoder A} {encode : A → List ℕ} {Valid : A → Type 0} (C : Codec anywhere d encode Valid) (s : List ℕ) (known : (i : ℕ) → Fits w8 (get_or s i 0)) where
-  pub items-inside : (r : ItemsStep) (n first : ℕ) → first ≤ length s → items_meaning d s r ≡ decode_many n d s first → ItemsStepPlaced d s r → ItemsStepInside d s r
-  items-inside (ItemsStep.Got l c) n first h read p =
+  pub items-inside : (r : Step Items) (n first : ℕ) → first ≤ length s → items_meaning d s r ≡ decode_many n d s first → ItemsStepPlaced d s r → ItemsStepInside d s r
+  items-inside (Ok (l, c)) n first h read p =
       (p.0, omega (arith, p.1, ((codec-many {p = anywhere} n C).sound s (slice-bytes s known) first h _ _ (sym read) tt).inside))
-  items-inside (ItemsStep.Refused f) n first h read p = tt
+  items-inside (Err f) n first h read p = tt
 
   -- A count of k bytes and the list after it: the two clauses of its reader's contract.
-  pub counted-inside : (count : Decoder ℕ) (at k : ℕ) {n first : ℕ} → (count s at ≡ got n first → (at + k ≤ length s) × (first ≡ at + k)) → got n first ≡ count s at → (r : ItemsStep) →
+  pub counted-inside : (count : Decoder ℕ) (at k : ℕ) {n first : ℕ} → (count s at ≡ got n first → (at + k ≤ length s) × (first ≡ at + k)) → got n first ≡ count s at → (r : Step Items) →
       (items_meaning d s r ≡ decode_many n d s first) × ItemsStepPlaced d s r → (items_meaning d s r ≡ decode_counted count d s at) × ItemsStepInside d s r
   unfolding decode_counted
   counted-inside count at k {n} {first} size read r list =

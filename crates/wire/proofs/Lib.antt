@@ -2,3 +2,4 @@ pub mod Parts
 pub mod Inside
 pub mod Replies
 pub mod Loops
+pub mod Steps

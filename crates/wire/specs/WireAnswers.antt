@@ -1,18 +1,15 @@
 -- What each answer of the code stands for, as an outcome of the format's decoding.
-use Rattle.std.specs.Prelude.{ℕ, ◌+◌, ◌≤◌, ◌≡◌, List, length}
+use Rattle.std.specs.Prelude.{ℕ, ◌+◌, ◌<◌, ◌≤◌, ◌≡◌, List, length, Result, Ok, Err}
+use Rattle.std.specs.Prelude as prelude
+use Rattle.std.specs.Prelude.{Some, None}
+use Rattle.std.proofs.Math.Option.{Option, none, some}
 use Rattle.format.specs.Decoding as decoding
-use Rattle.format.specs.Decoding.{Outcome, refused, got, bytes_at, Decoder, decode_many, items_of, ends}
+use Rattle.format.specs.Decoding.{Outcome, refused, got, bytes_at, Decoder, decode_many, items_of, ends, Reply, refused_with, message}
 use Rattle.wire.specs.declared.Rule.{Rule}
 use Rattle.wire.specs.declared.Fault.{Fault}
+use Rattle.wire.specs.declared.Cursor.{Cursor}
 use Rattle.wire.specs.declared.Place.{Place}
 use Rattle.wire.specs.declared.Items.{Items}
-use Rattle.wire.specs.declared.ByteStep.{ByteStep}
-use Rattle.wire.specs.declared.WordStep.{WordStep}
-use Rattle.wire.specs.declared.DwordStep.{DwordStep}
-use Rattle.wire.specs.declared.HashStep.{HashStep}
-use Rattle.wire.specs.declared.PlaceStep.{PlaceStep}
-use Rattle.wire.specs.declared.ItemsStep.{ItemsStep}
-use Rattle.wire.specs.declared.DoneStep.{DoneStep}
 
 abbrev pub rule_meaning : Rule → decoding.Rule
 rule_meaning Rule.Short = decoding.short
@@ -33,32 +30,35 @@ rule_meaning Rule.SizeTag = decoding.size_tag
 abbrev pub fault_meaning : Fault → decoding.Fault
 fault_meaning f = decoding.fault (rule_meaning f.rule) f.at f.size
 
-abbrev pub byte_meaning : ByteStep → Outcome ℕ
-byte_meaning (ByteStep.Got v c) = got v c.at
-byte_meaning (ByteStep.Refused f) = refused (fault_meaning f)
+-- A step's value and the cursor after it, or its fault: `Step` of the code, since antt has no name for an alias.
+abbrev pub Step : Type 0 → Type 0
+Step A = Result (A × Cursor) Fault
 
-abbrev pub word_meaning : WordStep → Outcome ℕ
-word_meaning (WordStep.Got v c) = got v c.at
-word_meaning (WordStep.Refused f) = refused (fault_meaning f)
+-- What a step read, under the meaning of its value, and the offset after it; or its fault.
+abbrev pub step_meaning : {A B : Type 0} → (A → B) → Step A → Outcome B
+step_meaning mean (Ok (v, c)) = got (mean v) c.at
+step_meaning mean (Err f) = refused (fault_meaning f)
 
-abbrev pub dword_meaning : DwordStep → Outcome ℕ
-dword_meaning (DwordStep.Got v c) = got v c.at
-dword_meaning (DwordStep.Refused f) = refused (fault_meaning f)
+-- What is said of the value that a step read, if it read one.
+abbrev pub OfStep : {A : Type 0} → (A → Type 0) → Step A → Type 0
+OfStep P (Ok (v, c)) = P v
+OfStep P (Err f) = Unit {0}
+
+abbrev pub number_meaning : Step ℕ → Outcome ℕ
+number_meaning = step_meaning (λ n. n)
 
 -- A place stands for the bytes of the input that lie there.
 abbrev pub hash_at : List ℕ → ℕ → List ℕ
 hash_at s at = bytes_at s at 16
 
-abbrev pub hash_meaning : List ℕ → HashStep → Outcome (List ℕ)
-hash_meaning s (HashStep.Got at c) = got (hash_at s at) c.at
-hash_meaning s (HashStep.Refused f) = refused (fault_meaning f)
+abbrev pub hash_meaning : List ℕ → Step ℕ → Outcome (List ℕ)
+hash_meaning s = step_meaning (hash_at s)
 
 abbrev pub place_bytes : List ℕ → Place → List ℕ
 place_bytes s p = bytes_at s p.at p.len
 
-abbrev pub place_meaning : List ℕ → PlaceStep → Outcome (List ℕ)
-place_meaning s (PlaceStep.Got p c) = got (place_bytes s p) c.at
-place_meaning s (PlaceStep.Refused f) = refused (fault_meaning f)
+abbrev pub place_meaning : List ℕ → Step Place → Outcome (List ℕ)
+place_meaning s = step_meaning (place_bytes s)
 
 -- Since bytes past the end are left out of what a place stands for, a place with a made-up length would pass. So contracts also say that it
 -- lies wholly inside the bytes: no byte that it counts is missing, and an empty one is no further on than their end.
@@ -71,9 +71,8 @@ HashInside s at = Inside s at 16
 abbrev pub PlaceInside : List ℕ → Place → Type 0
 PlaceInside s p = Inside s p.at p.len
 
-abbrev pub PlaceStepInside : List ℕ → PlaceStep → Type 0
-PlaceStepInside s (PlaceStep.Got p c) = PlaceInside s p
-PlaceStepInside s (PlaceStep.Refused f) = Unit {0}
+abbrev pub PlaceStepInside : List ℕ → Step Place → Type 0
+PlaceStepInside s = OfStep (PlaceInside s)
 
 -- The place of a list stands for the items that a decoder finds there. Since a place with no such items would then pass for the
 -- empty list, contracts also say that the items lie there, up to the list's end.
@@ -83,54 +82,41 @@ items_in d s l = items_of (decode_many l.count d s l.at)
 abbrev pub ItemsPlaced : {A : Type 0} → Decoder A → List ℕ → Items → Type 0
 ItemsPlaced d s l = ends (decode_many l.count d s l.at) ≡ got tt l.end
 
-abbrev pub items_meaning : {A : Type 0} → Decoder A → List ℕ → ItemsStep → Outcome (List A)
-items_meaning d s (ItemsStep.Got l c) = got (items_in d s l) c.at
-items_meaning d s (ItemsStep.Refused f) = refused (fault_meaning f)
+abbrev pub items_meaning : {A : Type 0} → Decoder A → List ℕ → Step Items → Outcome (List A)
+items_meaning d s = step_meaning (items_in d s)
 
-abbrev pub ItemsStepPlaced : {A : Type 0} → Decoder A → List ℕ → ItemsStep → Type 0
-ItemsStepPlaced d s (ItemsStep.Got l c) = ItemsPlaced d s l × (l.end ≡ c.at)
-ItemsStepPlaced d s (ItemsStep.Refused f) = Unit {0}
+abbrev pub ItemsStepPlaced : {A : Type 0} → Decoder A → List ℕ → Step Items → Type 0
+ItemsStepPlaced d s (Ok (l, c)) = ItemsPlaced d s l × (l.end ≡ c.at)
+ItemsStepPlaced d s (Err f) = Unit {0}
 
 -- The list lies wholly inside the bytes; so does the place of an empty one.
 abbrev pub ItemsInside : {A : Type 0} → Decoder A → List ℕ → Items → Type 0
 ItemsInside d s l = ItemsPlaced d s l × (l.end ≤ length s)
 
-abbrev pub ItemsStepInside : {A : Type 0} → Decoder A → List ℕ → ItemsStep → Type 0
-ItemsStepInside d s (ItemsStep.Got l c) = ItemsInside d s l
-ItemsStepInside d s (ItemsStep.Refused f) = Unit {0}
+abbrev pub ItemsStepInside : {A : Type 0} → Decoder A → List ℕ → Step Items → Type 0
+ItemsStepInside d s = OfStep (ItemsInside d s)
 
-abbrev pub done_meaning : DoneStep → Outcome (Unit {0})
-done_meaning (DoneStep.Got c) = got tt c.at
-done_meaning (DoneStep.Refused f) = refused (fault_meaning f)
+-- A step that has no value: what was read is known.
+abbrev pub done_meaning : Result Cursor Fault → Outcome (Unit {0})
+done_meaning (Ok c) = got tt c.at
+done_meaning (Err f) = refused (fault_meaning f)
 
--- What the methods `fault` propagate. Nothing asks for the fault of a step that is no refusal.
-abbrev pub spec_no_fault : Fault
-spec_no_fault = record { rule = Rule.Short; at = 0; size = 0 }
+-- What a caller gets of a whole input: the value, or the rule that is broken.
+abbrev pub reply_meaning : {A B : Type 0} → (A → B) → Result A Rule → Reply B
+reply_meaning mean (Ok a) = message (mean a)
+reply_meaning mean (Err rule) = refused_with (decoding.number (rule_meaning rule))
 
-abbrev pub byte_fault : ByteStep → Fault
-byte_fault (ByteStep.Got v c) = spec_no_fault
-byte_fault (ByteStep.Refused f) = f
+-- What is said of the value of a whole input, if it is accepted.
+abbrev pub OfReply : {A : Type 0} → (A → Type 0) → Result A Rule → Type 0
+OfReply P (Ok a) = P a
+OfReply P (Err rule) = Unit {0}
 
-abbrev pub word_fault : WordStep → Fault
-word_fault (WordStep.Got v c) = spec_no_fault
-word_fault (WordStep.Refused f) = f
+-- The code's Option as the format's.
+abbrev pub option_meaning : {A B : Type 0} → (A → B) → prelude.Option A → Option B
+option_meaning mean (Some a) = some (mean a)
+option_meaning mean None = none
 
-abbrev pub dword_fault : DwordStep → Fault
-dword_fault (DwordStep.Got v c) = spec_no_fault
-dword_fault (DwordStep.Refused f) = f
-
-abbrev pub hash_fault : HashStep → Fault
-hash_fault (HashStep.Got at c) = spec_no_fault
-hash_fault (HashStep.Refused f) = f
-
-abbrev pub place_fault : PlaceStep → Fault
-place_fault (PlaceStep.Got p c) = spec_no_fault
-place_fault (PlaceStep.Refused f) = f
-
-abbrev pub items_fault : ItemsStep → Fault
-items_fault (ItemsStep.Got l c) = spec_no_fault
-items_fault (ItemsStep.Refused f) = f
-
-abbrev pub done_fault : DoneStep → Fault
-done_fault (DoneStep.Got c) = spec_no_fault
-done_fault (DoneStep.Refused f) = f
+-- An item of so many bytes is there, and the cursor comes after it; or it is short.
+abbrev pub SkipIs : List ℕ → (at len : ℕ) → Result Cursor Fault → Type 0
+SkipIs s at len (Ok c) = Inside s at len × (c.at ≡ at + len)
+SkipIs s at len (Err f) = (length s < at + len) × (f ≡ record { rule = Rule.Short; at = at; size = len })

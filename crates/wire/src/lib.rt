@@ -4,12 +4,7 @@
 // the cursor and returns what it read and a new cursor, after it; or the fault that it found. The bytes are not copied: a hash, a
 // text or a list is returned as the offset where it is encoded.
 //
-// A fault is propagated unchanged. A caller takes the answer apart at once, and hands the fault of a refusal to its own caller:
-//
-//     let length_step = c.word(s);
-//     let WordStep::Got(length, next) = length_step else {
-//         return PlaceStep::Refused(length_step.fault());
-//     };
+// A fault is propagated unchanged, by `?`.
 //
 // specs/WireAnswers.antt says what each answer stands for; a contract equates that with what the format decodes at the cursor.
 
@@ -19,8 +14,7 @@ ghost use Rattle.std.specs.Prelude.{◌≡◌, ◌+◌, ◌-◌, ◌*◌, length
 ghost use Rattle.format.specs.Decoding as decoding;
 ghost use Rattle.format.specs.Decoding.{bytes_at, decode_run};
 ghost use Rattle.format.specs.Order.{decode_byte, decode_word, decode_dword, decode_hash, decode_string, decode_name, decode_fixed};
-ghost use Rattle.wire.specs.WireAnswers.{rule_meaning, byte_meaning, word_meaning, dword_meaning, hash_meaning, place_meaning, PlaceStepInside, done_meaning};
-ghost use Rattle.wire.specs.WireAnswers.{spec_no_fault, byte_fault, word_fault, dword_fault, hash_fault, place_fault, items_fault, done_fault};
+ghost use Rattle.wire.specs.WireAnswers.{rule_meaning, number_meaning, hash_meaning, place_meaning, PlaceStepInside, done_meaning, SkipIs};
 
 // The most bytes that a packet can have, and a query or a tag list alone: `packet_ceiling` in the format's rules.
 pub const PACKET_CEILING: usize = 65536;
@@ -50,25 +44,27 @@ pub enum Rule {
     SizeTag,
 }
 
-// The number that a caller of the library gets for a broken rule.
-pub fn number(rule: Rule) -> u8
-    ensures { result ≡ decoding.number (rule_meaning rule) }
-{
-    match rule {
-        Rule::Short => 1,
-        Rule::Opening => 2,
-        Rule::FrameLength => 3,
-        Rule::Kind => 4,
-        Rule::Choice => 5,
-        Rule::StatusBit => 5,
-        Rule::BytesCeiling => 6,
-        Rule::DepthCeiling => 6,
-        Rule::NameCeiling => 6,
-        Rule::GapCeiling => 6,
-        Rule::Rest => 7,
-        Rule::Order => 8,
-        Rule::DataLength => 8,
-        Rule::SizeTag => 9,
+impl Rule {
+    // The number that a caller of the library gets for a broken rule.
+    pub fn number(self) -> u8
+        ensures { result ≡ decoding.number (rule_meaning self) }
+    {
+        match self {
+            Rule::Short => 1,
+            Rule::Opening => 2,
+            Rule::FrameLength => 3,
+            Rule::Kind => 4,
+            Rule::Choice => 5,
+            Rule::StatusBit => 5,
+            Rule::BytesCeiling => 6,
+            Rule::DepthCeiling => 6,
+            Rule::NameCeiling => 6,
+            Rule::GapCeiling => 6,
+            Rule::Rest => 7,
+            Rule::Order => 8,
+            Rule::DataLength => 8,
+            Rule::SizeTag => 9,
+        }
     }
 }
 
@@ -80,12 +76,12 @@ pub struct Fault {
     pub size: usize,
 }
 
-impl Fault {
-    pub fn number(self) -> u8
-        ensures { result ≡ decoding.number (rule_meaning self.rule) }
-    {
-        let rule = self.rule;
-        number(rule)
+// A whole input is refused by the rule alone, so that `?` leaves out where the fault is.
+impl From<Fault> for Rule {
+    ghost from_gives = { λ fault rule. rule ≡ fault.rule };
+
+    fn from(fault: Fault) -> Rule {
+        fault.rule
     }
 }
 
@@ -93,6 +89,9 @@ impl Fault {
 pub struct Cursor {
     pub at: usize,
 }
+
+// What a step read and the cursor after it, or the fault that it found.
+pub type Step<T> = Result<(T, Cursor), Fault>;
 
 // A run of the lent bytes.
 #[derive(Clone, Copy)]
@@ -109,140 +108,6 @@ pub struct Items {
     pub count: u32,
 }
 
-#[derive(Clone, Copy)]
-pub enum ByteStep {
-    Got(u8, Cursor),
-    Refused(Fault),
-}
-
-#[derive(Clone, Copy)]
-pub enum WordStep {
-    Got(u16, Cursor),
-    Refused(Fault),
-}
-
-#[derive(Clone, Copy)]
-pub enum DwordStep {
-    Got(u32, Cursor),
-    Refused(Fault),
-}
-
-// The offset of a HASH.
-#[derive(Clone, Copy)]
-pub enum HashStep {
-    Got(usize, Cursor),
-    Refused(Fault),
-}
-
-#[derive(Clone, Copy)]
-pub enum PlaceStep {
-    Got(Place, Cursor),
-    Refused(Fault),
-}
-
-// A list, whatever its items are.
-#[derive(Clone, Copy)]
-pub enum ItemsStep {
-    Got(Items, Cursor),
-    Refused(Fault),
-}
-
-// A step that has no value: what was read is known.
-#[derive(Clone, Copy)]
-pub enum DoneStep {
-    Got(Cursor),
-    Refused(Fault),
-}
-
-// What a step that is no refusal propagates as its fault; no caller asks one.
-pub fn no_fault() -> Fault
-    ensures { result ≡ spec_no_fault }
-{
-    Fault {
-        rule: Rule::Short,
-        at: 0,
-        size: 0,
-    }
-}
-
-impl ByteStep {
-    // The fault of a refusal.
-    pub fn fault(self) -> Fault
-        ensures { result ≡ byte_fault self }
-    {
-        match self {
-            ByteStep::Got(_, _) => no_fault(),
-            ByteStep::Refused(f) => f,
-        }
-    }
-}
-
-impl WordStep {
-    pub fn fault(self) -> Fault
-        ensures { result ≡ word_fault self }
-    {
-        match self {
-            WordStep::Got(_, _) => no_fault(),
-            WordStep::Refused(f) => f,
-        }
-    }
-}
-
-impl DwordStep {
-    pub fn fault(self) -> Fault
-        ensures { result ≡ dword_fault self }
-    {
-        match self {
-            DwordStep::Got(_, _) => no_fault(),
-            DwordStep::Refused(f) => f,
-        }
-    }
-}
-
-impl HashStep {
-    pub fn fault(self) -> Fault
-        ensures { result ≡ hash_fault self }
-    {
-        match self {
-            HashStep::Got(_, _) => no_fault(),
-            HashStep::Refused(f) => f,
-        }
-    }
-}
-
-impl PlaceStep {
-    pub fn fault(self) -> Fault
-        ensures { result ≡ place_fault self }
-    {
-        match self {
-            PlaceStep::Got(_, _) => no_fault(),
-            PlaceStep::Refused(f) => f,
-        }
-    }
-}
-
-impl ItemsStep {
-    pub fn fault(self) -> Fault
-        ensures { result ≡ items_fault self }
-    {
-        match self {
-            ItemsStep::Got(_, _) => no_fault(),
-            ItemsStep::Refused(f) => f,
-        }
-    }
-}
-
-impl DoneStep {
-    pub fn fault(self) -> Fault
-        ensures { result ≡ done_fault self }
-    {
-        match self {
-            DoneStep::Got(_) => no_fault(),
-            DoneStep::Refused(f) => f,
-        }
-    }
-}
-
 // Numbers lie low byte first.
 pub fn pair(low: u8, high: u8) -> u16
     ensures { result ≡ low + 256 * high }
@@ -256,154 +121,99 @@ fn quad(first: u8, second: u8, third: u8, fourth: u8) -> u32
     first as u32 + 256 * (second as u32) + 65536 * (third as u32) + 16777216 * (fourth as u32)
 }
 
-// Whether there are as many bytes as an item has is tested by the length less its size, so that no sum can wrap, wherever the cursor
-// stands.
 impl Cursor {
     // How many bytes come after the cursor.
     pub fn remaining(self, s: &[u8]) -> usize
         ensures { result ≡ length s.now - self.at }
     {
         let at = self.at;
-        if at <= s.len() { s.len() - at } else { 0 }
+        s.len().saturating_sub(at)
     }
 
-    pub fn byte(self, s: &[u8]) -> ByteStep
-        ensures { byte_meaning result ≡ decode_byte s.now self.at }
+    // The cursor after an item of `len` bytes. Whether they are there is tested by the length less the item's, so that no sum can
+    // wrap, wherever the cursor stands.
+    fn skip(self, s: &[u8], len: usize) -> Result<Cursor, Fault>
+        ensures { SkipIs s.now self.at len result }
     {
         let at = self.at;
-        if s.len() <= at {
-            return ByteStep::Refused(Fault {
+        if s.len() < len || s.len() - len < at {
+            return Err(Fault {
                 rule: Rule::Short,
                 at,
-                size: 1,
+                size: len,
             });
         }
-        let next = at + 1;
-        ByteStep::Got(s[at], Cursor { at: next })
+        Ok(Cursor { at: at + len })
     }
 
-    pub fn word(self, s: &[u8]) -> WordStep
-        ensures { word_meaning result ≡ decode_word s.now self.at }
+    pub fn byte(self, s: &[u8]) -> Step<u8>
+        ensures { number_meaning result ≡ decode_byte s.now self.at }
+    {
+        let next = self.skip(s, 1)?;
+        Ok((s[self.at], next))
+    }
+
+    pub fn word(self, s: &[u8]) -> Step<u16>
+        ensures { number_meaning result ≡ decode_word s.now self.at }
     {
         let at = self.at;
-        if s.len() < 2 {
-            return WordStep::Refused(Fault {
-                rule: Rule::Short,
-                at,
-                size: 2,
-            });
-        }
-        if s.len() - 2 < at {
-            return WordStep::Refused(Fault {
-                rule: Rule::Short,
-                at,
-                size: 2,
-            });
-        }
+        let next = self.skip(s, 2)?;
         let value = pair(s[at], s[at + 1]);
-        let next = at + 2;
-        WordStep::Got(value, Cursor { at: next })
+        Ok((value, next))
     }
 
-    pub fn dword(self, s: &[u8]) -> DwordStep
-        ensures { dword_meaning result ≡ decode_dword s.now self.at }
+    pub fn dword(self, s: &[u8]) -> Step<u32>
+        ensures { number_meaning result ≡ decode_dword s.now self.at }
     {
         let at = self.at;
-        if s.len() < 4 {
-            return DwordStep::Refused(Fault {
-                rule: Rule::Short,
-                at,
-                size: 4,
-            });
-        }
-        if s.len() - 4 < at {
-            return DwordStep::Refused(Fault {
-                rule: Rule::Short,
-                at,
-                size: 4,
-            });
-        }
+        let next = self.skip(s, 4)?;
         let value = quad(s[at], s[at + 1], s[at + 2], s[at + 3]);
-        let next = at + 4;
-        DwordStep::Got(value, Cursor { at: next })
+        Ok((value, next))
     }
 
-    pub fn hash(self, s: &[u8]) -> HashStep
+    // The offset of a HASH.
+    pub fn hash(self, s: &[u8]) -> Step<usize>
         ensures { hash_meaning s.now result ≡ decode_hash s.now self.at }
     {
-        let at = self.at;
-        if s.len() < HASH_SIZE {
-            return HashStep::Refused(Fault {
-                rule: Rule::Short,
-                at,
-                size: HASH_SIZE,
-            });
-        }
-        if s.len() - HASH_SIZE < at {
-            return HashStep::Refused(Fault {
-                rule: Rule::Short,
-                at,
-                size: HASH_SIZE,
-            });
-        }
-        let next = at + HASH_SIZE;
-        HashStep::Got(at, Cursor { at: next })
+        let next = self.skip(s, HASH_SIZE)?;
+        Ok((self.at, next))
     }
 
     // A run of `len` bytes.
-    pub fn run(self, s: &[u8], len: usize) -> PlaceStep
+    pub fn run(self, s: &[u8], len: usize) -> Step<Place>
         ensures result_value { place_meaning s.now result ≡ decode_run len s.now self.at }
         ensures inside { PlaceStepInside s.now result }
     {
-        let at = self.at;
-        if s.len() < len {
-            return PlaceStep::Refused(Fault {
-                rule: Rule::Short,
-                at,
-                size: len,
-            });
-        }
-        if s.len() - len < at {
-            return PlaceStep::Refused(Fault {
-                rule: Rule::Short,
-                at,
-                size: len,
-            });
-        }
-        let next = at + len;
-        PlaceStep::Got(Place { at, len }, Cursor { at: next })
+        let next = self.skip(s, len)?;
+        Ok((Place { at: self.at, len }, next))
     }
 
     // A WORD and that many bytes.
-    pub fn string(self, s: &[u8]) -> PlaceStep
+    #[tactic(auto, unfolding(format::specs::Order::decode_string))]
+    pub fn string(self, s: &[u8]) -> Step<Place>
         ensures result_value { place_meaning s.now result ≡ decode_string s.now self.at }
         ensures inside { PlaceStepInside s.now result }
     {
-        let length_step = self.word(s);
-        let WordStep::Got(length, next) = length_step else {
-            return PlaceStep::Refused(length_step.fault());
-        };
+        let (length, next) = self.word(s)?;
         next.run(s, length as usize)
     }
 
     // A name is a String of 1 to 255 bytes. Its length is checked before its bytes are read.
-    pub fn name(self, s: &[u8]) -> PlaceStep
+    #[tactic(auto, unfolding(format::specs::Order::decode_name))]
+    pub fn name(self, s: &[u8]) -> Step<Place>
         ensures result_value { place_meaning s.now result ≡ decode_name s.now self.at }
         ensures inside { PlaceStepInside s.now result }
     {
-        let length_step = self.word(s);
-        let WordStep::Got(length, next) = length_step else {
-            return PlaceStep::Refused(length_step.fault());
-        };
+        let (length, next) = self.word(s)?;
         if length == 0 {
-            return PlaceStep::Refused(Fault {
+            return Err(Fault {
                 rule: Rule::Choice,
                 at: self.at,
                 size: 2,
             });
         }
         if NAME_LIMIT < length {
-            return PlaceStep::Refused(Fault {
+            return Err(Fault {
                 rule: Rule::NameCeiling,
                 at: self.at,
                 size: 2,
@@ -413,17 +223,15 @@ impl Cursor {
     }
 
     // A byte that the layout fixes.
-    pub fn fixed(self, s: &[u8], expected: u8) -> DoneStep
+    #[tactic(auto, unfolding(format::specs::Order::decode_fixed))]
+    pub fn fixed(self, s: &[u8], expected: u8) -> Result<Cursor, Fault>
         ensures { done_meaning result ≡ decode_fixed expected s.now self.at }
     {
-        let found_step = self.byte(s);
-        let ByteStep::Got(found, next) = found_step else {
-            return DoneStep::Refused(found_step.fault());
-        };
+        let (found, next) = self.byte(s)?;
         if found == expected {
-            return DoneStep::Got(next);
+            return Ok(next);
         }
-        DoneStep::Refused(Fault {
+        Err(Fault {
             rule: Rule::Choice,
             at: self.at,
             size: 1,

@@ -1,6 +1,6 @@
 -- What the functions that put the parts of a body ask, of a body that may be put, and that they put its bytes.
 use Prim.Native.Nat.{ℕ, ◌+◌, ◌-◌, ◌≤◌, ◌<◌}
-use mathlib.Core.Path.{◌≡◌, refl, sym, ap, ◌∙◌, subst}
+use mathlib.Core.Path.{◌≡◌, refl, sym, ap, ◌∙◌}
 use mathlib.Core.Bool.{Bool, true, false}
 use mathlib.Core.List.{List, ◌++◌, append_assoc}
 use native.Mathlib.Omega.{arith}
@@ -45,8 +45,8 @@ use Rattle.write_items.specs.Puts.{Puts}
 use Rattle.write_bodies.specs.PutBodies.{ListRun, Puttable, Run, list_bytes}
 
 -- What was put are the bytes of the body.
-pub finished : {raw bytes old new : List ℕ} {n r : ℕ} → raw ≡ bytes → Puts raw n old new r → (r ≡ length bytes) × (new ≡ overwritten bytes old)
-finished {old = old} {new} {r = r} e h = subst (λ l. (r ≡ length l) × (new ≡ overwritten l old)) e (h.written ∙ sym h.sized, h.output)
+pub finished : {raw bytes old new : List ℕ} {n r : ℕ} → raw ≡ bytes → Puts raw n old new r → record { written : r ≡ length bytes; output : new ≡ overwritten bytes old }
+finished e h = rw (← e) (record { written = h.written ∙ sym h.sized; output = h.output })
 
 list-run : {A : Type 0} {d : Decoder A} {encode : A → List ℕ} {Valid : A → Type 0} {s : List ℕ} {l : Items} {end : ℕ} → Listed d encode Valid s l end → ListRun s l end
 list-run h = (h.order, ap length h.bytes ∙ h.size)

@@ -12,12 +12,17 @@ use Rattle.format.specs.Decoding.{Outcome, got, refused}
 use Rattle.format.specs.Order.{decode_address, decode_record, decode_tag}
 use Rattle.format.specs.Writing.{ValuesFit, Written, overwritten, unwritten}
 use Rattle.format.proofs.Codec.{length-little_endian}
-use Rattle.format.proofs.Writing.{number-some, tags-fit}
+use Rattle.format.proofs.Writing.{tags-fit}
+use Rattle.std.specs.Prelude.{Result, Ok, Err, IsErrAnd}
 use Rattle.wire.specs.declared.Items.{Items}
-use Rattle.wire.specs.WireAnswers.{items_in}
+use Rattle.wire.specs.WireAnswers.{fault_meaning, items_in}
 use Rattle.records.specs.declared.Record.{Record}
 use Rattle.bodies.specs.declared.Body.{Body}
 use Rattle.bodies.specs.BodyAnswers.{body_in}
+use Rattle.wire.proofs.Steps.{propagated}
+use Rattle.output.specs.declared.Refusal.{Refusal}
+use Rattle.output.specs.WriteAnswers.{answered}
+use Rattle.output.proofs.Refusals.{number-of-rule}
 use Rattle.write_items.specs.There.{hash_there, items_there}
 use Rattle.format.specs.RoundTrip.{IsThere}
 use Rattle.write_items.specs.Writers.{write_there}
@@ -37,15 +42,17 @@ pub record Fine (s : List ℕ) (b : Body) (c : BodyCheck) : Type 0 where
   pub ended : BodyEnds s b c.end
 
 module _ {s : List ℕ} {b : Body} where
-  pub refused-body : {c : BodyCheck} (output : List ℕ) → BodyChecked s b c → (c.number ≡ 0 → ⊥) → WritesBody s b output (unwritten c.number output)
-  refused-body output (BodyChecked.absent f e) some = absent f e
-  refused-body output (BodyChecked.overflows t f) some = overflows t f
-  refused-body output (BodyChecked.sized size end rule t f n e r) some = absurd (some refl)
+  refused-body : (r : Refusal) (output : List ℕ) → BodyChecked s b (Err r) → WritesBody s b output (answered (Err r) output)
+  refused-body r output (BodyChecked.absent f e) = rw (number-of-rule f.rule) (absent (fault_meaning f) e)
+  refused-body r output (BodyChecked.overflows t f) = overflows t f
 
-  pub fine : {c : BodyCheck} → BodyChecked s b c → c.number ≡ 0 → Fine s b c
-  fine (BodyChecked.absent f e) none = absurd (number-some f.rule none)
-  fine (BodyChecked.overflows t f) none = absurd (omega arith)
-  fine (BodyChecked.sized size end rule t f n e r) none = record { there = t; fit = f; size = n; ended = e }
+  -- `?` passes on what the check refuses.
+  pub passed-body : (r : Refusal) (answer : Result ℕ Refusal) (output : List ℕ) → IsErrAnd answer (λ g. g ≡ r) → BodyChecked s b (Err r) →
+      WritesBody s b output (answered answer output)
+  passed-body r answer output passed found = rw (propagated answer passed) (refused-body r output found)
+
+  pub fine : {c : BodyCheck} → BodyChecked s b (Ok c) → Fine s b c
+  fine (BodyChecked.sized size end rule t f n e r) = record { there = t; fit = f; size = n; ended = e }
 
   module _ {c : BodyCheck} (h : Fine s b c) (output : List ℕ) where
     pub roomless-body : length output < c.size → WritesBody s b output (unwritten 10 output)

@@ -17,7 +17,7 @@ ghost use Rattle.write_items.specs.Puts.{Puts};
 ghost use Rattle.write_bodies.specs.PutBodies.{ListRun, Puttable, Run, list_bytes};
 
 use bodies::{Body, ExtendedStatus, FileStatus, RequestParts, SendingPart, Triple};
-use output::{ROOM, WriteAnswer};
+use output::{Refusal, Written};
 use query::Query;
 use records::{Address, Record};
 use wire::{Items, Place};
@@ -369,58 +369,44 @@ pub fn put_body(src: &[u8], b: Body, end: usize, out: &mut [u8]) -> usize
 }
 
 // Entries and lists that no reader gave: a caller writes them one after the other into bytes of its own, and hands their offset to a
-// writer of messages. Each answers with the number of a refusal, which leaves the output as it was, or with how many bytes it wrote.
+// writer of messages. Each answers with a refusal, which leaves the output as it was, or with how many bytes it wrote.
 
 // A body by itself. Its values may break a rule of its packet: only offsets, counts and room are checked.
-fn write_bare(src: &[u8], b: Body, out: &mut [u8]) -> WriteAnswer
+fn write_bare(src: &[u8], b: Body, out: &mut [u8]) -> Written
     ensures { WritesBody src.now b out.old (answered result out.new) }
 {
-    let check = check_bodies::check_body(src, b);
-    let number = check.number;
-    if number != 0 {
-        return output::refused(number);
+    let found = check_bodies::check_body(src, b)?;
+    if out.len() < found.size {
+        return Err(Refusal::Room);
     }
-    let size = check.size;
-    if out.len() < size {
-        return output::refused(ROOM);
-    }
-    let end = check.end;
-    let wrote = put_body(src, b, end, out);
-    WriteAnswer {
-        number: 0,
-        length: wrote,
-    }
+    Ok(put_body(src, b, found.end, out))
 }
 
-pub fn write_address(address: Address, out: &mut [u8]) -> WriteAnswer
+pub fn write_address(address: Address, out: &mut [u8]) -> Written
     ensures { answered result out.new ≡ spec_write_address (address_of address) out.old }
 {
     if out.len() < ADDRESS_BYTES {
-        return output::refused(ROOM);
+        return Err(Refusal::Room);
     }
-    let wrote = put_address(address, out);
-    WriteAnswer {
-        number: 0,
-        length: wrote,
-    }
+    Ok(put_address(address, out))
 }
 
 // A record, whose hash and tags are encoded at offsets of `src`.
-pub fn write_record(src: &[u8], file: Record, out: &mut [u8]) -> WriteAnswer
+pub fn write_record(src: &[u8], file: Record, out: &mut [u8]) -> Written
     ensures { answered result out.new ≡ spec_write_record src.now file out.old }
 {
     write_bare(src, Body::Record(file), out)
 }
 
 // The addresses that are encoded at an offset of `src`, after a BYTE that counts them.
-pub fn write_addresses(src: &[u8], list: Items, out: &mut [u8]) -> WriteAnswer
+pub fn write_addresses(src: &[u8], list: Items, out: &mut [u8]) -> Written
     ensures { answered result out.new ≡ spec_write_addresses src.now list out.old }
 {
     write_bare(src, Body::Addresses(list), out)
 }
 
 // The records that are encoded at an offset of `src`, after a DWORD that counts them.
-pub fn write_records(src: &[u8], list: Items, out: &mut [u8]) -> WriteAnswer
+pub fn write_records(src: &[u8], list: Items, out: &mut [u8]) -> Written
     ensures { answered result out.new ≡ spec_write_records src.now list out.old }
 {
     write_bare(src, Body::Records(list), out)

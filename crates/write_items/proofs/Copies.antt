@@ -20,9 +20,11 @@ use Rattle.wire.specs.declared.Items.{Items}
 use Rattle.wire.specs.WireAnswers.{items_in}
 use Rattle.query.specs.declared.Query.{Query}
 use Rattle.query.specs.QueryAnswers.{query_in}
+use Rattle.std.specs.Prelude.{Ok}
+use Rattle.output.specs.WriteAnswers.{answered}
 use Rattle.write_items.specs.There.{items_there}
 use Rattle.write_items.specs.Numbers.{ceiling_number}
-use Rattle.write_items.proofs.Answers.{Promised, Ready, faulty, message-ready, roomless, written}
+use Rattle.write_items.proofs.Answers.{Promised, Ready, message-ready, roomless, written}
 
 -- What a writer copies from a place in s, after bytes of its own: the place is in order, and the byte ceiling is the only rule that can be
 -- broken.
@@ -31,21 +33,18 @@ pub record Copies (W : List ℕ → Written → Type 0) (s : List ℕ) (at end :
   pub size : length (bytes_at s at (end - at)) ≡ end - at
   pub ready : Ready W (ceiling_number total 0) (own ++ bytes_at s at (end - at)) total
 
-module _ {W : List ℕ → Written → Type 0} (output : List ℕ) {s : List ℕ} {at end : ℕ} {own : List ℕ} {total : ℕ} (c : Copies W s at end own total) where
+module _ {W : List ℕ → Written → Type 0} {s : List ℕ} {at end : ℕ} {own : List ℕ} {total : ℕ} (c : Copies W s at end own total) {output : List ℕ} where
   pub over-ceiling : packet_ceiling < total → W output (unwritten 6 output)
   over-ceiling h =
       let six : ceiling_number total 0 ≡ 6 = rw (lt-leb total packet_ceiling h) refl in
-      rw six at (faulty output c.ready (λ none. omega (arith, six)))
+      rw six at (c.ready.refuses output (λ none. omega (arith, six)))
 
-  module _ (h : total ≤ packet_ceiling) where
-    none : ceiling_number total 0 ≡ 0
-    none = rw (le-leb total packet_ceiling h) refl
+  pub no_room : total ≤ packet_ceiling → length output < total → W output (unwritten 10 output)
+  no_room h = roomless c.ready (rw (le-leb total packet_ceiling h) refl)
 
-    pub no_room : length output < total → W output (unwritten 10 output)
-    no_room = roomless output c.ready none
-
-    pub wrote : total ≤ length output → W output (record { number = 0; length = total; output = overwritten (own ++ bytes_at s at (end - at)) output })
-    wrote = written output c.ready none
+  pub copied : {new : List ℕ} {wrote : ℕ} → total ≤ packet_ceiling → total ≤ length output →
+      record { written : wrote ≡ total; output : new ≡ overwritten (own ++ bytes_at s at (end - at)) output } → W output (answered (Ok wrote) new)
+  copied h = written c.ready (rw (le-leb total packet_ceiling h) refl)
 
 module _ (k : Kind) {encoded : Message k → List ℕ} {Right : Message k → Type 0} (m : Message k) (s : List ℕ) (hs : Bytes s) where
   lies-copies : {there : Outcome (Unit {0})} {at end : ℕ} → got tt end ≡ there → Lies encoded Right s at m end → (own : List ℕ) (total : ℕ) → own ++ encoded m ≡ encode k m →

@@ -30,9 +30,8 @@ module _ (t : List ℕ) (ht : Bytes t) where
   string-judged : ItemJudged StringFits encode_string decode_string t (count_number (length t) 0)
   string-judged = count-judged (ItemJudged StringFits encode_string decode_string t) (length t) 0 (λ over. overflows over) (λ few. item-fine codec-string t few (few, ht))
 
-  pub string-ready : {n : ℕ} → n ≡ count_number (length t) 0 →
-      Ready (WritesItem StringFits encode_string decode_string no_places t) n (encode_string t) (2 + length t)
-  string-ready e = item-ready tt (rw e string-judged) refl (length-string t)
+  pub string-ready : Ready (WritesItem StringFits encode_string decode_string no_places t) (count_number (length t) 0) (encode_string t) (2 + length t)
+  string-ready = item-ready tt string-judged refl (length-string t)
 
   name-fault : (rule : Rule) → StringFits t → check_name_length (length t) ≡ violates rule → decode_name (encode_name t) 0 ≡ refused (fault rule 0 2)
   name-fault rule few v = name-refused rule (encode_name t) 0 t [] few v (sym (append-nil (encode_name t))) (omega arith)
@@ -45,9 +44,8 @@ module _ (t : List ℕ) (ht : Bytes t) where
       name-judged J (length t) (λ rule v. refused_for few (fault rule 0 2) (name-fault rule few v)) (λ some most.
       item-fine codec-name t few (record { some = some; few = most; bytes = ht })))
 
-  pub name-ready : {n : ℕ} → n ≡ spec_tag_number (length t) 0 →
-      Ready (WritesItem StringFits encode_name decode_name no_places t) n (encode_string t) (2 + length t)
-  name-ready e = item-ready tt (rw e named-judged) (sym (name-string t)) (length-string t)
+  pub name-ready : Ready (WritesItem StringFits encode_name decode_name no_places t) (spec_tag_number (length t) 0) (encode_string t) (2 + length t)
+  name-ready = item-ready tt named-judged (sym (name-string t)) (length-string t)
 
 -- Tags.
 codec-type : Codec anywhere decode_type (λ k. byte (type_code k)) (λ _. Unit {0})
@@ -96,29 +94,27 @@ module _ (t : Tag) where
         name-judged J m (λ rule v. refused_for f (fault rule _ 2) (tag-refused rule few v)) (λ some most.
         item-fine codec-tag t f (record { name = record { some = some; few = most; bytes = named }; value = valid short }))))
 
-    tag-ready : {there : Outcome (Unit {0})} {size n : ℕ} → IsThere there → n ≡ spec_tag_number (length t.name) text → 3 + length t.name + length value ≡ size →
-        Ready (WritesTag there t) n (type ++ (name ++ value)) size
-    tag-ready here e size = item-ready here (rw e tag-judged) tag-bytes (tag-size ∙ size)
+    tag-ready : {there : Outcome (Unit {0})} {size : ℕ} → IsThere there → 3 + length t.name + length value ≡ size →
+        Ready (WritesTag there t) (spec_tag_number (length t.name) text) (type ++ (name ++ value)) size
+    tag-ready here size = item-ready here tag-judged tag-bytes (tag-size ∙ size)
 
   -- A tag with no text.
-  pub plain_ready : {there : Outcome (Unit {0})} {size n : ℕ} → IsThere there → Bytes t.name → ValueFits t.value.0 t.value.1 →
-      ValidValue t.value.0 t.value.1 → n ≡ spec_tag_number (length t.name) 0 → 3 + length t.name + length value ≡ size →
-      Ready (WritesTag there t) n (type ++ (name ++ value)) size
+  pub plain_ready : {there : Outcome (Unit {0})} {size : ℕ} → IsThere there → Bytes t.name → ValueFits t.value.0 t.value.1 → ValidValue t.value.0 t.value.1 →
+      3 + length t.name + length value ≡ size → Ready (WritesTag there t) (spec_tag_number (length t.name) 0) (type ++ (name ++ value)) size
   plain_ready here named fit valid = tag-ready 0 named (λ _. omega arith, λ _. fit) (λ _. valid) here
 
-module _ (n : List ℕ) (named : Bytes n) {number : ℕ} where
-  pub text-ready : (t : List ℕ) → Bytes t → number ≡ spec_tag_number (length n) (length t) →
-      Ready (WritesTag no_places (tag_of n string_type t)) number (byte 2 ++ (encode_name n ++ encode_string t)) (5 + length n + length t)
-  text-ready t ht e =
-      tag-ready (tag_of n string_type t) (length t) named (λ f. f, λ f. f) (λ short. (short, ht)) tt e (omega (arith, length-string t))
+module _ (n : List ℕ) (named : Bytes n) where
+  pub text-ready : (t : List ℕ) → Bytes t →
+      Ready (WritesTag no_places (tag_of n string_type t)) (spec_tag_number (length n) (length t)) (byte 2 ++ (encode_name n ++ encode_string t)) (5 + length n + length t)
+  text-ready t ht =
+      tag-ready (tag_of n string_type t) (length t) named (λ f. f, λ f. f) (λ short. (short, ht)) tt (omega (arith, length-string t))
 
-  module _ (none : number ≡ spec_tag_number (length n) 0) where
-    pub dword-ready : (v : ℕ) → Dword v → Ready (WritesTag no_places (tag_of n dword_type v)) number (byte 3 ++ (encode_name n ++ dword v)) (7 + length n)
-    dword-ready v small = plain_ready (tag_of n dword_type v) tt named tt small none (omega (arith, length-little_endian 4 v))
+  pub dword-ready : (v : ℕ) → Dword v → Ready (WritesTag no_places (tag_of n dword_type v)) (spec_tag_number (length n) 0) (byte 3 ++ (encode_name n ++ dword v)) (7 + length n)
+  dword-ready v small = plain_ready (tag_of n dword_type v) tt named tt small (omega (arith, length-little_endian 4 v))
 
-    pub float-ready : (v : ℕ) → Dword v → Ready (WritesTag no_places (tag_of n float_type v)) number (byte 4 ++ (encode_name n ++ dword v)) (7 + length n)
-    float-ready v small = plain_ready (tag_of n float_type v) tt named tt small none (omega (arith, length-little_endian 4 v))
+  pub float-ready : (v : ℕ) → Dword v → Ready (WritesTag no_places (tag_of n float_type v)) (spec_tag_number (length n) 0) (byte 4 ++ (encode_name n ++ dword v)) (7 + length n)
+  float-ready v small = plain_ready (tag_of n float_type v) tt named tt small (omega (arith, length-little_endian 4 v))
 
-    pub hash-ready : {there : Outcome (Unit {0})} (h : List ℕ) → IsThere there → ValidHash h →
-        Ready (WritesTag there (tag_of n hash_type h)) number (byte 1 ++ (encode_name n ++ h)) (19 + length n)
-    hash-ready h here valid = plain_ready (tag_of n hash_type h) here named tt valid none (omega (arith, valid.0))
+  pub hash-ready : {there : Outcome (Unit {0})} (h : List ℕ) → IsThere there → ValidHash h →
+      Ready (WritesTag there (tag_of n hash_type h)) (spec_tag_number (length n) 0) (byte 1 ++ (encode_name n ++ h)) (19 + length n)
+  hash-ready h here valid = plain_ready (tag_of n hash_type h) here named tt valid (omega (arith, valid.0))

@@ -23,13 +23,20 @@ use Rattle.format.proofs.Codec.{Codec, anywhere, behind, bytes-append, bytes-lit
 use Rattle.format.proofs.Acceptance.{accepts}
 use Rattle.format.proofs.Items.{codec-query, some-depth}
 use Rattle.format.proofs.Writing.{ceiling-judged, query-fits, valid-judged}
+use Rattle.std.specs.Prelude.{IsErrAnd, Result}
+use Rattle.wire.specs.declared.Rule.{Rule}
+use Rattle.wire.specs.WireAnswers.{rule_meaning}
 use Rattle.wire.proofs.Replies.{slice-bytes}
+use Rattle.wire.proofs.Steps.{propagated}
+use Rattle.output.specs.declared.Refusal.{Refusal}
+use Rattle.output.specs.WriteAnswers.{answered, refusal_of}
+use Rattle.output.proofs.Refusals.{number-of-rule}
 use Rattle.query.specs.declared.Query as place
 use Rattle.query.specs.Nodes.{depths}
 use Rattle.query.specs.QueryAnswers.{QueryPlaced, query_in, query_of}
 use Rattle.write_items.specs.Writers.{join_of, sides_there}
 use Rattle.write_items.specs.Numbers.{spec_join_number}
-use Rattle.write_items.proofs.Answers.{Promised, Ready, message-ready, missing-promised}
+use Rattle.write_items.proofs.Answers.{Promised, Ready, gone, message-ready}
 use Rattle.write_items.proofs.Pieces.{ceiling-fits}
 use Rattle.write_items.proofs.Leaves.{codec-case, query-step}
 
@@ -229,21 +236,22 @@ module _ (o : Operator) (a b : List ℕ) where
   abbrev pub JoinReady : (number : ℕ) → Type 0
   JoinReady number = Ready (JoinPromised (decode lone_query a) (decode lone_query b)) number joined (2 + length a + length b)
 
-  -- A side that is no lone query has its own number.
-  pub left-refused : (output : List ℕ) {n : ℕ} → refused_with n ≡ reply (decode lone_query a) → JoinPromised (decode lone_query a) (decode lone_query b) output (unwritten n output)
-  left-refused output e = go (decode lone_query a) e
-    where
-      go : (x : Answer Query) {n : ℕ} → refused_with n ≡ reply x → JoinPromised x (decode lone_query b) output (unwritten n output)
-      go (refusal f) {n} e = let same : n ≡ number f.rule = cc in rw same (missing-promised output refl)
-      go (accepted q) e = differ cc
+  -- A side that is no lone query has its own number, which `?` passes on.
+  module _ {output : List ℕ} (rule : Rule) (answer : Result ℕ Refusal) (passed : IsErrAnd answer (λ g. g ≡ refusal_of rule)) where
+    pub left-refused : refused_with (number (rule_meaning rule)) ≡ reply (decode lone_query a) → JoinPromised (decode lone_query a) (decode lone_query b) output (answered answer output)
+    left-refused e = rw (propagated answer passed, number-of-rule rule) (go (decode lone_query a) e)
+      where
+        go : (x : Answer Query) {n : ℕ} → refused_with n ≡ reply x → JoinPromised x (decode lone_query b) output (unwritten n output)
+        go (refusal f) {n} e = let same : n ≡ number f.rule = cc in rw same (gone output refl)
+        go (accepted q) e = differ cc
 
-  pub right-refused : (output : List ℕ) {q : Query} {d n : ℕ} → Side a q d → refused_with n ≡ reply (decode lone_query b) →
-      JoinPromised (decode lone_query a) (decode lone_query b) output (unwritten n output)
-  right-refused output {q} h e = rw h.is (go (decode lone_query b) e)
-    where
-      go : (y : Answer Query) {n : ℕ} → refused_with n ≡ reply y → JoinPromised (accepted q) y output (unwritten n output)
-      go (refusal f) {n} e = let same : n ≡ number f.rule = cc in rw same (missing-promised output refl)
-      go (accepted r) e = differ cc
+    pub right-refused : {q : Query} {d : ℕ} → Side a q d → refused_with (number (rule_meaning rule)) ≡ reply (decode lone_query b) →
+        JoinPromised (decode lone_query a) (decode lone_query b) output (answered answer output)
+    right-refused {q} h e = rw (propagated answer passed, number-of-rule rule, h.is) (go (decode lone_query b) e)
+      where
+        go : (y : Answer Query) {n : ℕ} → refused_with n ≡ reply y → JoinPromised (accepted q) y output (unwritten n output)
+        go (refusal f) {n} e = let same : n ≡ number f.rule = cc in rw same (gone output refl)
+        go (accepted r) e = differ cc
 
   module _ (ha : Bytes a) (hb : Bytes b) {q r : Query} {d e : ℕ} (h : Side a q d) (k : Side b r e) where
     join-bytes : joined ≡ encode_query (join o q r)
@@ -253,13 +261,13 @@ module _ (o : Operator) (a b : List ℕ) where
     number_same : spec_join_number (length (encode_query (join o q r))) (depth (join o q r)) ≡ spec_join_number (2 + length a + length b) (suc (max d e))
     number_same = rw (← join-bytes, join-size, join-depth o q r, h.deep, k.deep) refl
 
-    pub join-ready : {n : ℕ} → n ≡ spec_join_number (2 + length a + length b) (suc (max d e)) → JoinReady n
-    join-ready {n} same =
-        let judged : Judged lone_query (join o q r) n =
-        rw (same, ← number_same) (join-judged o q r ((accepts lone_query a ha q).0 h.is).1 ((accepts lone_query b hb r).0 k.is).1) in
+    pub join-ready : JoinReady (spec_join_number (2 + length a + length b) (suc (max d e)))
+    join-ready =
+        let judged : Judged lone_query (join o q r) (spec_join_number (2 + length a + length b) (suc (max d e))) =
+        rw (← number_same) (join-judged o q r ((accepts lone_query a ha q).0 h.is).1 ((accepts lone_query b hb r).0 k.is).1) in
         let bytes = bytes-append (byte 0) _ (bytes-little_endian 1 0) (bytes-append (byte (operator_code o)) _ (bytes-little_endian 1 (operator_code o)) (bytes-append a b ha hb)) in
         rw (h.is, k.is) (message-ready refl judged join-bytes bytes join-size)
 
-pub join-fits : (size deep : ℕ) → spec_join_number size deep ≡ 0 → size ≤ 65536
+pub join-fits : (size deep : ℕ) → 0 ≡ spec_join_number size deep → size ≤ 65536
 unfolding spec_join_number
 join-fits size deep e = (ceiling-fits size _ e).0

@@ -140,22 +140,21 @@ name-bytes n h = rw (name-string n) (string_bytes n h)
 abbrev pub QueryReady : (number : ℕ) → Query → (size : ℕ) → Type 0
 QueryReady number q size = Ready (Promised lone_query no_places q) number (encode_query q) size
 
-module _ {number : ℕ} where
-  pub keyword-ready : (t : List ℕ) → Bytes t → number ≡ spec_keyword_number (length t) → QueryReady number (keyword t) (3 + length t)
-  unfolding encode_query
-  keyword-ready t ht e =
-      let bytes = bytes-append (byte 1) _ (bytes-little_endian 1 1) (string_bytes t ht) in
-      message-ready refl (rw e (keyword-judged t ht)) refl bytes (keyword-size t)
+pub keyword-ready : (t : List ℕ) → Bytes t → QueryReady (spec_keyword_number (length t)) (keyword t) (3 + length t)
+unfolding encode_query
+keyword-ready t ht =
+    let bytes = bytes-append (byte 1) _ (bytes-little_endian 1 1) (string_bytes t ht) in
+    message-ready refl (keyword-judged t ht) refl bytes (keyword-size t)
 
-  pub field-ready : (t n : List ℕ) → Bytes t → Bytes n → number ≡ spec_field_number (length t) (length n) → QueryReady number (field t n) (5 + length t + length n)
-  unfolding encode_query
-  field-ready t n ht hn e =
-      let bytes = bytes-append (byte 2) _ (bytes-little_endian 1 2) (bytes-append (encode_string t) (encode_name n) (string_bytes t ht) (name-bytes n hn)) in
-      message-ready refl (rw e (field-judged t n ht hn)) refl bytes (field-size t n)
+pub field-ready : (t n : List ℕ) → Bytes t → Bytes n → QueryReady (spec_field_number (length t) (length n)) (field t n) (5 + length t + length n)
+unfolding encode_query
+field-ready t n ht hn =
+    let bytes = bytes-append (byte 2) _ (bytes-little_endian 1 2) (bytes-append (encode_string t) (encode_name n) (string_bytes t ht) (name-bytes n hn)) in
+    message-ready refl (field-judged t n ht hn) refl bytes (field-size t n)
 
-  pub limit-ready : (v : ℕ) (b : Bound) (n : List ℕ) → Dword v → Bytes n → number ≡ spec_limit_number (length n) → QueryReady number (limit v b n) (8 + length n)
-  unfolding encode_query
-  limit-ready v b n hv hn e =
-      let named = bytes-append (byte (bound_code b)) (encode_name n) (bytes-little_endian 1 (bound_code b)) (name-bytes n hn) in
-      let bytes = bytes-append (byte 3) _ (bytes-little_endian 1 3) (bytes-append (dword v) _ (bytes-little_endian 4 v) named) in
-      message-ready refl (rw e (limit-judged v b n hv hn)) refl bytes (limit-size v b n)
+pub limit-ready : (v : ℕ) (b : Bound) (n : List ℕ) → Dword v → Bytes n → QueryReady (spec_limit_number (length n)) (limit v b n) (8 + length n)
+unfolding encode_query
+limit-ready v b n hv hn =
+    let named = bytes-append (byte (bound_code b)) (encode_name n) (bytes-little_endian 1 (bound_code b)) (name-bytes n hn) in
+    let bytes = bytes-append (byte 3) _ (bytes-little_endian 1 3) (bytes-append (dword v) _ (bytes-little_endian 4 v) named) in
+    message-ready refl (limit-judged v b n hv hn) refl bytes (limit-size v b n)

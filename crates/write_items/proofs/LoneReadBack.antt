@@ -18,26 +18,26 @@ use Rattle.format.proofs.Differ.{differ}
 use Rattle.format.proofs.Codec.{anywhere, went}
 use Rattle.format.proofs.Items.{codec-query}
 use Rattle.format.proofs.There.{byte-ends}
+use Rattle.std.specs.Prelude.{Ok, Result}
 use Rattle.wire.specs.declared.Items.{Items}
+use Rattle.wire.specs.declared.Rule.{Rule}
 use Rattle.wire.specs.WireAnswers.{ItemsInside, items_in}
-use Rattle.tags.specs.declared.TagListAnswer.{TagListAnswer}
 use Rattle.tags.specs.TagAnswers.{TagListPlaced, tag_list_reply}
 use Rattle.query.specs.declared.Query.{Query}
-use Rattle.query.specs.declared.QueryAnswer.{QueryAnswer}
 use Rattle.query.specs.Nodes.{decode_node, depths}
 use Rattle.query.proofs.Nodes.{query-left}
 use Rattle.query.specs.QueryAnswers.{QueryAnswerPlaced, QueryPlaced, query_in, query_of, query_reply}
-use Rattle.output.specs.declared.WriteAnswer.{WriteAnswer}
+use Rattle.output.specs.declared.Refusal.{Refusal}
 use Rattle.output.specs.WriteAnswers.{answered}
 use Rattle.write_items.specs.There.{items_there}
 use Rattle.write_items.proofs.Back.{items-here, query-here, written_back}
 
-module _ (s : List ℕ) (r : TagListAnswer)
+module _ (s : List ℕ) (r : Result Items Rule)
     (meaning : tag_list_reply s r ≡ reply (decode lone_tags s))
     (placed : TagListPlaced s r)
     (exact : (m : List messages.Tag) → (tag_list_reply s r ≡ message m) ↔ ((s ≡ encode_tags m) × Valid lone_tags m))
-    (l : Items) (accepted : r ≡ TagListAnswer.Accepted l) where
-  pub tag-list-back : (output out : List ℕ) (a : WriteAnswer) →
+    (l : Items) (accepted : r ≡ Ok l) where
+  pub tag-list-back : (output out : List ℕ) (a : Result ℕ Refusal) →
       WritesAt lone_tags (items_there decode_tag s l) (items_in decode_tag s l) output (answered a out) →
       RoundTrip lone_tags (items_there decode_tag s l) (items_in decode_tag s l) output (answered a out) →
       length s ≤ length output → answered a out ≡ record { number = 0; length = length s; output = overwritten s output }
@@ -61,12 +61,12 @@ query-inside s hb q h =
     let there = byte-ends s q.at first.was in
     ((codec-query {p = anywhere}).sound s hb q.at (omega (arith, there.0)) _ _ found tt).inside
 
-module _ (s : List ℕ) (r : QueryAnswer)
+module _ (s : List ℕ) (r : Result Query Rule)
     (meaning : query_reply s r ≡ reply (decode lone_query s))
     (placed : QueryAnswerPlaced s r)
     (demand3 : (m : messages.Query) → (query_reply s r ≡ message m) ↔ ((s ≡ encode_query m) × Valid lone_query m))
-    (q : Query) (accepted : r ≡ QueryAnswer.Accepted q) where
-  pub query-back : (output out : List ℕ) (a : WriteAnswer) →
+    (q : Query) (accepted : r ≡ Ok q) where
+  pub query-back : (output out : List ℕ) (a : Result ℕ Refusal) →
       WritesAt lone_query (ends (decode_query s q.at)) (query_in s q) output (answered a out) →
       RoundTrip lone_query (ends (decode_query s q.at)) (query_in s q) output (answered a out) →
       length s ≤ length output → answered a out ≡ record { number = 0; length = length s; output = overwritten s output }

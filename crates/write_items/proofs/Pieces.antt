@@ -1,4 +1,4 @@
--- Pieces of queries and tags: how many bytes they have, what a number of 0 says of their lengths, and which number it is.
+-- Pieces of queries and tags: how many bytes they have, what it says of their lengths that no check refuses them, and which number it is.
 use Prim.Native.Nat.{ℕ, ◌+◌, ◌≤◌, ◌<◌}
 use mathlib.Core.Path.{◌≡◌, refl, ap, ◌∙◌}
 use mathlib.Core.Bool.{Bool, true, false}
@@ -67,32 +67,32 @@ number-tag-size code n v =
     omega (arith, length-append (byte code) (encode_name n ++ dword v), length-append (encode_name n) (dword v), length-little_endian 1 code, length-name n, length-little_endian 4 v)
 
 -- Lengths of pieces with no fault.
-or-six : (t : Bool) (next : ℕ) → pick t next 6 ≡ 0 → (t ≡ true) × (next ≡ 0)
+or-six : (t : Bool) (next : ℕ) → 0 ≡ pick t next 6 → (t ≡ true) × (0 ≡ next)
 or-six true next e = (refl, e)
 or-six false next e = absurd (omega arith)
 
-pub count_fits : (n next : ℕ) → count_number n next ≡ 0 → (n < 65536) × (next ≡ 0)
+pub count_fits : (n next : ℕ) → 0 ≡ count_number n next → (n < 65536) × (0 ≡ next)
 count_fits n next e = let h = or-six (leb n 65535) next e in (omega (arith, leb-true n 65535 h.0), h.1)
 
-pub ceiling-fits : (n next : ℕ) → ceiling_number n next ≡ 0 → (n ≤ 65536) × (next ≡ 0)
+pub ceiling-fits : (n next : ℕ) → 0 ≡ ceiling_number n next → (n ≤ 65536) × (0 ≡ next)
 ceiling-fits n next e = let h = or-six (leb n 65536) next e in (leb-true n 65536 h.0, h.1)
 
-pub keyword-fits : (t : ℕ) → spec_keyword_number t ≡ 0 → (t < 65536) × (3 + t ≤ 65536)
+pub keyword-fits : (t : ℕ) → 0 ≡ spec_keyword_number t → (t < 65536) × (3 + t ≤ 65536)
 unfolding spec_keyword_number
 keyword-fits t e = let a = count_fits t _ e in (a.0, (ceiling-fits (3 + t) _ a.1).0)
 
-pub field_fits : (t n : ℕ) → spec_field_number t n ≡ 0 → (t < 65536) × ((n < 65536) × (5 + t + n ≤ 65536))
+pub field_fits : (t n : ℕ) → 0 ≡ spec_field_number t n → (t < 65536) × ((n < 65536) × (5 + t + n ≤ 65536))
 unfolding spec_field_number
 field_fits t n e =
     let a = count_fits t _ e in
     let b = count_fits n _ a.1 in
     (a.0, (b.0, (ceiling-fits (5 + t + n) _ b.1).0))
 
-pub limit-fits : (n : ℕ) → spec_limit_number n ≡ 0 → (n < 65536) × (8 + n ≤ 65536)
+pub limit-fits : (n : ℕ) → 0 ≡ spec_limit_number n → (n < 65536) × (8 + n ≤ 65536)
 unfolding spec_limit_number
 limit-fits n e = let a = count_fits n _ e in (a.0, (ceiling-fits (8 + n) _ a.1).0)
 
-pub tag_fits : (n t : ℕ) → spec_tag_number n t ≡ 0 → (n < 65536) × (t < 65536)
+pub tag_fits : (n t : ℕ) → 0 ≡ spec_tag_number n t → (n < 65536) × (t < 65536)
 unfolding spec_tag_number
 tag_fits n t e = let a = count_fits n _ e in (a.0, (count_fits t _ a.1).0)
 

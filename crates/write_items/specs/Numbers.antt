@@ -7,7 +7,6 @@ use Rattle.format.specs.Rules.{depth_limit, name_limit, packet_ceiling}
 use Rattle.format.specs.Writing.{Written, unwritten, written_into}
 use Rattle.query.specs.declared.Bound.{Bound}
 use Rattle.query.specs.declared.Operator.{Operator}
-use Rattle.query.specs.declared.QueryAnswer.{QueryAnswer}
 use Rattle.query.specs.QueryAnswers.{bound_of, operator_of}
 
 -- The number for pieces with these lengths: 6 for a text or name that its count field, a WORD, cannot hold; then what the reader says of
@@ -44,10 +43,6 @@ spec_bound_byte b = bound_code (bound_of b)
 
 abbrev pub spec_operator_byte : Operator → ℕ
 spec_operator_byte o = operator_code (operator_of o)
-
-abbrev pub spec_answer_number : QueryAnswer → ℕ
-spec_answer_number (QueryAnswer.Accepted q) = 0
-spec_answer_number (QueryAnswer.Refused n) = n
 
 -- The write of finished bytes that have this number.
 abbrev pub tried : ℕ → List ℕ → List ℕ → Written

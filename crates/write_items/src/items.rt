@@ -3,16 +3,16 @@ ghost use Rattle.std.specs.Prelude.{◌≡◌, ◌++◌, ◌+◌, ◌≤◌, len
 ghost use Rattle.format.specs.Messages.{string_type, dword_type, float_type, hash_type};
 ghost use Rattle.format.specs.Layout.{byte, dword, encode_name, encode_string};
 ghost use Rattle.format.specs.Order.{decode_name, decode_string};
-ghost use Rattle.format.specs.Writing.{StringFits, overwritten};
+ghost use Rattle.format.specs.Writing.{StringFits, overwritten, written_into};
 ghost use Rattle.wire.specs.WireAnswers.{hash_at};
-ghost use Rattle.output.specs.WriteAnswers.{answered};
+ghost use Rattle.output.specs.WriteAnswers.{answered, number_of};
 ghost use Rattle.write_items.specs.There.{hash_there, no_places};
 ghost use Rattle.write_items.specs.Item.{WritesItem, WritesTag, tag_of};
 ghost use Rattle.write_items.specs.Numbers.{count_number, spec_tag_number, tried};
 
-use crate::{WORD_MOST, name_number};
-use output::{LIMIT, ROOM, WriteAnswer, refused};
-use wire::{Cursor, HashStep};
+use crate::{WORD_MOST, check_name};
+use output::{Refusal, Written};
+use wire::Cursor;
 
 // The codes of the types of tags.
 const HASH_TYPE: u8 = 1;
@@ -25,56 +25,56 @@ const FLOAT_TYPE: u8 = 4;
 
 const HASH_BYTES: usize = 16;
 
-fn string_number(text: usize) -> u8
-    ensures { result ≡ count_number text 0 }
+fn check_string(text: usize) -> Result<(), Refusal>
+    ensures { number_of result ≡ count_number text 0 }
 {
-    if WORD_MOST < text { LIMIT } else { 0 }
+    if WORD_MOST < text {
+        Err(Refusal::Limit)
+    } else {
+        Ok(())
+    }
 }
 
-fn tag_number(name: usize, text: usize) -> u8
-    ensures { result ≡ spec_tag_number name text }
+#[tactic(auto, unfolding(crate::specs::Numbers::spec_tag_number))]
+fn check_tag(name: usize, text: usize) -> Result<(), Refusal>
+    ensures { number_of result ≡ spec_tag_number name text }
 {
     if WORD_MOST < name {
-        return LIMIT;
+        return Err(Refusal::Limit);
     }
     if WORD_MOST < text {
-        return LIMIT;
+        return Err(Refusal::Limit);
     }
-    name_number(name)
+    check_name(name)
 }
 
-// The String of a text whose number is known.
-fn write_text(number: u8, text: &[u8], out: &mut [u8]) -> WriteAnswer
-    requires { number ≡ 0 → StringFits text.now }
-    ensures { answered result out.new ≡ tried number (encode_string text.now) out.old }
+// The String of a text whose length is checked.
+fn write_text(text: &[u8], out: &mut [u8]) -> Written
+    requires { StringFits text.now }
+    ensures { answered result out.new ≡ written_into (encode_string text.now) out.old }
 {
-    if number != 0 {
-        return refused(number);
-    }
     if out.len() < 2 + text.len() {
-        return refused(ROOM);
+        return Err(Refusal::Room);
     }
-    let wrote = output::put_string(out, text);
-    WriteAnswer {
-        number: 0,
-        length: wrote,
-    }
+    Ok(output::put_string(out, text))
 }
 
 // A String: the WORD of its length and its bytes.
-pub fn write_string(text: &[u8], out: &mut [u8]) -> WriteAnswer
+pub fn write_string(text: &[u8], out: &mut [u8]) -> Written
     ensures { WritesItem StringFits encode_string decode_string no_places text.now
         out.old (answered result out.new) }
 {
-    write_text(string_number(text.len()), text, out)
+    check_string(text.len())?;
+    write_text(text, out)
 }
 
 // A name: encoded as a String, of 1 to 255 bytes.
-pub fn write_name(name: &[u8], out: &mut [u8]) -> WriteAnswer
+pub fn write_name(name: &[u8], out: &mut [u8]) -> Written
     ensures { WritesItem StringFits encode_name decode_name no_places name.now
         out.old (answered result out.new) }
 {
-    write_text(tag_number(name.len(), 0), name, out)
+    check_tag(name.len(), 0)?;
+    write_text(name, out)
 }
 
 // The type and the name of a tag.
@@ -109,45 +109,31 @@ fn put_text_tag(out: &mut [u8], name: &[u8], text: &[u8]) -> usize
 }
 
 // A String tag.
-pub fn write_text_tag(name: &[u8], text: &[u8], out: &mut [u8]) -> WriteAnswer
+pub fn write_text_tag(name: &[u8], text: &[u8], out: &mut [u8]) -> Written
     ensures { WritesTag no_places (tag_of name.now string_type text.now)
         out.old (answered result out.new) }
 {
-    let number = tag_number(name.len(), text.len());
-    if number != 0 {
-        return refused(number);
-    }
+    check_tag(name.len(), text.len())?;
     if out.len() < 5 + name.len() + text.len() {
-        return refused(ROOM);
+        return Err(Refusal::Room);
     }
-    let wrote = put_text_tag(out, name, text);
-    WriteAnswer {
-        number: 0,
-        length: wrote,
-    }
+    Ok(put_text_tag(out, name, text))
 }
 
 // A tag that holds 4 bytes, of the type with this code.
-fn write_number_tag(name: &[u8], code: u8, value: u32, out: &mut [u8]) -> WriteAnswer
+fn write_number_tag(name: &[u8], code: u8, value: u32, out: &mut [u8]) -> Written
     ensures { answered result out.new ≡
         tried (spec_tag_number (length name.now) 0) (byte code ++ (encode_name name.now ++ dword value)) out.old }
 {
-    let number = tag_number(name.len(), 0);
-    if number != 0 {
-        return refused(number);
-    }
+    check_tag(name.len(), 0)?;
     if out.len() < 7 + name.len() {
-        return refused(ROOM);
+        return Err(Refusal::Room);
     }
-    let wrote = put_number_tag(out, code, name, value);
-    WriteAnswer {
-        number: 0,
-        length: wrote,
-    }
+    Ok(put_number_tag(out, code, name, value))
 }
 
 // A DWORD tag.
-pub fn write_dword_tag(name: &[u8], value: u32, out: &mut [u8]) -> WriteAnswer
+pub fn write_dword_tag(name: &[u8], value: u32, out: &mut [u8]) -> Written
     ensures { WritesTag no_places (tag_of name.now dword_type value)
         out.old (answered result out.new) }
 {
@@ -155,7 +141,7 @@ pub fn write_dword_tag(name: &[u8], value: u32, out: &mut [u8]) -> WriteAnswer
 }
 
 // A FLOAT tag, given as its bits.
-pub fn write_float_tag(name: &[u8], bits: u32, out: &mut [u8]) -> WriteAnswer
+pub fn write_float_tag(name: &[u8], bits: u32, out: &mut [u8]) -> Written
     ensures { WritesTag no_places (tag_of name.now float_type bits)
         out.old (answered result out.new) }
 {
@@ -173,26 +159,16 @@ fn put_hash_tag(out: &mut [u8], name: &[u8], hash: &[u8]) -> usize
 }
 
 // A HASH tag. The hash is the 16 bytes at an offset of `src`; where they end too early, the number is that of their own reading.
-pub fn write_hash_tag(name: &[u8], src: &[u8], at: usize, out: &mut [u8]) -> WriteAnswer
+pub fn write_hash_tag(name: &[u8], src: &[u8], at: usize, out: &mut [u8]) -> Written
     ensures { WritesTag (hash_there src.now at) (tag_of name.now hash_type (hash_at src.now at))
         out.old (answered result out.new) }
 {
     let cursor = Cursor { at };
-    let step = cursor.hash(src);
-    let HashStep::Got(_, _) = step else {
-        return refused(step.fault().number());
-    };
-    let number = tag_number(name.len(), 0);
-    if number != 0 {
-        return refused(number);
-    }
+    cursor.hash(src)?;
+    check_tag(name.len(), 0)?;
     if out.len() < 19 + name.len() {
-        return refused(ROOM);
+        return Err(Refusal::Room);
     }
     let hash = wire::bytes_at(src, at, HASH_BYTES);
-    let wrote = put_hash_tag(out, name, hash);
-    WriteAnswer {
-        number: 0,
-        length: wrote,
-    }
+    Ok(put_hash_tag(out, name, hash))
 }

@@ -11,21 +11,18 @@ ghost use Rattle.output.specs.WriteAnswers.{answered};
 ghost use Rattle.write_items.specs.There.{items_there};
 
 use crate::PACKET_CEILING;
-use output::{LIMIT, ROOM, WriteAnswer, refused};
-use wire::{Cursor, DoneStep, Items, ItemsStep};
+use output::{Refusal, Written};
+use wire::{Cursor, Fault, Items};
 
 // What the byte ceiling leaves for the tags of a list after their count.
 const TAGS_CEILING: usize = PACKET_CEILING - 4;
 
 // The offset after `count` tags, each of which is read.
-pub fn tags_end(s: &[u8], first: Cursor, count: u32) -> DoneStep
+pub fn tags_end(s: &[u8], first: Cursor, count: u32) -> Result<Cursor, Fault>
     ensures { done_meaning result ≡ ends (decode_many count decode_tag s.now first.at) }
 {
-    let step = tags::tags_from(s, first, count);
-    let ItemsStep::Got(_, next) = step else {
-        return DoneStep::Refused(step.fault());
-    };
-    DoneStep::Got(next)
+    let (_, next) = tags::tags_from(s, first, count)?;
+    Ok(next)
 }
 
 // A DWORD count, and after it the bytes of that many items. The answer is how many bytes were written. It is public for the
@@ -42,30 +39,21 @@ pub fn put_list(out: &mut [u8], count: u32, items: &[u8]) -> usize
 
 // The lone tag list of the tags that are encoded at an offset of `src`, as the readers return it. They are read again, and their
 // bytes are copied. An offset at which they are not encoded is refused first, with the number of its own reading.
-pub fn write_tag_list(src: &[u8], tags: Items, out: &mut [u8]) -> WriteAnswer
+pub fn write_tag_list(src: &[u8], tags: Items, out: &mut [u8]) -> Written
     ensures writes { WritesAt lone_tags (items_there decode_tag src.now tags) (items_in decode_tag src.now tags)
         out.old (answered result out.new) }
     ensures round { RoundTrip lone_tags (items_there decode_tag src.now tags) (items_in decode_tag src.now tags)
         out.old (answered result out.new) }
 {
     let at = tags.at;
-    let count = tags.count;
-    let step = tags_end(src, Cursor { at }, count);
-    let DoneStep::Got(next) = step else {
-        return refused(step.fault().number());
-    };
-    let end = next.at;
-    let size = end - at;
+    let next = tags_end(src, Cursor { at }, tags.count)?;
+    let size = next.at - at;
     if TAGS_CEILING < size {
-        return refused(LIMIT);
+        return Err(Refusal::Limit);
     }
     if out.len() < 4 + size {
-        return refused(ROOM);
+        return Err(Refusal::Room);
     }
     let items = wire::bytes_at(src, at, size);
-    let wrote = put_list(out, count, items);
-    WriteAnswer {
-        number: 0,
-        length: wrote,
-    }
+    Ok(put_list(out, tags.count, items))
 }

@@ -7,16 +7,16 @@ ghost use Rattle.format.specs.Order.{decode_query};
 ghost use Rattle.format.specs.MetOrder.{decode};
 ghost use Rattle.format.specs.Writing.{StringFits, overwritten};
 ghost use Rattle.format.specs.RoundTrip.{RoundTrip, WritesAt};
-ghost use Rattle.output.specs.WriteAnswers.{answered};
+ghost use Rattle.output.specs.WriteAnswers.{answered, number_of};
 ghost use Rattle.query.specs.QueryAnswers.{bound_of, operator_of, query_in};
 ghost use Rattle.write_items.specs.There.{no_places};
 ghost use Rattle.write_items.specs.Writers.{join_of, sides_there};
-ghost use Rattle.write_items.specs.Numbers.{spec_bound_byte, spec_operator_byte, spec_answer_number};
+ghost use Rattle.write_items.specs.Numbers.{spec_bound_byte, spec_operator_byte};
 ghost use Rattle.write_items.specs.Numbers.{spec_keyword_number, spec_field_number, spec_limit_number, spec_join_number};
 
-use crate::{PACKET_CEILING, WORD_MOST, name_number};
-use output::{LIMIT, ROOM, WriteAnswer, refused};
-use query::{Bound, Operator, Query, QueryAnswer, QueryStep};
+use crate::{PACKET_CEILING, WORD_MOST, check_name};
+use output::{Refusal, Written};
+use query::{Bound, Operator, Query};
 use wire::Cursor;
 
 // The bytes that the cases of a query begin with.
@@ -34,42 +34,49 @@ const DEPTH_LIMIT: usize = 24;
 // What the byte ceiling leaves for the sides of a join after its two bytes.
 const SIDES_CEILING: usize = PACKET_CEILING - 2;
 
-// The numbers for pieces that have these lengths, in the order of document 01; the writers check the room after them.
+// The checks of pieces that have these lengths, in the order of document 01; the writers check the room after them.
 
-fn keyword_number(text: usize) -> u8
-    ensures { result ≡ spec_keyword_number text }
+#[tactic(auto, unfolding(crate::specs::Numbers::spec_keyword_number))]
+fn check_keyword(text: usize) -> Result<(), Refusal>
+    ensures { number_of result ≡ spec_keyword_number text }
 {
     if WORD_MOST < text {
-        return LIMIT;
+        return Err(Refusal::Limit);
     }
-    if PACKET_CEILING < 3 + text { LIMIT } else { 0 }
+    if PACKET_CEILING < 3 + text {
+        Err(Refusal::Limit)
+    } else {
+        Ok(())
+    }
 }
 
-fn field_number(text: usize, name: usize) -> u8
-    ensures { result ≡ spec_field_number text name }
+#[tactic(auto, unfolding(crate::specs::Numbers::spec_field_number))]
+fn check_field(text: usize, name: usize) -> Result<(), Refusal>
+    ensures { number_of result ≡ spec_field_number text name }
 {
     if WORD_MOST < text {
-        return LIMIT;
+        return Err(Refusal::Limit);
     }
     if WORD_MOST < name {
-        return LIMIT;
+        return Err(Refusal::Limit);
     }
     if PACKET_CEILING < 5 + text + name {
-        return LIMIT;
+        return Err(Refusal::Limit);
     }
-    name_number(name)
+    check_name(name)
 }
 
-fn limit_number(name: usize) -> u8
-    ensures { result ≡ spec_limit_number name }
+#[tactic(auto, unfolding(crate::specs::Numbers::spec_limit_number))]
+fn check_limit(name: usize) -> Result<(), Refusal>
+    ensures { number_of result ≡ spec_limit_number name }
 {
     if WORD_MOST < name {
-        return LIMIT;
+        return Err(Refusal::Limit);
     }
     if PACKET_CEILING < 8 + name {
-        return LIMIT;
+        return Err(Refusal::Limit);
     }
-    name_number(name)
+    check_name(name)
 }
 
 // The pieces of a query, at the front of what is lent. Each returns how many bytes it wrote.
@@ -119,66 +126,45 @@ fn put_limit(out: &mut [u8], value: u32, bound: Bound, name: &[u8]) -> usize
 }
 
 // A lone query that is a keyword.
-pub fn write_keyword(text: &[u8], out: &mut [u8]) -> WriteAnswer
+pub fn write_keyword(text: &[u8], out: &mut [u8]) -> Written
     ensures writes { WritesAt lone_query no_places (keyword text.now)
         out.old (answered result out.new) }
     ensures round { RoundTrip lone_query no_places (keyword text.now)
         out.old (answered result out.new) }
 {
-    let number = keyword_number(text.len());
-    if number != 0 {
-        return refused(number);
-    }
+    check_keyword(text.len())?;
     if out.len() < 3 + text.len() {
-        return refused(ROOM);
+        return Err(Refusal::Room);
     }
-    let wrote = put_keyword(out, text);
-    WriteAnswer {
-        number: 0,
-        length: wrote,
-    }
+    Ok(put_keyword(out, text))
 }
 
 // A lone query that is a field: a text and the name of the tag that must equal it.
-pub fn write_field(text: &[u8], name: &[u8], out: &mut [u8]) -> WriteAnswer
+pub fn write_field(text: &[u8], name: &[u8], out: &mut [u8]) -> Written
     ensures writes { WritesAt lone_query no_places (field text.now name.now)
         out.old (answered result out.new) }
     ensures round { RoundTrip lone_query no_places (field text.now name.now)
         out.old (answered result out.new) }
 {
-    let number = field_number(text.len(), name.len());
-    if number != 0 {
-        return refused(number);
-    }
+    check_field(text.len(), name.len())?;
     if out.len() < 5 + text.len() + name.len() {
-        return refused(ROOM);
+        return Err(Refusal::Room);
     }
-    let wrote = put_field(out, text, name);
-    WriteAnswer {
-        number: 0,
-        length: wrote,
-    }
+    Ok(put_field(out, text, name))
 }
 
 // A lone query that is a limit: a number, whether it is the least or the most, and the name of the tag that must keep to it.
-pub fn write_limit(value: u32, bound: Bound, name: &[u8], out: &mut [u8]) -> WriteAnswer
+pub fn write_limit(value: u32, bound: Bound, name: &[u8], out: &mut [u8]) -> Written
     ensures writes { WritesAt lone_query no_places (limit value (bound_of bound) name.now)
         out.old (answered result out.new) }
     ensures round { RoundTrip lone_query no_places (limit value (bound_of bound) name.now)
         out.old (answered result out.new) }
 {
-    let number = limit_number(name.len());
-    if number != 0 {
-        return refused(number);
-    }
+    check_limit(name.len())?;
     if out.len() < 8 + name.len() {
-        return refused(ROOM);
+        return Err(Refusal::Room);
     }
-    let wrote = put_limit(out, value, bound, name);
-    WriteAnswer {
-        number: 0,
-        length: wrote,
-    }
+    Ok(put_limit(out, value, bound, name))
 }
 
 fn operator_byte(operator: Operator) -> u8
@@ -191,30 +177,30 @@ fn operator_byte(operator: Operator) -> u8
     }
 }
 
-// The number of an answer, 0 for an accepted query.
-fn answer_number(answer: QueryAnswer) -> u8
-    ensures { result ≡ spec_answer_number answer }
-{
-    match answer {
-        QueryAnswer::Accepted(_) => 0,
-        QueryAnswer::Refused(number) => number,
-    }
-}
-
-// The number for a join of two queries that have these sizes and depths.
-fn join_number(left: usize, right: usize, left_depth: usize, right_depth: usize) -> u8
-    ensures { result ≡ spec_join_number (2 + left + right) (suc (max left_depth right_depth)) }
+// The check of a join of two queries that have these sizes and depths.
+#[tactic(auto, unfolding(crate::specs::Numbers::spec_join_number))]
+fn check_join(
+    left: usize,
+    right: usize,
+    left_depth: usize,
+    right_depth: usize,
+) -> Result<(), Refusal>
+    ensures { number_of result ≡ spec_join_number (2 + left + right) (suc (max left_depth right_depth)) }
 {
     if SIDES_CEILING < left {
-        return LIMIT;
+        return Err(Refusal::Limit);
     }
     if SIDES_CEILING - left < right {
-        return LIMIT;
+        return Err(Refusal::Limit);
     }
     if DEPTH_LIMIT <= left_depth {
-        return LIMIT;
+        return Err(Refusal::Limit);
     }
-    if DEPTH_LIMIT <= right_depth { LIMIT } else { 0 }
+    if DEPTH_LIMIT <= right_depth {
+        Err(Refusal::Limit)
+    } else {
+        Ok(())
+    }
 }
 
 fn put_join(out: &mut [u8], operator: Operator, left: &[u8], right: &[u8]) -> usize
@@ -234,7 +220,7 @@ fn put_join(out: &mut [u8], operator: Operator, left: &[u8], right: &[u8]) -> us
 
 // A lone query that joins two lone queries, given as their bytes. A side that is no lone query is refused with its own number, the
 // left one first; then the join is checked like any other query.
-pub fn write_join(operator: Operator, left: &[u8], right: &[u8], out: &mut [u8]) -> WriteAnswer
+pub fn write_join(operator: Operator, left: &[u8], right: &[u8], out: &mut [u8]) -> Written
     ensures writes { WritesAt lone_query (sides_there (decode lone_query left.now) (decode lone_query right.now))
         (join_of (operator_of operator) (decode lone_query left.now) (decode lone_query right.now))
         out.old (answered result out.new) }
@@ -242,52 +228,32 @@ pub fn write_join(operator: Operator, left: &[u8], right: &[u8], out: &mut [u8])
         (join_of (operator_of operator) (decode lone_query left.now) (decode lone_query right.now))
         out.old (answered result out.new) }
 {
-    let left_answer = query::read_lone_query(left);
-    let QueryAnswer::Accepted(left_query) = left_answer else {
-        return refused(answer_number(left_answer));
-    };
-    let right_answer = query::read_lone_query(right);
-    let QueryAnswer::Accepted(right_query) = right_answer else {
-        return refused(answer_number(right_answer));
-    };
-    let number = join_number(left.len(), right.len(), left_query.depth, right_query.depth);
-    if number != 0 {
-        return refused(number);
-    }
+    let left_query = query::read_lone_query(left)?;
+    let right_query = query::read_lone_query(right)?;
+    check_join(left.len(), right.len(), left_query.depth, right_query.depth)?;
     if out.len() < 2 + left.len() + right.len() {
-        return refused(ROOM);
+        return Err(Refusal::Room);
     }
-    let wrote = put_join(out, operator, left, right);
-    WriteAnswer {
-        number: 0,
-        length: wrote,
-    }
+    Ok(put_join(out, operator, left, right))
 }
 
 // The lone query that is encoded at an offset of `src`, as the readers return it. It is read again, and its bytes are copied.
-pub fn write_query(src: &[u8], q: Query, out: &mut [u8]) -> WriteAnswer
+pub fn write_query(src: &[u8], q: Query, out: &mut [u8]) -> Written
     ensures writes { WritesAt lone_query (ends (decode_query src.now q.at)) (query_in src.now q)
         out.old (answered result out.new) }
     ensures round { RoundTrip lone_query (ends (decode_query src.now q.at)) (query_in src.now q)
         out.old (answered result out.new) }
 {
     let at = q.at;
-    let step = query::read_query(src, Cursor { at });
-    let QueryStep::Got(_, next) = step else {
-        return refused(step.fault().number());
-    };
-    let end = next.at;
-    let size = end - at;
+    let (_, next) = query::read_query(src, Cursor { at })?;
+    let size = next.at - at;
     if PACKET_CEILING < size {
-        return refused(LIMIT);
+        return Err(Refusal::Limit);
     }
     if out.len() < size {
-        return refused(ROOM);
+        return Err(Refusal::Room);
     }
     let bytes = wire::bytes_at(src, at, size);
     output::copy(out, bytes);
-    WriteAnswer {
-        number: 0,
-        length: size,
-    }
+    Ok(size)
 }

@@ -40,10 +40,10 @@ pub wrong-opening : (opening : ℕ) → Byte opening → eqb opening 0x0E ≡ fa
 unfolding decode_opening
 wrong-opening opening h e rest = rw ((codec-byte {p = anywhere}).complete (byte opening ++ rest) 0 opening rest h refl (omega arith) tt, e) refl
 
--- What the writer owes, once the entries are found to have n bytes and the number is known.
-abbrev pub KnownReady : List ℕ → KnownMet → (n number : ℕ) → Type 0
-KnownReady s m n number =
-    Ready (Promised known_met (known_there s m) (known_met_in s m)) number (byte m.opening ++ (dword m.entries.count ++ bytes_at s m.entries.at n)) (5 + n)
+-- What the writer owes, once the entries are found to have n bytes.
+abbrev pub KnownReady : List ℕ → KnownMet → (n : ℕ) → Type 0
+KnownReady s m n =
+    Ready (Promised known_met (known_there s m) (known_met_in s m)) (spec_opening_number m.opening (5 + n)) (byte m.opening ++ (dword m.entries.count ++ bytes_at s m.entries.at n)) (5 + n)
 
 module _ (s : List ℕ) (known : (i : ℕ) → Fits w8 (get_or s i 0)) (m : KnownMet) where
   abbrev file : messages.KnownMet
@@ -89,16 +89,16 @@ module _ (s : List ℕ) (known : (i : ℕ) → Fits w8 (get_or s i 0)) (m : Know
             refused_for fit (fault Rule.opening 0 1)
             (rw (le-leb (length (encode_known_met file)) met_ceiling within, wrong-opening m.opening small e (dword (length file.entries) ++ encode_all encode_file_entry file.entries)) refl)
 
-    pub known-ready : {number : ℕ} → number ≡ spec_opening_number m.opening (5 + n) → Byte m.opening → Dword m.entries.count → KnownReady s m n number
-    known-ready e small few =
-        message-ready there (subst (Judged known_met file) (sym e) (known-judged small few)) known_bytes (subst Bytes (sym known_bytes) known-encoding) (ap length known_bytes ∙ known-size)
+    pub known-ready : Byte m.opening → Dword m.entries.count → KnownReady s m n
+    known-ready small few =
+        message-ready there (known-judged small few) known_bytes (subst Bytes (sym known_bytes) known-encoding) (ap length known_bytes ∙ known-size)
 
 -- A file with no fault is within the ceiling.
-pub opening-fits : (opening size : ℕ) → spec_opening_number opening size ≡ 0 → size ≤ met_ceiling
+pub opening-fits : (opening size : ℕ) → 0 ≡ spec_opening_number opening size → size ≤ met_ceiling
 unfolding spec_opening_number
 opening-fits opening size e = go (leb size met_ceiling) refl e
   where
-    go : (t : Bool) → leb size met_ceiling ≡ t → ◌≡◌ {A = ℕ} (pick t (pick (eqb opening 0x0E) 0 2) 6) 0 → size ≤ met_ceiling
+    go : (t : Bool) → leb size met_ceiling ≡ t → ◌≡◌ {A = ℕ} 0 (pick t (pick (eqb opening 0x0E) 0 2) 6) → size ≤ met_ceiling
     go true q z = leb-true size met_ceiling q
     go false q z = absurd (omega arith)
 

@@ -14,13 +14,14 @@ use Rattle.format.proofs.Codec.{Codec, anywhere}
 use Rattle.format.proofs.There.{run-was}
 use Rattle.format.proofs.Writing.{NeedsByte}
 use Rattle.wire.specs.declared.Items.{Items}
-use Rattle.wire.specs.declared.ItemsStep.{ItemsStep}
 use Rattle.wire.specs.WireAnswers.{hash_at, items_in, items_meaning}
 use Rattle.wire.proofs.Replies.{slice-bytes}
 use Rattle.write_items.specs.There.{hash_there, items_there}
 use Rattle.write_items.proofs.There.{ends-got, is-there, valid-hash}
 use Rattle.write_items.proofs.Listed.{listed}
 use Rattle.write_met.specs.Lengths.{EndsAfter, items_end}
+use Rattle.std.specs.Prelude.{Ok, Err}
+use Rattle.wire.specs.WireAnswers.{Step}
 
 -- The items of a list lie in n bytes from its place on.
 pub record Here {A : Type 0} (encode : A → List ℕ) (Valid : A → Type 0) (s : List ℕ) (l : Items) (items : List A) (n : ℕ) : Type 0 where
@@ -43,14 +44,14 @@ module _ {A : Type 0} {d : Decoder A} {encode : A → List ℕ} {Valid : A → T
   pub end_after : {next : ℕ} → got tt next ≡ items_there d s l → l.at ≤ next
   end_after e = (listed L needed s hb l (sym e)).order
 
-  pub list-after : (r : ItemsStep) → items_meaning d s r ≡ decode_many l.count d s l.at → EndsAfter l.at r
-  list-after (ItemsStep.Got k c) e = end_after (ends-got e)
-  list-after (ItemsStep.Refused f) e = tt
+  pub list-after : (r : Step Items) → items_meaning d s r ≡ decode_many l.count d s l.at → EndsAfter l.at r
+  list-after (Ok (k, c)) e = end_after (ends-got e)
+  list-after (Err f) e = tt
 
-  pub list-ends : (r : ItemsStep) → items_meaning d s r ≡ decode_many l.count d s l.at → items_end r ≡ items_there d s l
+  pub list-ends : (r : Step Items) → items_meaning d s r ≡ decode_many l.count d s l.at → items_end r ≡ items_there d s l
   unfolding ends
-  list-ends (ItemsStep.Got k c) e = rw (← e) refl
-  list-ends (ItemsStep.Refused f) e = rw (← e) refl
+  list-ends (Ok (k, c)) e = rw (← e) refl
+  list-ends (Err f) e = rw (← e) refl
 
 -- Hashes of k bytes each.
 pub hashes-size : (k : ℕ) (l : List (List ℕ)) → All (λ h. (length h ≡ k) × Bytes h) l → length (encode_all encode_hash l) ≡ k * length l

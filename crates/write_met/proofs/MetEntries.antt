@@ -9,24 +9,35 @@ use mir.Syntax.{w8}
 use mir.Val.{Fits}
 use Rattle.format.specs.Layout.{dword, encode_file_entry, encode_hash, encode_server_entry, encode_tag, encode_tags, word}
 use Rattle.format.specs.Rules.{ValidHash, ValidTag}
-use Rattle.format.specs.Decoding.{Fault, bytes_at, got, number, refused}
+use Rattle.format.specs.Decoding.{Outcome, bytes_at, got, refused}
 use Rattle.format.specs.Order.{decode_hash, decode_tag}
-use Rattle.format.specs.Writing.{overwritten, unwritten}
+use Rattle.format.specs.Writing.{Written, overwritten, unwritten}
 use Rattle.format.proofs.Codec.{length-little_endian}
 use Rattle.format.proofs.Items.{codec-hash, codec-tag}
 use Rattle.format.proofs.Writing.{hash-needed, tag-needed}
+use Rattle.wire.specs.declared.Fault as wire
 use Rattle.wire.specs.declared.Items.{Items}
-use Rattle.wire.specs.WireAnswers.{hash_at, items_in}
+use Rattle.wire.specs.WireAnswers.{fault_meaning, hash_at, items_in}
+use Rattle.wire.proofs.Steps.{propagated}
+use Rattle.output.specs.declared.Refusal.{Refusal}
+use Rattle.output.specs.WriteAnswers.{answered, refusal_of}
+use Rattle.output.proofs.Refusals.{number-of-rule}
 use Rattle.met.specs.declared.FileEntry.{FileEntry}
 use Rattle.met.specs.declared.ServerEntry.{ServerEntry}
 use Rattle.met.specs.MetAnswers.{file_entry_in, server_entry_in}
 use Rattle.write_items.specs.There.{hash_there, items_there}
-use Rattle.write_met.specs.declared.EntryStep.{EntryStep}
+use Rattle.write_items.specs.Writers.{write_there}
 use Rattle.write_met.specs.MetWrites.{file_entry_there, server_entry_there}
 use Rattle.write_met.specs.Lengths.{EntryMeaning, entry_head}
 use Rattle.write_met.specs.MetEntries.{spec_write_file_entry, spec_write_server_entry}
 use Rattle.write_met.proofs.Lists.{Here, hash-valid, hashes-size, list-here}
 use Rattle.write_items.proofs.There.{then-there}
+use Rattle.std.specs.Prelude.{IsErrAnd, Ok, Result}
+
+-- `?` passes on the fault of a place.
+pub entry-missing : {there : Outcome (Unit {0})} (output : List ℕ) (w : Written) (f : wire.Fault) (answer : Result ℕ Refusal) → IsErrAnd answer (λ g. g ≡ refusal_of f.rule) →
+    refused (fault_meaning f) ≡ there → answered answer output ≡ write_there there output w
+entry-missing output w f answer passed e = rw (propagated answer passed, number-of-rule f.rule, ← e) refl
 
 module _ (s : List ℕ) (known : (i : ℕ) → Fits w8 (get_or s i 0)) where
   -- What a writer copies has the length that was found.
@@ -37,11 +48,7 @@ module _ (s : List ℕ) (known : (i : ℕ) → Fits w8 (get_or s i 0)) where
   parts-size l p e = let h = list-here codec-hash hash-needed s known l e in ap length h.bytes ∙ h.size
 
   module _ (e : FileEntry) where
-    pub entry-missing : {f : Fault} (output : List ℕ) → refused f ≡ file_entry_there s e → unwritten (number f.rule) output ≡ spec_write_file_entry s e output
-    unfolding spec_write_file_entry
-    entry-missing output q = rw (← q) refl
-
-    module _ (p t : ℕ) (h : EntryMeaning s e (EntryStep.Got p t)) where
+    module _ (p t : ℕ) (h : EntryMeaning s e (Ok (p, t))) where
       pub parts-here : Here encode_hash ValidHash s e.parts (items_in decode_hash s e.parts) p
       parts-here = list-here codec-hash hash-needed s known e.parts h.1.0
 
@@ -81,18 +88,14 @@ module _ (s : List ℕ) (known : (i : ℕ) → Fits w8 (get_or s i 0)) where
           unfolding spec_write_file_entry
           entry-roomless q = rw (← entry-there, parts-here.count, le-leb e.parts.count 65535 few, lt-leb (length (encode_file_entry (file_entry_in s e))) (length output) (rw entry-size q)) refl
 
-          pub entry-written : 26 + p + t ≤ length output →
-              record { number = 0; length = 26 + p + t; output = overwritten (encode_file_entry (file_entry_in s e)) output } ≡ spec_write_file_entry s e output
+          pub entry-written : {new : List ℕ} {wrote : ℕ} → 26 + p + t ≤ length output →
+              record { written : wrote ≡ 26 + p + t; output : new ≡ overwritten (encode_file_entry (file_entry_in s e)) output } → answered (Ok wrote) new ≡ spec_write_file_entry s e output
           unfolding spec_write_file_entry
-          entry-written q =
-              rw (← entry-there, parts-here.count, le-leb e.parts.count 65535 few, le-leb (length (encode_file_entry (file_entry_in s e))) (length output) (rw entry-size q), entry-size)
+          entry-written q put =
+              rw (put.written, put.output, ← entry-there, parts-here.count, le-leb e.parts.count 65535 few, le-leb (length (encode_file_entry (file_entry_in s e))) (length output) (rw entry-size q), entry-size)
               refl
 
   module _ (e : ServerEntry) where
-    pub server-missing : {f : Fault} (output : List ℕ) → refused f ≡ server_entry_there s e → unwritten (number f.rule) output ≡ spec_write_server_entry s e output
-    unfolding spec_write_server_entry
-    server-missing output q = rw (← q) refl
-
     module _ (t : ℕ) (there : got tt (e.tags.at + t) ≡ server_entry_there s e) where
       server-here : Here encode_tag ValidTag s e.tags (items_in decode_tag s e.tags) t
       server-here = list-here codec-tag tag-needed s known e.tags there
@@ -112,7 +115,7 @@ module _ (s : List ℕ) (known : (i : ℕ) → Fits w8 (get_or s i 0)) where
         unfolding spec_write_server_entry
         server-roomless q = rw (← there, lt-leb (length (encode_server_entry (server_entry_in s e))) (length output) (rw server-size q)) refl
 
-        pub server-written : 10 + t ≤ length output →
-            record { number = 0; length = 10 + t; output = overwritten (encode_server_entry (server_entry_in s e)) output } ≡ spec_write_server_entry s e output
+        pub server-written : {new : List ℕ} {wrote : ℕ} → 10 + t ≤ length output →
+            record { written : wrote ≡ 10 + t; output : new ≡ overwritten (encode_server_entry (server_entry_in s e)) output } → answered (Ok wrote) new ≡ spec_write_server_entry s e output
         unfolding spec_write_server_entry
-        server-written q = rw (← there, le-leb (length (encode_server_entry (server_entry_in s e))) (length output) (rw server-size q), server-size) refl
+        server-written q put = rw (put.written, put.output, ← there, le-leb (length (encode_server_entry (server_entry_in s e))) (length output) (rw server-size q), server-size) refl

@@ -37,10 +37,10 @@ use Rattle.write_met.proofs.Known.{wrong-opening}
 server-fits : (e : messages.ServerEntry) → ValidServerEntry e → ServerEntryFits e
 server-fits e h = tags-fit e.tags h.tags
 
--- What the writer owes, once the entries are found to have n bytes and the number is known.
-abbrev pub ServerReady : List ℕ → ServerMet → (n number : ℕ) → Type 0
-ServerReady s m n number =
-    Ready (Promised server_met (server_there s m) (server_met_in s m)) number
+-- What the writer owes, once the entries are found to have n bytes.
+abbrev pub ServerReady : List ℕ → ServerMet → (n : ℕ) → Type 0
+ServerReady s m n =
+    Ready (Promised server_met (server_there s m) (server_met_in s m)) (spec_opening_number m.opening (5 + (n + m.tail.len)))
     ((byte m.opening ++ (dword m.entries.count ++ bytes_at s m.entries.at n)) ++ bytes_at s m.tail.at m.tail.len) (5 + (n + m.tail.len))
 
 module _ (s : List ℕ) (known : (i : ℕ) → Fits w8 (get_or s i 0)) (m : ServerMet) where
@@ -104,7 +104,7 @@ module _ (s : List ℕ) (known : (i : ℕ) → Fits w8 (get_or s i 0)) (m : Serv
             )
             refl)
 
-    pub server-ready : {number : ℕ} → number ≡ spec_opening_number m.opening (5 + (n + tail)) → Byte m.opening → Dword m.entries.count → ServerReady s m n number
-    server-ready e small few =
-        message-ready (then-there there (ends-got run)) (subst (Judged server_met file) (sym e) (server-judged small few)) server-bytes
+    pub server-ready : Byte m.opening → Dword m.entries.count → ServerReady s m n
+    server-ready small few =
+        message-ready (then-there there (ends-got run)) (server-judged small few) server-bytes
         (subst Bytes (sym server-bytes) server-encoding) (ap length server-bytes ∙ server-size)

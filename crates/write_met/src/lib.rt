@@ -9,7 +9,7 @@
 
 #![tactic(auto)]
 
-ghost use Rattle.std.specs.Prelude.{◌≡◌, ◌++◌, ◌+◌, ◌≤◌, length};
+ghost use Rattle.std.specs.Prelude.{◌≡◌, ◌++◌, ◌+◌, ◌≤◌, Ok, length};
 ghost use Rattle.format.specs.Messages.{known_met, server_met};
 ghost use Rattle.format.specs.Layout.{byte, dword, word, encode_file_entry, encode_server_entry};
 ghost use Rattle.format.specs.Decoding.{got};
@@ -18,19 +18,19 @@ ghost use Rattle.format.specs.MetOrder.{decode_file_entry, decode_server_entry};
 ghost use Rattle.format.specs.Writing.{overwritten};
 ghost use Rattle.met.specs.MetAnswers.{file_entry_in, server_entry_in, known_met_in, server_met_in};
 ghost use Rattle.write_items.specs.There.{hash_there, items_there};
-ghost use Rattle.output.specs.WriteAnswers.{answered};
+ghost use Rattle.output.specs.WriteAnswers.{answered, number_of};
 ghost use Rattle.format.specs.RoundTrip.{RoundTrip, WritesAt};
 ghost use Rattle.write_met.specs.MetWrites.{server_entry_there, known_there, server_there};
-ghost use Rattle.write_met.specs.Lengths.{length_meaning, length_fault, items_end, EndsAfter, EntryMeaning, entry_fault, entry_head, spec_opening_number};
+ghost use Rattle.write_met.specs.Lengths.{length_meaning, items_end, EndsAfter, EntryMeaning, entry_head, spec_opening_number};
 ghost use Rattle.write_met.specs.MetEntries.{spec_write_file_entry, spec_write_server_entry};
 
 use met::{
     FileEntry, KnownMet, MET_CEILING, ServerEntry, ServerMet, file_entries_from,
     server_entries_from,
 };
-use output::{LIMIT, OPENING, ROOM, WriteAnswer, copy, put_byte, put_dword, put_word, refused};
+use output::{Refusal, Written, copy, put_byte, put_dword, put_word};
 use records::hashes_from;
-use wire::{Cursor, DoneStep, Fault, HashStep, Items, ItemsStep, PlaceStep, bytes_at, no_fault};
+use wire::{Cursor, Fault, Items, Step, bytes_at};
 use write_items::{put_list, tags_end};
 
 // The byte that opens known.met and server.met.
@@ -44,66 +44,42 @@ const ENTRIES_CEILING: usize = MET_CEILING - 5;
 
 const HASH_BYTES: usize = 16;
 
-// How many bytes a list has, or the fault that reading it finds.
-#[derive(Clone, Copy)]
-pub enum LengthStep {
-    Got(usize),
-    Refused(Fault),
-}
-
-impl LengthStep {
-    pub fn fault(self) -> Fault
-        ensures { result ≡ length_fault self }
-    {
-        match self {
-            LengthStep::Got(_) => no_fault(),
-            LengthStep::Refused(f) => f,
-        }
-    }
-}
-
 // The length of a list that was read from `at` on.
-pub fn length_from(at: usize, read: ItemsStep) -> LengthStep
+pub fn length_from(at: usize, read: Step<Items>) -> Result<usize, Fault>
     requires { EndsAfter at read }
     ensures { length_meaning at result ≡ items_end read }
 {
-    match read {
-        ItemsStep::Got(_, next) => LengthStep::Got(next.at - at),
-        ItemsStep::Refused(f) => LengthStep::Refused(f),
-    }
+    let (_, next) = read?;
+    Ok(next.at - at)
 }
 
-fn file_entries_length(s: &[u8], list: Items) -> LengthStep
+fn file_entries_length(s: &[u8], list: Items) -> Result<usize, Fault>
     ensures { length_meaning list.at result ≡ items_there decode_file_entry s.now list }
 {
     let at = list.at;
     length_from(at, file_entries_from(s, Cursor { at }, list.count))
 }
 
-fn server_entries_length(s: &[u8], list: Items) -> LengthStep
+fn server_entries_length(s: &[u8], list: Items) -> Result<usize, Fault>
     ensures { length_meaning list.at result ≡ items_there decode_server_entry s.now list }
 {
     let at = list.at;
     length_from(at, server_entries_from(s, Cursor { at }, list.count))
 }
 
-pub fn hashes_length(s: &[u8], list: Items) -> LengthStep
+pub fn hashes_length(s: &[u8], list: Items) -> Result<usize, Fault>
     ensures { length_meaning list.at result ≡ items_there decode_hash s.now list }
 {
     let at = list.at;
     length_from(at, hashes_from(s, Cursor { at }, list.count))
 }
 
-pub fn tags_length(s: &[u8], list: Items) -> LengthStep
+pub fn tags_length(s: &[u8], list: Items) -> Result<usize, Fault>
     ensures { length_meaning list.at result ≡ items_there decode_tag s.now list }
 {
     let at = list.at;
-    let step = tags_end(s, Cursor { at }, list.count);
-    let DoneStep::Got(next) = step else {
-        return LengthStep::Refused(step.fault());
-    };
-    let end = next.at;
-    LengthStep::Got(end - at)
+    let next = tags_end(s, Cursor { at }, list.count)?;
+    Ok(next.at - at)
 }
 
 // A WORD count, and after it the bytes of that many hashes.
@@ -119,42 +95,15 @@ fn put_hashes(out: &mut [u8], count: u16, hashes: &[u8]) -> usize
 
 // Entries
 
-// How many bytes the part hashes and the tags of an entry have, or the fault of the first offset at which
-// they are not encoded.
-#[derive(Clone, Copy)]
-pub enum EntryStep {
-    Got(usize, usize),
-    Refused(Fault),
-}
-
-impl EntryStep {
-    pub fn fault(self) -> Fault
-        ensures { result ≡ entry_fault self }
-    {
-        match self {
-            EntryStep::Got(_, _) => no_fault(),
-            EntryStep::Refused(f) => f,
-        }
-    }
-}
-
-pub fn file_entry_lengths(s: &[u8], file: FileEntry) -> EntryStep
+// How many bytes the part hashes and the tags have.
+pub fn file_entry_lengths(s: &[u8], file: FileEntry) -> Result<(usize, usize), Fault>
     ensures { EntryMeaning s.now file result }
 {
     let cursor = Cursor { at: file.hash };
-    let step = cursor.hash(s);
-    let HashStep::Got(_, _) = step else {
-        return EntryStep::Refused(step.fault());
-    };
-    let parts = hashes_length(s, file.parts);
-    let LengthStep::Got(parts_len) = parts else {
-        return EntryStep::Refused(parts.fault());
-    };
-    let tags = tags_length(s, file.tags);
-    let LengthStep::Got(tags_len) = tags else {
-        return EntryStep::Refused(tags.fault());
-    };
-    EntryStep::Got(parts_len, tags_len)
+    cursor.hash(s)?;
+    let parts_len = hashes_length(s, file.parts)?;
+    let tags_len = tags_length(s, file.tags)?;
+    Ok((parts_len, tags_len))
 }
 
 // The date, the hash and the part hashes of an entry; these have `parts_len` bytes.
@@ -183,7 +132,7 @@ pub fn put_file_entry(
     parts_len: usize,
     tags_len: usize,
 ) -> usize
-    requires { EntryMeaning src.now file (EntryStep.Got parts_len tags_len) × (file.parts.count ≤ 65535) × (26 + parts_len + tags_len ≤ length out.old) }
+    requires { EntryMeaning src.now file (Ok (parts_len, tags_len)) × (file.parts.count ≤ 65535) × (26 + parts_len + tags_len ≤ length out.old) }
     ensures written { result ≡ 26 + parts_len + tags_len }
     ensures output { out.new ≡ overwritten (encode_file_entry (file_entry_in src.now file)) out.old }
 {
@@ -194,28 +143,21 @@ pub fn put_file_entry(
 }
 
 // One entry of known.met, for files that a caller composes. An entry alone has no byte ceiling.
-pub fn write_file_entry(src: &[u8], file: FileEntry, out: &mut [u8]) -> WriteAnswer
+pub fn write_file_entry(src: &[u8], file: FileEntry, out: &mut [u8]) -> Written
     ensures { answered result out.new ≡ spec_write_file_entry src.now file out.old }
 {
-    let step = file_entry_lengths(src, file);
-    let EntryStep::Got(parts_len, tags_len) = step else {
-        return refused(step.fault().number());
-    };
+    let (parts_len, tags_len) = file_entry_lengths(src, file)?;
     let parts = file.parts;
     if PARTS_MOST < parts.count {
-        return refused(LIMIT);
+        return Err(Refusal::Limit);
     }
     if out.len() < 26 + parts_len {
-        return refused(ROOM);
+        return Err(Refusal::Room);
     }
     if out.len() - (26 + parts_len) < tags_len {
-        return refused(ROOM);
+        return Err(Refusal::Room);
     }
-    let wrote = put_file_entry(out, src, file, parts_len, tags_len);
-    WriteAnswer {
-        number: 0,
-        length: wrote,
-    }
+    Ok(put_file_entry(out, src, file, parts_len, tags_len))
 }
 
 // An entry of server.met, whose tags have `tags_len` bytes.
@@ -232,49 +174,34 @@ fn put_server_entry(out: &mut [u8], src: &[u8], server: ServerEntry, tags_len: u
 }
 
 // One entry of server.met.
-pub fn write_server_entry(src: &[u8], server: ServerEntry, out: &mut [u8]) -> WriteAnswer
+pub fn write_server_entry(src: &[u8], server: ServerEntry, out: &mut [u8]) -> Written
     ensures { answered result out.new ≡ spec_write_server_entry src.now server out.old }
 {
-    let step = tags_length(src, server.tags);
-    let LengthStep::Got(tags_len) = step else {
-        return refused(step.fault().number());
-    };
+    let tags_len = tags_length(src, server.tags)?;
     if out.len() < 10 {
-        return refused(ROOM);
+        return Err(Refusal::Room);
     }
     if out.len() - 10 < tags_len {
-        return refused(ROOM);
+        return Err(Refusal::Room);
     }
-    let wrote = put_server_entry(out, src, server, tags_len);
-    WriteAnswer {
-        number: 0,
-        length: wrote,
-    }
+    Ok(put_server_entry(out, src, server, tags_len))
 }
 
 // known.met and server.met
 
-// The number for a file of `5 + size` bytes, apart from the room.
-fn opening_number(opening: u8, size: usize) -> u8
-    ensures { result ≡ spec_opening_number opening (5 + size) }
+// The check of a file of `5 + size` bytes, apart from the room.
+#[tactic(auto, unfolding(crate::specs::Lengths::spec_opening_number))]
+fn check_opening(opening: u8, size: usize) -> Result<(), Refusal>
+    ensures { number_of result ≡ spec_opening_number opening (5 + size) }
 {
     if ENTRIES_CEILING < size {
-        return LIMIT;
+        return Err(Refusal::Limit);
     }
-    if opening == MET_OPENING { 0 } else { OPENING }
-}
-
-// The same, where `size` bytes of entries and a tail come after the first five bytes.
-fn tailed_number(opening: u8, size: usize, tail: usize) -> u8
-    ensures { result ≡ spec_opening_number opening (5 + (size + tail)) }
-{
-    if ENTRIES_CEILING < size {
-        return LIMIT;
+    if opening == MET_OPENING {
+        Ok(())
+    } else {
+        Err(Refusal::Opening)
     }
-    if ENTRIES_CEILING - size < tail {
-        return LIMIT;
-    }
-    opening_number(opening, size + tail)
 }
 
 // The opening byte and the entries.
@@ -289,30 +216,20 @@ fn put_entries(out: &mut [u8], opening: u8, count: u32, entries: &[u8]) -> usize
 }
 
 // The known.met whose entries are encoded at an offset of `src`.
-pub fn write_known_met(src: &[u8], known: KnownMet, out: &mut [u8]) -> WriteAnswer
+pub fn write_known_met(src: &[u8], known: KnownMet, out: &mut [u8]) -> Written
     ensures writes { WritesAt known_met (known_there src.now known) (known_met_in src.now known) out.old
         (answered result out.new) }
     ensures round { RoundTrip known_met (known_there src.now known) (known_met_in src.now known) out.old
         (answered result out.new) }
 {
     let entries = known.entries;
-    let step = file_entries_length(src, entries);
-    let LengthStep::Got(size) = step else {
-        return refused(step.fault().number());
-    };
-    let number = opening_number(known.opening, size);
-    if number != 0 {
-        return refused(number);
-    }
+    let size = file_entries_length(src, entries)?;
+    check_opening(known.opening, size)?;
     if out.len() < 5 + size {
-        return refused(ROOM);
+        return Err(Refusal::Room);
     }
     let items = bytes_at(src, entries.at, size);
-    let wrote = put_entries(out, known.opening, entries.count, items);
-    WriteAnswer {
-        number: 0,
-        length: wrote,
-    }
+    Ok(put_entries(out, known.opening, entries.count, items))
 }
 
 fn put_server_met(out: &mut [u8], opening: u8, count: u32, entries: &[u8], tail: &[u8]) -> usize
@@ -327,35 +244,23 @@ fn put_server_met(out: &mut [u8], opening: u8, count: u32, entries: &[u8], tail:
 }
 
 // The server.met whose entries and tail are encoded at offsets of `src`.
-pub fn write_server_met(src: &[u8], server: ServerMet, out: &mut [u8]) -> WriteAnswer
+pub fn write_server_met(src: &[u8], server: ServerMet, out: &mut [u8]) -> Written
     ensures writes { WritesAt server_met (server_there src.now server) (server_met_in src.now server) out.old
         (answered result out.new) }
     ensures round { RoundTrip server_met (server_there src.now server) (server_met_in src.now server) out.old
         (answered result out.new) }
 {
     let entries = server.entries;
-    let step = server_entries_length(src, entries);
-    let LengthStep::Got(size) = step else {
-        return refused(step.fault().number());
-    };
+    let size = server_entries_length(src, entries)?;
     let tail = server.tail;
     let cursor = Cursor { at: tail.at };
-    let tail_step = cursor.run(src, tail.len);
-    let PlaceStep::Got(_, _) = tail_step else {
-        return refused(tail_step.fault().number());
-    };
-    let number = tailed_number(server.opening, size, tail.len);
-    if number != 0 {
-        return refused(number);
-    }
-    if out.len() < 5 + (size + tail.len) {
-        return refused(ROOM);
+    cursor.run(src, tail.len)?;
+    let rest = size + tail.len;
+    check_opening(server.opening, rest)?;
+    if out.len() < 5 + rest {
+        return Err(Refusal::Room);
     }
     let items = bytes_at(src, entries.at, size);
-    let rest = bytes_at(src, tail.at, tail.len);
-    let wrote = put_server_met(out, server.opening, entries.count, items, rest);
-    WriteAnswer {
-        number: 0,
-        length: wrote,
-    }
+    let tail_bytes = bytes_at(src, tail.at, tail.len);
+    Ok(put_server_met(out, server.opening, entries.count, items, tail_bytes))
 }

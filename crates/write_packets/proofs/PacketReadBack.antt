@@ -1,6 +1,6 @@
 -- A packet that was read is written back as its bytes: from the contract of `read_packet` and that of `write_packet`, and no other fact.
 use Prim.Native.Nat.{ℕ, ◌≤◌}
-use mathlib.Core.Path.{◌≡◌, refl, ap}
+use mathlib.Core.Path.{◌≡◌, refl}
 use mathlib.Core.Bool.{Bool, true, false}
 use mathlib.Core.Logic.{◌↔◌}
 use mathlib.Core.Option.{some}
@@ -17,14 +17,13 @@ use Rattle.format.specs.PacketOrder.{decode_bits}
 use Rattle.format.specs.Writing.{overwritten}
 use Rattle.format.specs.RoundTrip.{IsThere, RoundTrip, WritesAt}
 use Rattle.format.proofs.Differ.{differ}
-use Rattle.output.specs.declared.WriteAnswer.{WriteAnswer}
+use Rattle.output.specs.declared.Refusal.{Refusal}
 use Rattle.records.specs.declared.Record.{Record}
 use Rattle.records.specs.RecordAnswers.{RecordPlaced}
 use Rattle.bodies.specs.declared.Body.{Body}
 use Rattle.bodies.specs.BodyAnswers.{BodyPlaced, body_in}
 use Rattle.packets.specs.declared.Link.{Link}
 use Rattle.packets.specs.declared.Packet.{Packet}
-use Rattle.packets.specs.declared.PacketAnswer.{PacketAnswer}
 use Rattle.packets.specs.PacketAnswers.{LinkAccepts, PacketPlaced, link_reply, packet_in, packet_reply}
 use Rattle.output.specs.WriteAnswers.{answered}
 use Rattle.write_items.specs.There.{hash_there, items_there, place_there}
@@ -32,6 +31,8 @@ use Rattle.write_items.proofs.There.{is-there}
 use Rattle.write_items.proofs.Back.{both-here, hash-here, items-here, place_here, query-here, written_back}
 use Rattle.check_bodies.specs.Bodies.{body_there, record_there}
 use Rattle.write_packets.specs.Packets.{kind_of, packet_of, packet_there, spec_another_shape, spec_shape_number, unlike}
+use Rattle.std.specs.Prelude.{Result, Ok}
+use Rattle.wire.specs.declared.Rule.{Rule}
 
 -- A body that lies inside is there.
 module _ (s : List ℕ) where
@@ -80,11 +81,11 @@ own Link.Client s p h = own-shape client_opcodes p.opening p.opcode (body_in s p
 own Link.Udp s p h = own-shape udp_opcodes p.opening p.opcode (body_in s p.body).0 h.1.content.listed
 
 -- `r` is an answer of `read_packet` for s, by its three clauses.
-module _ (s : List ℕ) (link : Link) (r : PacketAnswer)
+module _ (s : List ℕ) (link : Link) (r : Result Packet Rule)
     (meaning : packet_reply s r ≡ link_reply link s)
     (placed : PacketPlaced s r)
     (demand3 : (m : messages.Packet) → (packet_reply s r ≡ message m) ↔ LinkAccepts link s m)
-    (p : Packet) (accepted : r ≡ PacketAnswer.Accepted p) where
+    (p : Packet) (accepted : r ≡ Ok p) where
   accepts : LinkAccepts link s (packet_in s p)
   accepts = (demand3 (packet_in s p)).0 (rw accepted refl)
 
@@ -93,23 +94,17 @@ module _ (s : List ℕ) (link : Link) (r : PacketAnswer)
   packet-here = rw (own link s p accepts) (body-here s p.body (rw accepted at placed))
 
   -- `a` and `out` are what `write_packet` leaves of it, by its two clauses, with room for s.
-  module _ (output out : List ℕ) (a : WriteAnswer)
+  module _ (output out : List ℕ) (a : Result ℕ Refusal)
       (writes : WritesAt (kind_of link) (packet_there link s p) (packet_of link s p) output (answered a out))
       (round : RoundTrip (kind_of link) (packet_there link s p) (packet_of link s p) output (answered a out))
       (room : length s ≤ length output) where
-    pub packet-back : (a.number ≡ 0) × ((a.length ≡ length s) × (out ≡ overwritten s output))
+    pub packet-back : answered a out ≡ record { number = 0; length = length s; output = overwritten s output }
     packet-back = go link accepts packet-here writes round
       where
         go : (link : Link) → LinkAccepts link s (packet_in s p) → IsThere (packet_there link s p) →
             WritesAt (kind_of link) (packet_there link s p) (packet_of link s p) output (answered a out) →
             RoundTrip (kind_of link) (packet_there link s p) (packet_of link s p) output (answered a out) →
-            (a.number ≡ 0) × ((a.length ≡ length s) × (out ≡ overwritten s output))
-        go Link.Server read here writes round =
-            let e = written_back messages.server_link _ (packet_in s p) s output here read room writes round in
-            (ap (λ w. w.number) e, (ap (λ w. w.length) e, ap (λ w. w.output) e))
-        go Link.Client read here writes round =
-            let e = written_back messages.client_link _ (packet_in s p) s output here read room writes round in
-            (ap (λ w. w.number) e, (ap (λ w. w.length) e, ap (λ w. w.output) e))
-        go Link.Udp read here writes round =
-            let e = written_back messages.udp_link _ (packet_in s p) s output here read room writes round in
-            (ap (λ w. w.number) e, (ap (λ w. w.length) e, ap (λ w. w.output) e))
+            answered a out ≡ record { number = 0; length = length s; output = overwritten s output }
+        go Link.Server read here writes round = written_back messages.server_link _ (packet_in s p) s output here read room writes round
+        go Link.Client read here writes round = written_back messages.client_link _ (packet_in s p) s output here read room writes round
+        go Link.Udp read here writes round = written_back messages.udp_link _ (packet_in s p) s output here read room writes round

@@ -1,25 +1,31 @@
 -- Each answer of the writer is a write of the format, by what was found out about the body.
-use mathlib.Core.Path.{◌≡◌, refl, sym, subst, ◌∙◌}
+use mathlib.Core.Path.{◌≡◌, refl, sym, ap, subst, ◌∙◌}
 use mathlib.Core.Bool.{true, false}
 use mathlib.Core.List.{List, ◌++◌, append_assoc}
 use Prim.Native.Nat.{ℕ, ◌+◌, ◌≤◌, ◌<◌}
 use native.Mathlib.Omega.{arith}
 use lib.ListN.{length, length-append}
-use borrow.Author.Tests.{le-leb, lt-leb}
 use Rattle.format.specs.Messages as messages
 use Rattle.format.specs.Messages.{Kind, Message}
 use Rattle.format.specs.Layout.{byte, dword, encode, encode_body, encode_tcp, encode_udp}
 use Rattle.format.specs.Rules.{Byte, Bytes, packet_ceiling}
-use Rattle.format.specs.Decoding.{Outcome, fault, got, kind, refused}
-use Rattle.format.specs.Writing.{CountsFit, Judged, ValuesFit, Writes, Written, overflows, overwritten, refuses, tries, unwritten, written_into}
+use Rattle.format.specs.Decoding.{fault, kind}
+use Rattle.format.specs.Writing.{CountsFit, Judged, ValuesFit, Written, overflows, unwritten}
 use Rattle.format.proofs.Codec.{length-little_endian}
-use Rattle.format.proofs.Writing.{number-some}
 use Rattle.bodies.specs.BodyAnswers.{body_in}
 use Rattle.packets.specs.declared.Link.{Link}
 use Rattle.packets.specs.declared.Packet.{Packet}
 use Rattle.packets.specs.PacketAnswers.{packet_in}
-use Rattle.format.specs.RoundTrip.{IsThere, RoundTrip, WritesAt, absent, present}
-use Rattle.format.proofs.RoundTrip.{round_trip}
+use Rattle.format.specs.RoundTrip.{IsThere}
+use Rattle.std.specs.Prelude.{Result, Ok, Err, IsErrAnd}
+use Rattle.wire.specs.WireAnswers.{fault_meaning}
+use Rattle.wire.proofs.Steps.{propagated}
+use Rattle.output.specs.declared.Refusal.{Refusal}
+use Rattle.output.specs.WriteAnswers.{answered, number_of}
+use Rattle.output.proofs.Refusals.{number-of-rule}
+use Rattle.write_items.proofs.There.{there-at}
+use Rattle.write_items.proofs.Answers as answers
+use Rattle.write_items.proofs.Answers.{Promised, gone, message-ready}
 use Rattle.check_bodies.specs.declared.BodyCheck.{BodyCheck}
 use Rattle.check_bodies.specs.Bodies as findings
 use Rattle.check_bodies.specs.Bodies.{BodyChecked, body_there, bytes_of}
@@ -32,16 +38,8 @@ counts Link.Server s p h = h
 counts Link.Client s p h = h
 counts Link.Udp s p h = h
 
-pub ready : (link : Link) (s : List ℕ) (p : Packet) → spec_another_shape link s p ≡ false →
-    {r : BodyCheck} → BodyChecked s p.body r → r.number ≡ 0 → Ready link s p r
-ready link s p own (findings.absent f e) z = absurd (number-some f.rule z)
-ready link s p own (findings.overflows h f) z = absurd (omega arith)
-ready link s p own (findings.sized size end rule h fit e at r) z = record { own = own; there = h; fit = fit; size = e; ends = at; rule = r }
-
--- A message that is there is written as the format says.
-write-there : (k : Kind) (m : Message k) {output : List ℕ} {w : Written} (there : Outcome (Unit {0})) → IsThere there → Writes k m output w → WritesAt k there m output w
-write-there k m (refused f) h w = absurd h
-write-there k m (got u next) h w = present next refl w
+pub ready : (link : Link) (s : List ℕ) (p : Packet) → spec_another_shape link s p ≡ false → {r : BodyCheck} → BodyChecked s p.body (Ok r) → Ready link s p r
+ready link s p own (findings.sized size end rule h fit e at r) = record { own = own; there = h; fit = fit; size = e; ends = at; rule = r }
 
 tcp-bytes : (m : messages.Packet) (size : ℕ) → size ≡ length (bytes_of m.body) →
     encode_tcp m ≡ (byte m.opening ++ (dword (1 + size) ++ byte m.opcode)) ++ bytes_of m.body
@@ -73,57 +71,42 @@ head-length Link.Server opening opcode size = simp (length-append, length-little
 head-length Link.Client opening opcode size = simp (length-append, length-little_endian)
 head-length Link.Udp opening opcode size = simp (length-append, length-little_endian)
 
--- Both promises of the writer.
-abbrev pub Promised : Link → List ℕ → Packet → (output : List ℕ) → Written → Type 0
-Promised link s p output w =
-    WritesAt (kind_of link) (packet_there link s p) (packet_of link s p) output w × RoundTrip (kind_of link) (packet_there link s p) (packet_of link s p) output w
+module _ (link : Link) (s : List ℕ) (hb : Bytes s) (p : Packet) where
+  -- Both promises of the writer.
+  abbrev pub Owed : (output : List ℕ) → Written → Type 0
+  Owed = Promised (kind_of link) (packet_there link s p) (packet_of link s p)
 
-module _ (link : Link) (s : List ℕ) (hb : Bytes s) (p : Packet) (output : List ℕ) where
-  promised : {w : Written} → WritesAt (kind_of link) (packet_there link s p) (packet_of link s p) output w → Promised link s p output w
-  promised w = (w, round_trip (kind_of link) (packet_of link s p) output (packet_there link s p) (λ h. packet-bytes s hb link p) w)
+  judged-ready : {n : ℕ} {bytes : List ℕ} {size : ℕ} → spec_another_shape link s p ≡ false → IsThere (body_there s p.body) → Judged (kind_of link) (packet_of link s p) n →
+      encode (kind_of link) (packet_of link s p) ≡ bytes → length bytes ≡ size → answers.Ready Owed n bytes size
+  judged-ready own h judged encoded sized =
+      let lies = there-at (body_there s p.body) h in
+      message-ready {next = lies.0} (rw own (sym lies.1)) judged (sym encoded) (subst Bytes encoded (packet-bytes s hb link p)) sized
 
-  here : {w : Written} → spec_another_shape link s p ≡ false → IsThere (body_there s p.body) →
-      Writes (kind_of link) (packet_of link s p) output w → Promised link s p output w
-  here own h w = promised (rw own (write-there (kind_of link) (packet_of link s p) (body_there s p.body) h w))
+  pub other-shape : (output : List ℕ) → spec_another_shape link s p ≡ true → Owed output (unwritten 4 output)
+  other-shape output e = gone output {f = fault kind 0 1} (rw e refl)
 
-  pub other-shape : spec_another_shape link s p ≡ true → Promised link s p output (unwritten 4 output)
-  other-shape e = promised (absent (fault kind 0 1) (rw e refl))
+  unfit : (r : Refusal) (output : List ℕ) → spec_another_shape link s p ≡ false → BodyChecked s p.body (Err r) → Owed output (answered (Err r) output)
+  unfit r output own (findings.absent f e) = rw (number-of-rule f.rule) (gone output {f = fault_meaning f} (rw own (sym e)))
+  unfit r output own (findings.overflows h f) =
+      (judged-ready own h (overflows (λ c. f (counts link s p c))) refl refl).refuses output (λ z. omega arith)
 
-  pub unready : spec_another_shape link s p ≡ false → {r : BodyCheck} → BodyChecked s p.body r →
-      (r.number ≡ 0 → ⊥) → Promised link s p output (unwritten r.number output)
-  unready own (findings.absent f e) z = promised (absent f (rw own e))
-  unready own (findings.overflows h f) z = here own h (refuses 6 (overflows (λ c. f (counts link s p c))) z)
-  unready own (findings.sized size end rule h fit e at r) z = absurd (z refl)
+  -- `?` passes on what the check of the body refuses.
+  pub passed-unfit : (r : Refusal) (answer : Result ℕ Refusal) (output : List ℕ) → IsErrAnd answer (λ g. g ≡ r) → spec_another_shape link s p ≡ false →
+      BodyChecked s p.body (Err r) → Owed output (answered answer output)
+  passed-unfit r answer output passed own found = rw (propagated answer passed) (unfit r output own found)
 
   module _ (ho : Byte p.opening) (hc : Byte p.opcode) {r : BodyCheck} (h : Ready link s p r) where
     abbrev number : ℕ
-    number = spec_reader_number link p.opening p.opcode r.rule
+    number = spec_reader_number link p.opening p.opcode (number_of r.rule)
 
     done : Finished (kind_of link) (packet_of link s p) (spec_head_size link) r.size number
     done = finished s p ho hc h.fit h.size h.rule link h.own
 
-    pub over-ceiling : packet_ceiling < spec_head_size link + r.size → Promised link s p output (unwritten 6 output)
-    over-ceiling long = here h.own h.there (refuses 6 (done.over long) (λ z. omega arith))
+    pub over-ceiling : (output : List ℕ) → packet_ceiling < spec_head_size link + r.size → Owed output (unwritten 6 output)
+    over-ceiling output long = (judged-ready h.own h.there (done.over long) refl refl).refuses output (λ z. omega arith)
 
-    module _ (short : spec_head_size link + r.size ≤ packet_ceiling) where
-      pub faulty : (number ≡ 0 → ⊥) → Promised link s p output (unwritten number output)
-      faulty bad = here h.own h.there (refuses number (done.within short) bad)
-
-      module _ (good : number ≡ 0) where
-        tried : Writes (kind_of link) (packet_of link s p) output (written_into (encode (kind_of link) (packet_of link s p)) output)
-        tried = tries (subst (Judged (kind_of link) (packet_of link s p)) good (done.within short))
-
-        pub no_room : length output < spec_head_size link + r.size → Promised link s p output (unwritten 10 output)
-        no_room full =
-            let small = lt-leb (length (encode (kind_of link) (packet_of link s p))) (length output) (omega (arith, done.all)) in
-            here h.own h.there (rw small at tried)
-
-        pub wrote : spec_head_size link + r.size ≤ length output →
-            Promised link s p output (record {
-              number = 0;
-              length = spec_head_size link + r.size;
-              output = overwritten (head_bytes link p.opening p.opcode r.size ++ bytes_of (body_in s p.body)) output;
-            })
-        wrote room =
-            let enough = le-leb (length (encode (kind_of link) (packet_of link s p))) (length output) (omega (arith, done.all)) in
-            here h.own h.there (rw (← packet-encoding link s p r.size h.size, ← done.all) (rw enough at tried))
+    pub packet-ready : spec_head_size link + r.size ≤ packet_ceiling →
+        answers.Ready Owed number (head_bytes link p.opening p.opcode r.size ++ bytes_of (body_in s p.body)) (spec_head_size link + r.size)
+    packet-ready short =
+        let encoded = packet-encoding link s p r.size h.size in
+        judged-ready h.own h.there (done.within short) encoded (ap length (sym encoded) ∙ done.all)

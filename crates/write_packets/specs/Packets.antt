@@ -9,6 +9,7 @@ use Rattle.format.specs.Messages.{nothing_body, query_body, hash_body, dword_bod
 use Rattle.format.specs.Layout.{byte, dword}
 use Rattle.format.specs.Decoding.{Outcome, fault, kind, refused}
 use Rattle.format.specs.Writing.{ValuesFit}
+use Rattle.output.specs.WriteAnswers.{number_of}
 use Rattle.bodies.specs.BodyAnswers.{body_in}
 use Rattle.packets.specs.declared.Link.{Link}
 use Rattle.packets.specs.declared.Packet.{Packet}
@@ -71,7 +72,7 @@ pub record Ready (link : Link) (s : List ℕ) (p : Packet) (r : BodyCheck) : Typ
   pub fit : ValuesFit (body_in s p.body).0 (body_in s p.body).1
   pub size : r.size ≡ length (bytes_of (body_in s p.body))
   pub ends : BodyEnds s p.body r.end
-  pub rule : BodyRule (body_in s p.body) r.rule
+  pub rule : BodyRule (body_in s p.body) (number_of r.rule)
 
 -- What stands before the body: the opening byte, on TCP the length of all that follows it, the opcode.
 abbrev pub spec_head_size : Link → ℕ

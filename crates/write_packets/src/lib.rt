@@ -11,14 +11,14 @@ ghost use Rattle.std.specs.Prelude.{◌≡◌, List, ◌++◌, ℕ, ◌+◌, ◌
 ghost use Rattle.format.specs.Layout.{byte, dword};
 ghost use Rattle.format.specs.Writing.{overwritten};
 ghost use Rattle.bodies.specs.BodyAnswers.{body_in, shape_of};
-ghost use Rattle.output.specs.WriteAnswers.{answered};
+ghost use Rattle.output.specs.WriteAnswers.{answered, number_of};
 ghost use Rattle.format.specs.RoundTrip.{RoundTrip, WritesAt};
-ghost use Rattle.write_packets.specs.Packets.{Ready, spec_another_shape, head_bytes, spec_head_size, kind_of, packet_of, packet_there, spec_reader_number, spec_shape_number};
+ghost use Rattle.write_packets.specs.Packets.{Ready, spec_another_shape, head_bytes, spec_head_size, kind_of, packet_of, packet_there, spec_reader_number};
 
 use bodies::{Body, Shape};
 use check_bodies::{BodyCheck, check_body};
-use output::{KIND, LIMIT, OPENING, ROOM, WriteAnswer, refused};
-use packets::{Link, Listed, Packet, shape_of};
+use output::{Refusal, Written};
+use packets::{Link, Packet, shape_of};
 use write_bodies::put_body;
 
 const PACKET_CEILING: usize = 65536;
@@ -30,37 +30,6 @@ const PACKET_OPENING: u8 = 0xE3;
 const TCP_HEAD: usize = 6;
 
 const UDP_HEAD: usize = 2;
-
-fn shape_number(shape: Shape) -> u8
-    ensures { result ≡ spec_shape_number (shape_of shape) }
-{
-    match shape {
-        Shape::Nothing => 0,
-        Shape::Query => 1,
-        Shape::Hash => 2,
-        Shape::Dword => 3,
-        Shape::TwoDwords => 4,
-        Shape::Text => 5,
-        Shape::TwoTexts => 6,
-        Shape::Address => 7,
-        Shape::Addresses => 8,
-        Shape::HashAddresses => 9,
-        Shape::AddressDword => 10,
-        Shape::HashAddressTags => 11,
-        Shape::Record => 12,
-        Shape::Records => 13,
-        Shape::RecordsFlag => 14,
-        Shape::RecordAddress => 15,
-        Shape::Hello => 16,
-        Shape::HashText => 17,
-        Shape::Hashset => 18,
-        Shape::SendingPart => 19,
-        Shape::RequestParts => 20,
-        Shape::FileStatus => 21,
-        Shape::StatusRequest => 22,
-        Shape::Status => 23,
-    }
-}
 
 fn body_shape(body: Body) -> Shape
     ensures { (s : List ℕ) → shape_of result ≡ (body_in s body).0 }
@@ -98,28 +67,27 @@ fn body_shape(body: Body) -> Shape
 fn another_shape(link: Link, packet: Packet) -> bool
     ensures { (s : List ℕ) → result ≡ spec_another_shape link s packet }
 {
-    let listed = shape_of(link, packet.opcode);
-    let Listed::As(shape) = listed else {
+    let Some(listed) = shape_of(link, packet.opcode) else {
         return false;
     };
-    let body = packet.body;
-    let own = body_shape(body);
-    let listed_number = shape_number(shape);
-    let own_number = shape_number(own);
-    listed_number != own_number
+    listed != body_shape(packet.body)
 }
 
 // What the reader says of the finished bytes once they are within the byte ceiling. `rule` is what it says of the body.
-fn reader_number(link: Link, opening: u8, opcode: u8, rule: u8) -> u8
-    ensures { result ≡ spec_reader_number link opening opcode rule }
+fn check_reading(
+    link: Link,
+    opening: u8,
+    opcode: u8,
+    rule: Result<(), Refusal>,
+) -> Result<(), Refusal>
+    ensures { number_of result ≡ spec_reader_number link opening opcode (number_of rule) }
 {
     if opening != PACKET_OPENING {
-        return OPENING;
+        return Err(Refusal::Opening);
     }
-    let listed = shape_of(link, opcode);
-    let Listed::As(_) = listed else {
-        return KIND;
-    };
+    if shape_of(link, opcode).is_none() {
+        return Err(Refusal::Kind);
+    }
     rule
 }
 
@@ -165,13 +133,7 @@ fn put_head(out: &mut [u8], link: Link, opening: u8, opcode: u8, size: usize)
 }
 
 // A packet whose shape, offsets and counts are in order.
-fn write_ready(
-    src: &[u8],
-    link: Link,
-    packet: Packet,
-    found: BodyCheck,
-    out: &mut [u8],
-) -> WriteAnswer
+fn write_ready(src: &[u8], link: Link, packet: Packet, found: BodyCheck, out: &mut [u8]) -> Written
     requires { Ready link src.now packet found }
     ensures writes { WritesAt (kind_of link) (packet_there link src.now packet) (packet_of link src.now packet)
         out.old (answered result out.new) }
@@ -184,40 +146,29 @@ fn write_ready(
     let bytes = found.size;
     let head = head_size(link);
     if PACKET_CEILING - head < bytes {
-        return refused(LIMIT);
+        return Err(Refusal::Limit);
     }
     let size = head + bytes;
-    let fault = reader_number(link, opening, opcode, found.rule);
-    if fault != 0 {
-        return refused(fault);
-    }
+    check_reading(link, opening, opcode, found.rule)?;
     if out.len() < size {
-        return refused(ROOM);
+        return Err(Refusal::Room);
     }
     put_head(out, link, opening, opcode, bytes);
     put_body(src, body, found.end, &mut out[head..]);
-    WriteAnswer {
-        number: 0,
-        length: size,
-    }
+    Ok(size)
 }
 
 // A packet of a link. Its offsets are in `src`, as the reader returns it. A body of another shape than that of its opcode, and an
 // offset at which an item is not encoded, are no message: they are refused first.
-pub fn write_packet(src: &[u8], link: Link, packet: Packet, out: &mut [u8]) -> WriteAnswer
+pub fn write_packet(src: &[u8], link: Link, packet: Packet, out: &mut [u8]) -> Written
     ensures writes { WritesAt (kind_of link) (packet_there link src.now packet) (packet_of link src.now packet)
         out.old (answered result out.new) }
     ensures round { RoundTrip (kind_of link) (packet_there link src.now packet) (packet_of link src.now packet)
         out.old (answered result out.new) }
 {
     if another_shape(link, packet) {
-        return refused(KIND);
+        return Err(Refusal::Kind);
     }
-    let body = packet.body;
-    let found = check_body(src, body);
-    let number = found.number;
-    if number != 0 {
-        return refused(number);
-    }
+    let found = check_body(src, packet.body)?;
     write_ready(src, link, packet, found, out)
 }

@@ -18,12 +18,10 @@ use Rattle.wire.specs.declared.Items.{Items}
 use Rattle.wire.specs.WireAnswers.{items_in}
 use Rattle.met.specs.declared.HashBlocks.{HashBlocks}
 use Rattle.write_items.specs.There.{items_there}
-use Rattle.write_met.specs.declared.LengthStep.{LengthStep}
-use Rattle.write_met.specs.Lengths.{length_meaning}
 use Rattle.write_items.proofs.There.{then-there}
 use Rattle.write_met.proofs.Lists.{Here, list-here}
 use Rattle.write_part.specs.declared.Area.{Area}
-use Rattle.write_part.specs.BlockSteps.{AreaLies, AreaMeaning, AreaOf, area_bytes, spec_area_number, spec_area_size, one_block}
+use Rattle.write_part.specs.BlockSteps.{AreaLies, AreaOf, area_bytes, spec_area_number, spec_area_size}
 
 -- Places in bytes that begin with a mark and a list.
 pub at_mark : (l : List ℕ) (i : ℕ) → i ≡ 0 → 1 ≡ get_or (byte 1 ++ l) i 0
@@ -43,16 +41,19 @@ after_list k l i some h =
     let e : i - 1 ≡ length k + (i - 1 - length k) = omega arith in
     sym (after-mark (k ++ l) i some ∙ ap (λ n. get_or (k ++ l) n 0) e ∙ get_or-append-add k l (i - 1 - length k) 0)
 
-pub at-closing : (i : ℕ) → 0 ≡ get_or (byte 0) i 0
+pub at_closing : (i : ℕ) → 0 ≡ get_or (byte 0) i 0
 unfolding little_endian
-at-closing zero = refl
-at-closing (suc i) = refl
+at_closing zero = refl
+at_closing (suc i) = refl
+
+pub after_last : (k : List ℕ) (i : ℕ) → (i ≡ 0 → ⊥) → length k ≤ i - 1 → 0 ≡ get_or (byte 1 ++ (k ++ byte 0)) i 0
+after_last k i some h = at_closing (i - 1 - length k) ∙ after_list k (byte 0) i some h
 
 -- The size of an area that lies in the source.
-pub area-sized : (s : List ℕ) (a : Area) → AreaLies s a → length (area_bytes s a) ≡ spec_area_size a
-area-sized s Area.Nothing h = length-little_endian 1 0
-area-sized s (Area.One p) h = simp (length-append, length-little_endian) (omega (arith, h))
-area-sized s (Area.Two p q) h = simp (length-append, length-little_endian) (omega (arith, h.0, h.1))
+pub area_sized : (s : List ℕ) (a : Area) → AreaLies s a → length (area_bytes s a) ≡ spec_area_size a
+area_sized s Area.Nothing h = length-little_endian 1 0
+area_sized s (Area.One p) h = simp (length-append, length-little_endian) (omega (arith, h))
+area_sized s (Area.Two p q) h = simp (length-append, length-little_endian) (omega (arith, h.0, h.1))
 
 module _ (s : List ℕ) (known : (i : ℕ) → Fits w8 (get_or s i 0)) where
   parts-here : (l : Items) {n : ℕ} → got tt (l.at + n) ≡ items_there decode_hash s l → Here encode_hash ValidHash s l (items_in decode_hash s l) n
@@ -61,24 +62,22 @@ module _ (s : List ℕ) (known : (i : ℕ) → Fits w8 (get_or s i 0)) where
   blocks-here : (l : Items) {n : ℕ} → got tt (l.at + n) ≡ items_there (decode_run 8) s l → Here encode_hash ValidBlockHash s l (items_in (decode_run 8) s l) n
   blocks-here l e = list-here (codec-run 8) (run-needed 8) s known l e
 
-  pub one-parts : (l : Items) (n : LengthStep) → length_meaning l.at n ≡ items_there decode_hash s l → AreaMeaning s (HashBlocks.Parts l) (one_block l.at n)
+  pub one_parts : (l : Items) {n : ℕ} → got tt (l.at + n) ≡ items_there decode_hash s l → AreaOf s (HashBlocks.Parts l) (Area.One (record { at = l.at; len = n }))
   unfolding encode_hash_blocks
-  one-parts l (LengthStep.Got n) e =
+  one_parts l {n} e =
       let h = parts-here l e in
       record { next = l.at + n; here = e; bytes = rw h.bytes refl; lies = ap length h.bytes ∙ h.size }
-  one-parts l (LengthStep.Refused f) e = e
 
-  pub one-blocks : (l : Items) (n : LengthStep) → length_meaning l.at n ≡ items_there (decode_run 8) s l → AreaMeaning s (HashBlocks.Blocks l) (one_block l.at n)
+  pub one_blocks : (l : Items) {n : ℕ} → got tt (l.at + n) ≡ items_there (decode_run 8) s l → AreaOf s (HashBlocks.Blocks l) (Area.One (record { at = l.at; len = n }))
   unfolding encode_hash_blocks
-  one-blocks l (LengthStep.Got n) e =
+  one_blocks l {n} e =
       let h = blocks-here l e in
       record { next = l.at + n; here = e; bytes = rw h.bytes refl; lies = ap length h.bytes ∙ h.size }
-  one-blocks l (LengthStep.Refused f) e = e
 
-  pub both-blocks : (l k : Items) (n m : ℕ) → got tt (l.at + n) ≡ items_there decode_hash s l → got tt (k.at + m) ≡ items_there (decode_run 8) s k →
+  pub both_blocks : (l k : Items) {n m : ℕ} → got tt (l.at + n) ≡ items_there decode_hash s l → got tt (k.at + m) ≡ items_there (decode_run 8) s k →
       AreaOf s (HashBlocks.Both l k) (Area.Two (record { at = l.at; len = n }) (record { at = k.at; len = m }))
   unfolding encode_hash_blocks
-  both-blocks l k n m e q =
+  both_blocks l k {n} {m} e q =
       let h = parts-here l e in
       let g = blocks-here k q in
       record {
@@ -101,5 +100,5 @@ unfolding spec_area_number
 lone-second hashes e =
     let size : length (byte 1 ++ (hashes ++ byte 0)) ≡ 18 = simp (length-append, length-little_endian) (omega arith) in
     let closing : get_or (byte 1 ++ (hashes ++ byte 0)) 17 0 ≡ 0 =
-    sym (at-closing (16 - length hashes) ∙ after_list hashes (byte 0) 17 (λ z. omega arith) (omega arith)) in
+    sym (at_closing (16 - length hashes) ∙ after_list hashes (byte 0) 17 (λ z. omega arith) (omega arith)) in
     rw (size, closing) refl

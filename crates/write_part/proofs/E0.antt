@@ -23,19 +23,17 @@ use Rattle.format.proofs.Items.{codec-hash}
 use Rattle.format.proofs.PartTags.{check-means}
 use Rattle.format.proofs.Writing.{ceiling-judged, tags-fit, valid-judged}
 use Rattle.wire.specs.WireAnswers.{items_in}
-use Rattle.part_tags.specs.declared.TagsVerdict.{TagsVerdict}
-use Rattle.part_tags.specs.PartTagAnswers.{verdict_meaning}
 use Rattle.met.specs.declared.FileEntry as met
 use Rattle.met.specs.MetAnswers.{file_entry_in}
-use Rattle.write_met.specs.declared.EntryStep.{EntryStep}
 use Rattle.write_met.specs.MetWrites.{file_entry_there}
 use Rattle.write_met.specs.Lengths.{EntryMeaning}
 use Rattle.format.specs.RoundTrip.{WritesAt}
 use Rattle.write_items.proofs.Answers.{Ready, writes-ready}
 use Rattle.write_met.proofs.MetEntries.{entry-size, entry-there, parts-here, tags-here}
 use Rattle.write_met.proofs.Lists.{hash-valid}
-use Rattle.write_part.specs.BlockSteps.{spec_e0_number, tags_number, spec_verdict_number}
+use Rattle.write_part.specs.BlockSteps.{spec_e0_number, tags_number}
 use Rattle.write_part.proofs.Tags.{codec-edition, tags-refused}
+use Rattle.std.specs.Prelude.{Ok}
 
 module _ (m : FileEntry) (valid : ValidFileEntry m) where
   abbrev opening : List ℕ
@@ -105,35 +103,32 @@ e0-judged m hd hh hp ht {parts} {size} count sized = go (leb parts 65535) refl
         let valid : ValidFileEntry m = record { date = hd; hash = hh; parts = (omega arith, hp); tags = ht } in
         rw sized at (ceiling-judged part_met (e0 m) (tags_number (spec_check_part_tags m.tags)) (valid.parts.0, tags-fit m.tags ht) (λ within. e0-within m valid within))
 
--- The number by the verdict that code finds.
-pub verdict-judged : (tags : List Tag) (v : TagsVerdict) → verdict_meaning tags v ≡ spec_check_part_tags tags → spec_verdict_number v ≡ tags_number (spec_check_part_tags tags)
-verdict-judged tags (TagsVerdict.Passes size) e = rw (← e) refl
-verdict-judged tags (TagsVerdict.Violates rule) e = rw (← e) refl
-
--- What the writer owes, once the number is known.
-abbrev pub E0Ready : List ℕ → met.FileEntry → (number size : ℕ) → Type 0
-E0Ready s e number size = Ready (WritesAt part_met (file_entry_there s e) (e0 (file_entry_in s e))) number (encode_part_met (e0 (file_entry_in s e))) size
+-- What the writer owes, once the lists are found to have p and t bytes.
+abbrev pub E0Ready : List ℕ → met.FileEntry → (p t : ℕ) → Type 0
+E0Ready s e p t =
+    Ready (WritesAt part_met (file_entry_there s e) (e0 (file_entry_in s e))) (spec_e0_number e.parts.count (27 + p + t) (items_in decode_tag s e.tags))
+    (encode_part_met (e0 (file_entry_in s e))) (27 + p + t)
 
 module _ (s : List ℕ) (known : (i : ℕ) → Fits w8 (get_or s i 0)) (e : met.FileEntry) where
-  module _ (p t : ℕ) (h : EntryMeaning s e (EntryStep.Got p t)) where
+  module _ (p t : ℕ) (h : EntryMeaning s e (Ok (p, t))) where
     e0-size : length (encode_part_met (e0 (file_entry_in s e))) ≡ 27 + p + t
     unfolding encode_part_met
     e0-size =
         length-append (byte 0xE0) (encode_file_entry (file_entry_in s e))
         ∙ omega (arith, length-little_endian 1 0xE0, entry-size s known e p t h)
 
-    pub e0-ready : {number : ℕ} → number ≡ spec_e0_number e.parts.count (27 + p + t) (items_in decode_tag s e.tags) → Dword e.date → Dword e.tags.count → E0Ready s e number (27 + p + t)
-    e0-ready q hd ht =
+    pub e0-ready : Dword e.date → Dword e.tags.count → E0Ready s e p t
+    e0-ready hd ht =
         let ps = parts-here s known e p t h in
         let ts = tags-here s known e p t h in
         let judged = e0-judged (file_entry_in s e) hd (hash-valid s known e.hash h.0) ps.all (rw ts.count ht, ts.all) ps.count e0-size in
-        writes-ready (entry-there s known e p t h) (rw q judged) refl e0-size
+        writes-ready (entry-there s known e p t h) judged refl e0-size
 
-pub e0-fits : (parts size : ℕ) (tags : List Tag) → spec_e0_number parts size tags ≡ 0 → (parts ≤ 65535) × (size ≤ met_ceiling)
+pub e0-fits : (parts size : ℕ) (tags : List Tag) → 0 ≡ spec_e0_number parts size tags → (parts ≤ 65535) × (size ≤ met_ceiling)
 unfolding spec_e0_number
 e0-fits parts size tags e = go (leb parts 65535) (leb size met_ceiling) refl refl e
   where
-    go : (a b : Bool) → leb parts 65535 ≡ a → leb size met_ceiling ≡ b → ◌≡◌ {A = ℕ} (pick a (pick b (tags_number (spec_check_part_tags tags)) 6) 6) 0 →
+    go : (a b : Bool) → leb parts 65535 ≡ a → leb size met_ceiling ≡ b → ◌≡◌ {A = ℕ} 0 (pick a (pick b (tags_number (spec_check_part_tags tags)) 6) 6) →
         (parts ≤ 65535) × (size ≤ met_ceiling)
     go true true p q z = (leb-true parts 65535 p, leb-true size met_ceiling q)
     go true false p q z = absurd (omega arith)

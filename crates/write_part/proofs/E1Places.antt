@@ -33,26 +33,29 @@ use Rattle.met.specs.declared.PartE1.{PartE1}
 use Rattle.met.specs.declared.PartMet.{PartMet}
 use Rattle.met.specs.MetAnswers.{blocks_in, part_e1_in, part_met_in}
 use Rattle.write_items.specs.There.{both_there, items_there}
-use Rattle.format.specs.RoundTrip.{RoundTrip, WritesAt}
+use Rattle.format.specs.RoundTrip.{WritesAt}
 use Rattle.write_items.proofs.There.{then-there}
-use Rattle.write_items.proofs.Answers.{Ready, promised, writes-ready}
+use Rattle.write_items.proofs.Answers.{Promised, Ready, promised, writes-ready}
 use Rattle.write_items.proofs.Listed.{items-bytes}
 use Rattle.write_met.proofs.Lists.{Here, hash-valid, list-here}
 use Rattle.write_part.specs.declared.Area.{Area}
-use Rattle.write_part.specs.declared.E1Step.{E1Step}
 use Rattle.write_part.specs.PartWrites.{blocks_there, part_e1_there, part_there}
 use Rattle.write_part.specs.BlockSteps.{E1Meaning, after_tags, allowed, area_bytes, spec_area_size, spec_blocks_number, e1_bytes, e1_head, spec_e1_number}
-use Rattle.write_part.proofs.AreaBytes.{area-sized, at_mark}
+use Rattle.write_part.proofs.AreaBytes.{area_sized, at_mark}
 use Rattle.write_part.proofs.Blocks.{followed, outcome_number}
 use Rattle.write_part.proofs.E1.{e1-judged}
+use Rattle.std.specs.Prelude.{Ok}
 
 both-there : (first second : Outcome (Unit {0})) {next : ℕ} → got tt next ≡ both_there first second → (n : ℕ) × ((got tt n ≡ first) × (got tt next ≡ second))
 both-there (refused f) second e = absurd (never (sym e))
 both-there (got u n) second e = (n, (refl, e))
 
--- What the writer owes, once the tags are found to have t bytes, the blocks to have this area, and the number is known.
-abbrev pub E1Ready : List ℕ → PartE1 → (t : ℕ) → Area → (number : ℕ) → Type 0
-E1Ready s m t a number = Ready (WritesAt part_met (part_e1_there s m) (e1 (part_e1_in s m))) number (e1_bytes s m t a) (26 + t + spec_area_size a)
+-- What the writer owes, once the tags are found to have t bytes and the blocks to have this area.
+abbrev pub E1Ready : List ℕ → PartE1 → (t : ℕ) → Area → Type 0
+E1Ready s m t a =
+    Ready (WritesAt part_met (part_e1_there s m) (e1 (part_e1_in s m)))
+    (spec_e1_number (26 + t + spec_area_size a) (spec_check_part_tags (items_in decode_tag s m.tags)) (spec_blocks_number s m.blocks a))
+    (e1_bytes s m t a) (26 + t + spec_area_size a)
 
 module _ (s : List ℕ) (known : (i : ℕ) → Fits w8 (get_or s i 0)) where
   items-valid : {A : Type 0} {d : Decoder A} {encode : A → List ℕ} {Valid : A → Type 0} → Codec anywhere d encode Valid → NeedsByte d → (l : Items) {next : ℕ} →
@@ -135,11 +138,11 @@ module _ (s : List ℕ) (known : (i : ℕ) → Fits w8 (get_or s i 0)) where
       (bytes-append (encode_tags (items_in decode_tag s m.tags)) _ (tags-bytes m.tags) (blocks-bytes m.blocks)))))
 
   -- both promises of the writer
-  pub part-promises : (m : PartMet) {output : List ℕ} {w : Written} → WritesAt part_met (part_there s m) (part_met_in s m) output w →
-      WritesAt part_met (part_there s m) (part_met_in s m) output w × RoundTrip part_met (part_there s m) (part_met_in s m) output w
-  part-promises m = promised (λ _. part-encoding m)
+  pub part_promises : (m : PartMet) {output : List ℕ} {w : Written} → WritesAt part_met (part_there s m) (part_met_in s m) output w →
+      Promised part_met (part_there s m) (part_met_in s m) output w
+  part_promises m = promised (λ _. part-encoding m)
 
-  module _ (m : PartE1) (t : ℕ) (a : Area) (h : E1Meaning s m (E1Step.Got t a)) where
+  module _ (m : PartE1) (t : ℕ) (a : Area) (h : E1Meaning s m (Ok (t, a))) where
     tags-here : Here encode_tag ValidTag s m.tags (items_in decode_tag s m.tags) t
     tags-here = list-here codec-tag tag-needed s known m.tags h.1.0
 
@@ -159,7 +162,7 @@ module _ (s : List ℕ) (known : (i : ℕ) → Fits w8 (get_or s i 0)) where
         ∙ length-append (e1_head s m ++ (dword m.tags.count ++ bytes_at s m.tags.at t)) (area_bytes s a)
         ∙ omega (
           arith,
-          area-sized s a h.1.1.lies,
+          area_sized s a h.1.1.lies,
           length-append (e1_head s m) (dword m.tags.count ++ bytes_at s m.tags.at t),
           head-size,
           length-append (dword m.tags.count) (bytes_at s m.tags.at t),
@@ -185,17 +188,16 @@ module _ (s : List ℕ) (known : (i : ℕ) → Fits w8 (get_or s i 0)) where
     unfolding spec_blocks_number
     right size v = rw (valid-allowed size m.blocks h.1.1.here v) refl
 
-    pub e1-ready : {number : ℕ} → number ≡ spec_e1_number (26 + t + spec_area_size a) (spec_check_part_tags (items_in decode_tag s m.tags)) (spec_blocks_number s m.blocks a) →
-        Dword m.date → Dword m.tags.count → E1Ready s m t a number
-    e1-ready q hd ht =
+    pub e1-ready : Dword m.date → Dword m.tags.count → E1Ready s m t a
+    e1-ready hd ht =
         let judged = e1-judged (part_e1_in s m) hd (hash-valid s known m.hash h.0) (rw tags-here.count ht, tags-here.all) (part-encoding (PartMet.E1 m))
         (spec_blocks_number s m.blocks a) right (λ size. decided size (allowed size m.blocks) refl) e1-size in
-        writes-ready (then-there h.0 (then-there h.1.0 h.1.1.here)) (rw q judged) e1-bytes (ap length e1-bytes ∙ e1-size)
+        writes-ready (then-there h.0 (then-there h.1.0 h.1.1.here)) judged e1-bytes (ap length e1-bytes ∙ e1-size)
 
-pub e1-fits : (size : ℕ) (check : Check (ℕ × List messages.Tag)) (blocks : ℕ → ℕ) → spec_e1_number size check blocks ≡ 0 → size ≤ met_ceiling
+pub e1-fits : (size : ℕ) (check : Check (ℕ × List messages.Tag)) (blocks : ℕ → ℕ) → 0 ≡ spec_e1_number size check blocks → size ≤ met_ceiling
 unfolding spec_e1_number
 e1-fits size check blocks e = go (leb size met_ceiling) refl e
   where
-    go : (t : Bool) → leb size met_ceiling ≡ t → ◌≡◌ {A = ℕ} (pick t (after_tags check blocks) 6) 0 → size ≤ met_ceiling
+    go : (t : Bool) → leb size met_ceiling ≡ t → ◌≡◌ {A = ℕ} 0 (pick t (after_tags check blocks) 6) → size ≤ met_ceiling
     go true q z = leb-true size met_ceiling q
     go false q z = absurd (omega arith)

@@ -8,26 +8,19 @@ use Rattle.format.specs.Decoding.{Check, bytes_at, got, number, passes, refused,
 use Rattle.format.specs.Order.{decode_tag}
 use Rattle.format.specs.PartTagOrder.{spec_check_part_tags}
 use Rattle.wire.specs.declared.Fault.{Fault}
-use Rattle.wire.specs.WireAnswers.{fault_meaning, hash_at, spec_no_fault, place_bytes, rule_meaning}
-use Rattle.part_tags.specs.declared.TagsVerdict.{TagsVerdict}
+use Rattle.wire.specs.WireAnswers.{fault_meaning, hash_at, place_bytes}
 use Rattle.met.specs.declared.HashBlocks.{HashBlocks}
 use Rattle.met.specs.declared.PartE1.{PartE1}
 use Rattle.met.specs.MetAnswers.{blocks_in}
 use Rattle.write_items.specs.There.{hash_there, items_there}
-use Rattle.write_met.specs.declared.LengthStep.{LengthStep}
 use Rattle.write_part.specs.declared.Area.{Area}
-use Rattle.write_part.specs.declared.AreaStep.{AreaStep}
-use Rattle.write_part.specs.declared.E1Step.{E1Step}
 use Rattle.write_part.specs.PartWrites.{blocks_there, part_e1_there}
+use Rattle.std.specs.Prelude.{Result, Ok, Err}
 
 -- The number that the check of the tags gives.
 abbrev pub tags_number : Check (ℕ × List messages.Tag) → ℕ
 tags_number (passes p) = 0
 tags_number (violates rule) = number rule
-
-abbrev pub spec_verdict_number : TagsVerdict → ℕ
-spec_verdict_number (TagsVerdict.Passes size) = 0
-spec_verdict_number (TagsVerdict.Violates rule) = number (rule_meaning rule)
 
 -- A part.met E0: 6 for part hashes that their count field cannot hold, the byte ceiling (6), and the tags (9, 8, 6).
 unfoldable pub spec_e0_number : (parts : ℕ) → (size : ℕ) → List messages.Tag → ℕ
@@ -57,17 +50,9 @@ pub record AreaOf (s : List ℕ) (b : HashBlocks) (a : Area) : Type 0 where
   pub bytes : area_bytes s a ≡ encode_hash_blocks (blocks_in s b)
   pub lies : AreaLies s a
 
-abbrev pub AreaMeaning : List ℕ → HashBlocks → AreaStep → Type 0
-AreaMeaning s b (AreaStep.Got a) = AreaOf s b a
-AreaMeaning s b (AreaStep.Refused f) = refused (fault_meaning f) ≡ blocks_there s b
-
-abbrev pub one_block : ℕ → LengthStep → AreaStep
-one_block at (LengthStep.Got n) = AreaStep.Got (Area.One (record { at = at; len = n }))
-one_block at (LengthStep.Refused f) = AreaStep.Refused f
-
-abbrev pub area_fault : AreaStep → Fault
-area_fault (AreaStep.Got a) = spec_no_fault
-area_fault (AreaStep.Refused f) = f
+abbrev pub AreaMeaning : List ℕ → HashBlocks → Result Area Fault → Type 0
+AreaMeaning s b (Ok a) = AreaOf s b a
+AreaMeaning s b (Err f) = refused (fault_meaning f) ≡ blocks_there s b
 
 -- The blocks that a file of this size may have, by their counts.
 abbrev pub allowed : ℕ → HashBlocks → Bool
@@ -103,14 +88,10 @@ unfoldable pub spec_e1_number : (size : ℕ) → Check (ℕ × List messages.Tag
 spec_e1_number size check blocks = pick (leb size met_ceiling) (after_tags check blocks) 6
 
 -- The places of a part.met E1 are there, its tags have t bytes, and its blocks have this area.
-abbrev pub E1Meaning : List ℕ → PartE1 → E1Step → Type 0
-E1Meaning s m (E1Step.Got t a) =
+abbrev pub E1Meaning : List ℕ → PartE1 → Result (ℕ × Area) Fault → Type 0
+E1Meaning s m (Ok (t, a)) =
     (got tt (m.hash + 16) ≡ hash_there s m.hash) × ((got tt (m.tags.at + t) ≡ items_there decode_tag s m.tags) × AreaOf s m.blocks a)
-E1Meaning s m (E1Step.Refused f) = refused (fault_meaning f) ≡ part_e1_there s m
-
-abbrev pub e1_fault : E1Step → Fault
-e1_fault (E1Step.Got t a) = spec_no_fault
-e1_fault (E1Step.Refused f) = f
+E1Meaning s m (Err f) = refused (fault_meaning f) ≡ part_e1_there s m
 
 -- What stands before the tags, and all bytes.
 abbrev pub e1_head : List ℕ → PartE1 → List ℕ

@@ -5,15 +5,16 @@ ghost use Rattle.format.specs.Decoding.{decode_run};
 ghost use Rattle.format.specs.Writing.{overwritten};
 ghost use Rattle.met.specs.declared.HashBlocks.{HashBlocks};
 ghost use Rattle.write_items.specs.There.{items_there};
+ghost use Rattle.output.specs.WriteAnswers.{number_of, refusal_number};
 ghost use Rattle.write_met.specs.Lengths.{length_meaning};
-ghost use Rattle.write_part.specs.BlockSteps.{one_block, area_bytes, spec_area_size, AreaLies, AreaMeaning};
+ghost use Rattle.write_part.specs.BlockSteps.{area_bytes, spec_area_size, AreaLies, AreaMeaning};
 ghost use Rattle.write_part.specs.BlockSteps.{closed, spec_area_number, allowed, spec_blocks_number};
 
-use crate::{Area, AreaStep};
+use crate::Area;
 use met::{HashBlocks, MET_CEILING, block_count, block_hashes_from, part_count};
-use output::{CHOICE, REST, SHORT, copy, put_byte};
-use wire::{Cursor, Items, Place, bytes_at};
-use write_met::{LengthStep, hashes_length, length_from};
+use output::{Refusal, copy, put_byte};
+use wire::{Cursor, Fault, Items, Place, bytes_at};
+use write_met::{hashes_length, length_from};
 
 // The byte before each block, and the byte after the last one.
 const BLOCK_MARK: u8 = 1;
@@ -25,53 +26,40 @@ const PART_HASH_BYTES: usize = 16;
 
 const BLOCK_HASH_BYTES: usize = 8;
 
-fn block_hashes_length(s: &[u8], list: Items) -> LengthStep
+fn block_hashes_length(s: &[u8], list: Items) -> Result<usize, Fault>
     ensures { length_meaning list.at result ≡ items_there (decode_run 8) s.now list }
 {
     let at = list.at;
     length_from(at, block_hashes_from(s, Cursor { at }, list.count))
 }
 
-// Part hashes, or block hashes, alone.
-fn one_block(at: usize, read: LengthStep) -> AreaStep
-    ensures { result ≡ one_block at read }
-{
-    match read {
-        LengthStep::Got(len) => AreaStep::Got(Area::One(Place { at, len })),
-        LengthStep::Refused(f) => AreaStep::Refused(f),
-    }
-}
-
-fn two_blocks(s: &[u8], parts: Items, blocks: Items) -> AreaStep
-    ensures { AreaMeaning s.now (HashBlocks.Both parts blocks) result }
-{
-    let parts_step = hashes_length(s, parts);
-    let LengthStep::Got(parts_len) = parts_step else {
-        return AreaStep::Refused(parts_step.fault());
-    };
-    let blocks_step = block_hashes_length(s, blocks);
-    let LengthStep::Got(blocks_len) = blocks_step else {
-        return AreaStep::Refused(blocks_step.fault());
-    };
-    let first = Place {
-        at: parts.at,
-        len: parts_len,
-    };
-    let second = Place {
-        at: blocks.at,
-        len: blocks_len,
-    };
-    AreaStep::Got(Area::Two(first, second))
-}
-
-pub fn area_of(s: &[u8], blocks: HashBlocks) -> AreaStep
+#[tactic(auto, using(crate::proofs::AreaBytes::no_blocks, crate::proofs::AreaBytes::one_parts, crate::proofs::AreaBytes::one_blocks, crate::proofs::AreaBytes::both_blocks))]
+pub fn area_of(s: &[u8], blocks: HashBlocks) -> Result<Area, Fault>
     ensures { AreaMeaning s.now blocks result }
 {
     match blocks {
-        HashBlocks::Nothing => AreaStep::Got(Area::Nothing),
-        HashBlocks::Parts(list) => one_block(list.at, hashes_length(s, list)),
-        HashBlocks::Blocks(list) => one_block(list.at, block_hashes_length(s, list)),
-        HashBlocks::Both(first, second) => two_blocks(s, first, second),
+        HashBlocks::Nothing => Ok(Area::Nothing),
+        HashBlocks::Parts(list) => {
+            let len = hashes_length(s, list)?;
+            Ok(Area::One(Place { at: list.at, len }))
+        }
+        HashBlocks::Blocks(list) => {
+            let len = block_hashes_length(s, list)?;
+            Ok(Area::One(Place { at: list.at, len }))
+        }
+        HashBlocks::Both(parts, blocks) => {
+            let parts_len = hashes_length(s, parts)?;
+            let blocks_len = block_hashes_length(s, blocks)?;
+            let first = Place {
+                at: parts.at,
+                len: parts_len,
+            };
+            let second = Place {
+                at: blocks.at,
+                len: blocks_len,
+            };
+            Ok(Area::Two(first, second))
+        }
     }
 }
 
@@ -118,6 +106,7 @@ pub fn area_size(area: Area) -> usize
 }
 
 // The bytes of a last block: its mark, its hashes, and the closing byte.
+#[tactic(auto, using(crate::proofs::AreaBytes::at_mark, crate::proofs::AreaBytes::in_list, crate::proofs::AreaBytes::after_last))]
 fn last_byte(hashes: &[u8], i: usize) -> u8
     ensures { result ≡ get_or (byte 1 ++ (hashes.now ++ byte 0)) i 0 }
 {
@@ -131,6 +120,7 @@ fn last_byte(hashes: &[u8], i: usize) -> u8
     CLOSING_MARK
 }
 
+#[tactic(auto, using(crate::proofs::AreaBytes::at_mark, crate::proofs::AreaBytes::in_list, crate::proofs::AreaBytes::after_list))]
 fn two_byte(first: &[u8], second: &[u8], i: usize) -> u8
     ensures { result ≡ get_or (byte 1 ++ (first.now ++ (byte 1 ++ (second.now ++ byte 0)))) i 0 }
 {
@@ -145,6 +135,7 @@ fn two_byte(first: &[u8], second: &[u8], i: usize) -> u8
 }
 
 // The byte at an offset of an area, 0 after its end.
+#[tactic(auto, using(crate::proofs::AreaBytes::at_closing))]
 fn area_byte(src: &[u8], area: Area, i: usize) -> u8
     ensures { result ≡ get_or (area_bytes src.now area) i 0 }
 {
@@ -159,40 +150,45 @@ fn area_byte(src: &[u8], area: Area, i: usize) -> u8
     }
 }
 
-// 5 where the bytes end with the closing mark: they are those of another file. 7 where bytes are left over.
-fn closed_number(size: usize, end: usize) -> u8
-    ensures { result ≡ closed size end }
+// Where the bytes end with the closing mark, they are those of another file; else bytes are left over.
+fn closed_refusal(size: usize, end: usize) -> Refusal
+    ensures { refusal_number result ≡ closed size end }
 {
-    if size == end { CHOICE } else { REST }
+    if size == end {
+        Refusal::Choice
+    } else {
+        Refusal::Rest
+    }
 }
 
 // What the reader says of an area that is not allowed, for a file with so many parts and blocks: it is followed by
 // lengths and marks.
-fn area_number(src: &[u8], area: Area, parts: u32, blocks: u32) -> u8
+#[tactic(auto, using(crate::proofs::AreaBytes::area_sized), unfolding(crate::specs::BlockSteps::spec_area_number))]
+fn area_refusal(src: &[u8], area: Area, parts: u32, blocks: u32) -> Refusal
     requires { AreaLies src.now area × (spec_area_size area ≤ 1048576) }
-    ensures { result ≡ spec_area_number parts blocks (area_bytes src.now area) }
+    ensures { refusal_number result ≡ spec_area_number parts blocks (area_bytes src.now area) }
 {
     let size = area_size(area);
     let second = 1 + PART_HASH_BYTES * (parts as usize);
     if size <= second {
-        return SHORT;
+        return Refusal::Short;
     }
     let mark = area_byte(src, area, second);
     if mark == CLOSING_MARK {
-        return closed_number(size, second + 1);
+        return closed_refusal(size, second + 1);
     }
     if mark != BLOCK_MARK {
-        return CHOICE;
+        return Refusal::Choice;
     }
     let last = second + 1 + BLOCK_HASH_BYTES * (blocks as usize);
     if size <= last {
-        return SHORT;
+        return Refusal::Short;
     }
     let closing = area_byte(src, area, last);
     if closing != CLOSING_MARK {
-        return CHOICE;
+        return Refusal::Choice;
     }
-    closed_number(size, last + 1)
+    closed_refusal(size, last + 1)
 }
 
 fn is_allowed(blocks: HashBlocks, size: u32) -> bool
@@ -203,24 +199,21 @@ fn is_allowed(blocks: HashBlocks, size: u32) -> bool
         HashBlocks::Parts(list) => list.count == part_count(size),
         HashBlocks::Blocks(_) => false,
         HashBlocks::Both(first, second) => {
-            if first.count == part_count(size) {
-                second.count == block_count(size)
-            } else {
-                false
-            }
+            first.count == part_count(size) && second.count == block_count(size)
         }
     }
 }
 
-// The number for the blocks of a file of this size, 0 if they are allowed.
-pub fn blocks_number(src: &[u8], blocks: HashBlocks, area: Area, size: u32) -> u8
+// The check of the blocks of a file of this size.
+#[tactic(auto, unfolding(crate::specs::BlockSteps::spec_blocks_number))]
+pub fn check_blocks(src: &[u8], blocks: HashBlocks, area: Area, size: u32) -> Result<(), Refusal>
     requires { AreaLies src.now area × (spec_area_size area ≤ 1048576) }
-    ensures { result ≡ spec_blocks_number src.now blocks area size }
+    ensures { number_of result ≡ spec_blocks_number src.now blocks area size }
 {
     if is_allowed(blocks, size) {
-        return 0;
+        return Ok(());
     }
-    area_number(src, area, part_count(size), block_count(size))
+    Err(area_refusal(src, area, part_count(size), block_count(size)))
 }
 
 // A mark and the hashes of a block.

@@ -21,14 +21,13 @@ ghost use Rattle.met.specs.MetAnswers.{part_met_in};
 ghost use Rattle.output.specs.WriteAnswers.{answered};
 ghost use Rattle.write_items.specs.There.{items_there};
 ghost use Rattle.write_part.specs.PartWrites.{part_there};
-ghost use Rattle.write_part.specs.BlockSteps.{spec_verdict_number, area_fault, e1_fault};
 
 use crate::part_e0::write_part_e0;
 use crate::part_e1::write_part_e1;
 use met::PartMet;
-use output::WriteAnswer;
-use part_tags::{TagsVerdict, check_part_tags};
-use wire::{Fault, Items, Place, no_fault, number};
+use output::Written;
+use part_tags::check_part_tags;
+use wire::{Items, Place, Rule};
 
 mod areas;
 mod part_e0;
@@ -42,44 +41,8 @@ enum Area {
     Two(Place, Place),
 }
 
-#[derive(Clone, Copy)]
-enum AreaStep {
-    Got(Area),
-    Refused(Fault),
-}
-
-impl AreaStep {
-    fn fault(self) -> Fault
-        ensures { result ≡ area_fault self }
-    {
-        match self {
-            AreaStep::Got(_) => no_fault(),
-            AreaStep::Refused(f) => f,
-        }
-    }
-}
-
-// How many bytes the tags have, and the area of the blocks; or the fault of the first offset at which they are not
-// encoded.
-#[derive(Clone, Copy)]
-enum E1Step {
-    Got(usize, Area),
-    Refused(Fault),
-}
-
-impl E1Step {
-    fn fault(self) -> Fault
-        ensures { result ≡ e1_fault self }
-    {
-        match self {
-            E1Step::Got(_, _) => no_fault(),
-            E1Step::Refused(f) => f,
-        }
-    }
-}
-
 // The check of the tags that are encoded in `tags_len` bytes.
-fn check_tags(src: &[u8], tags: Items, tags_len: usize) -> TagsVerdict
+fn check_tags(src: &[u8], tags: Items, tags_len: usize) -> Result<u32, Rule>
     requires { got tt (tags.at + tags_len) ≡ items_there decode_tag src.now tags }
     ensures { verdict_meaning (items_in decode_tag src.now tags) result ≡ spec_check_part_tags (items_in decode_tag src.now tags) }
 {
@@ -90,18 +53,9 @@ fn check_tags(src: &[u8], tags: Items, tags_len: usize) -> TagsVerdict
     checked.verdict
 }
 
-// The number of a verdict, 0 for tags that pass.
-fn verdict_number(verdict: TagsVerdict) -> u8
-    ensures { result ≡ spec_verdict_number verdict }
-{
-    match verdict {
-        TagsVerdict::Passes(_) => 0,
-        TagsVerdict::Violates(rule) => number(rule),
-    }
-}
-
 // The part.met whose hash, lists and blocks are encoded at offsets of `src`.
-pub fn write_part_met(src: &[u8], part: PartMet, out: &mut [u8]) -> WriteAnswer
+#[tactic(auto, using(crate::proofs::E1Places::part_promises))]
+pub fn write_part_met(src: &[u8], part: PartMet, out: &mut [u8]) -> Written
     ensures writes { WritesAt part_met (part_there src.now part) (part_met_in src.now part) out.old
         (answered result out.new) }
     ensures round { RoundTrip part_met (part_there src.now part) (part_met_in src.now part) out.old

@@ -1,5 +1,5 @@
 // A part.met that begins with E1: date, hash, tags and blocks of hashes.
-ghost use Rattle.std.specs.Prelude.{◌≡◌, ◌+◌, ◌≤◌, length};
+ghost use Rattle.std.specs.Prelude.{◌≡◌, ◌+◌, ◌≤◌, Ok, length};
 ghost use Rattle.format.specs.Messages.{part_met, e1};
 ghost use Rattle.format.specs.Decoding.{got};
 ghost use Rattle.format.specs.Order.{decode_tag};
@@ -8,20 +8,18 @@ ghost use Rattle.format.specs.Writing.{overwritten};
 ghost use Rattle.format.specs.RoundTrip.{WritesAt};
 ghost use Rattle.wire.specs.WireAnswers.{items_in};
 ghost use Rattle.met.specs.MetAnswers.{part_e1_in};
-ghost use Rattle.output.specs.WriteAnswers.{answered};
+ghost use Rattle.output.specs.WriteAnswers.{answered, number_of};
 ghost use Rattle.write_items.specs.There.{hash_there, items_there};
-ghost use Rattle.write_part.specs.declared.E1Step.{E1Step};
 ghost use Rattle.write_part.specs.PartWrites.{part_e1_there};
 ghost use Rattle.write_part.specs.BlockSteps.{spec_area_size, AreaLies, spec_blocks_number, spec_e1_number, E1Meaning, e1_head, e1_bytes};
 
-use crate::areas::{area_of, area_size, blocks_number, is_within, put_area};
-use crate::{Area, AreaStep, E1Step, check_tags};
+use crate::areas::{area_of, area_size, check_blocks, is_within, put_area};
+use crate::{Area, check_tags};
 use met::PartE1;
-use output::{LIMIT, ROOM, WriteAnswer, copy, put_byte, put_dword, refused};
-use part_tags::TagsVerdict;
-use wire::{Cursor, HashStep, bytes_at, number};
+use output::{Refusal, Written, copy, put_byte, put_dword};
+use wire::{Cursor, Fault, bytes_at};
 use write_items::put_list;
-use write_met::{LengthStep, tags_length};
+use write_met::tags_length;
 
 const E1_OPENING: u8 = 0xE1;
 
@@ -30,41 +28,29 @@ const E1_VERSION: u8 = 0x02;
 
 const HASH_BYTES: usize = 16;
 
-fn e1_lengths(s: &[u8], file: PartE1) -> E1Step
+// How many bytes the tags have, and the area of the blocks.
+fn e1_lengths(s: &[u8], file: PartE1) -> Result<(usize, Area), Fault>
     ensures { E1Meaning s.now file result }
 {
     let cursor = Cursor { at: file.hash };
-    let step = cursor.hash(s);
-    let HashStep::Got(_, _) = step else {
-        return E1Step::Refused(step.fault());
-    };
-    let tags = tags_length(s, file.tags);
-    let LengthStep::Got(tags_len) = tags else {
-        return E1Step::Refused(tags.fault());
-    };
-    let blocks = file.blocks;
-    let blocks_step = area_of(s, blocks);
-    let AreaStep::Got(area) = blocks_step else {
-        return E1Step::Refused(blocks_step.fault());
-    };
-    E1Step::Got(tags_len, area)
+    cursor.hash(s)?;
+    let tags_len = tags_length(s, file.tags)?;
+    let area = area_of(s, file.blocks)?;
+    Ok((tags_len, area))
 }
 
-// The number for a file of `26 + tags_len` bytes and those of its area, apart from the room.
-fn e1_number(src: &[u8], file: PartE1, tags_len: usize, area: Area) -> u8
+// The check of a file of `26 + tags_len` bytes and those of its area, apart from the room.
+#[tactic(auto, unfolding(crate::specs::BlockSteps::spec_e1_number))]
+fn check_e1(src: &[u8], file: PartE1, tags_len: usize, area: Area) -> Result<(), Refusal>
     requires { (got tt (file.tags.at + tags_len) ≡ items_there decode_tag src.now file.tags) × AreaLies src.now area }
-    ensures { result ≡ spec_e1_number (26 + tags_len + spec_area_size area) (spec_check_part_tags (items_in decode_tag src.now file.tags))
+    ensures { number_of result ≡ spec_e1_number (26 + tags_len + spec_area_size area) (spec_check_part_tags (items_in decode_tag src.now file.tags))
         (spec_blocks_number src.now file.blocks area) }
 {
     if !is_within(tags_len, area) {
-        return LIMIT;
+        return Err(Refusal::Limit);
     }
-    let verdict = check_tags(src, file.tags, tags_len);
-    let blocks = file.blocks;
-    match verdict {
-        TagsVerdict::Passes(size) => blocks_number(src, blocks, area, size),
-        TagsVerdict::Violates(rule) => number(rule),
-    }
+    let size = check_tags(src, file.tags, tags_len)?;
+    check_blocks(src, file.blocks, area, size)
 }
 
 // All before the tags.
@@ -79,7 +65,7 @@ fn put_e1_head(out: &mut [u8], src: &[u8], file: PartE1)
 }
 
 fn put_part_e1(out: &mut [u8], src: &[u8], file: PartE1, tags_len: usize, area: Area) -> usize
-    requires { E1Meaning src.now file (E1Step.Got tags_len area) × (26 + tags_len + spec_area_size area ≤ length out.old) }
+    requires { E1Meaning src.now file (Ok (tags_len, area)) × (26 + tags_len + spec_area_size area ≤ length out.old) }
     ensures written { result ≡ 26 + tags_len + spec_area_size area }
     ensures output { out.new ≡ overwritten (e1_bytes src.now file tags_len area) out.old }
 {
@@ -91,25 +77,15 @@ fn put_part_e1(out: &mut [u8], src: &[u8], file: PartE1, tags_len: usize, area: 
     at + rest
 }
 
-pub fn write_part_e1(src: &[u8], file: PartE1, out: &mut [u8]) -> WriteAnswer
+pub fn write_part_e1(src: &[u8], file: PartE1, out: &mut [u8]) -> Written
     ensures { WritesAt part_met (part_e1_there src.now file) (e1 (part_e1_in src.now file)) out.old
         (answered result out.new) }
 {
-    let step = e1_lengths(src, file);
-    let E1Step::Got(tags_len, area) = step else {
-        return refused(step.fault().number());
-    };
-    let number = e1_number(src, file, tags_len, area);
-    if number != 0 {
-        return refused(number);
-    }
+    let (tags_len, area) = e1_lengths(src, file)?;
+    check_e1(src, file, tags_len, area)?;
     let size = area_size(area);
     if out.len() < 26 + tags_len + size {
-        return refused(ROOM);
+        return Err(Refusal::Room);
     }
-    let wrote = put_part_e1(out, src, file, tags_len, area);
-    WriteAnswer {
-        number: 0,
-        length: wrote,
-    }
+    Ok(put_part_e1(out, src, file, tags_len, area))
 }

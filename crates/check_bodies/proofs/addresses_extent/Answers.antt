@@ -8,27 +8,25 @@ use Rattle.write_items.proofs.Listed.{Listed}
 use Rattle.check_bodies.proofs.Extents.{absent-extends, list-extends, list-long}
 use Rattle.check_bodies.proofs.Places.{addresses-listed, got-ends}
 use Rattle.check_bodies.proofs.addresses_extent.Goals as goal
-use Rattle.check_bodies.proofs.addresses_extent.Goals.{In-Got}
+use Rattle.check_bodies.proofs.addresses_extent.Goals.{In_ok-next}
 
-list : (c : In-Got) → Listed decode_address encode_address ValidAddress c.args.src.now c.args.list c.in-Got.next.at
+list : (c : In_ok-next) → Listed decode_address encode_address ValidAddress c.args.src.now c.args.list c.in_ok-next.next.at
 list c =
     let src = c.args.src.now in
     addresses-listed src (slice-bytes src c.type_inv.src) c.args.list
-    (got-ends (rw c.in-Got.is at c.addresses_from-step.ensures.meaning))
+    (got-ends c.in_ok-next.ensures.meaning)
 
-pub returns-in_default : goal.returns-in_default
-returns-in_default c =
-    let told = c.in_default.is in
-    rw (c.number.ensures, c.fault.ensures, told) (absent-extends _ (rw told at c.addresses_from-step.ensures.meaning))
+pub returns-in_err-next : goal.returns-in_err-next
+returns-in_err-next c = absent-extends _ _ c.from_residual.ensures.1 c.in_err-next.ensures.meaning
 
 pub returns-then-count-gt-ADDRESSES_MOST : goal.returns-then-count-gt-ADDRESSES_MOST
-returns-then-count-gt-ADDRESSES_MOST c = list-long (list (goal.at.returns-then-count-gt-ADDRESSES_MOST c).In-Got) (λ fit. omega (arith, (list (goal.at.returns-then-count-gt-ADDRESSES_MOST c).In-Got).count, c.if-count-gt-ADDRESSES_MOST.true))
+returns-then-count-gt-ADDRESSES_MOST c = list-long (list (goal.at.returns-then-count-gt-ADDRESSES_MOST c).In_ok-next) (λ fit. omega (arith, (list (goal.at.returns-then-count-gt-ADDRESSES_MOST c).In_ok-next).count, c.if-count-gt-ADDRESSES_MOST.true))
 
 pub overflow_sub-size : goal.overflow_sub-size
-overflow_sub-size c = (list (goal.at.overflow_sub-size c).In-Got).order
+overflow_sub-size c = (list (goal.at.overflow_sub-size c).In_ok-next).order
 
 pub overflow_add-result : goal.overflow_add-result
-overflow_add-result c = omega (arith, (list (goal.at.overflow_add-result c).In-Got).few, c.well_formed.0.1)
+overflow_add-result c = omega (arith, (list (goal.at.overflow_add-result c).In_ok-next).few, c.well_formed.0.1)
 
 pub returns : goal.returns
-returns c = list-extends (list (goal.at.returns c).In-Got) 1 (omega arith) (omega (arith, (list (goal.at.returns c).In-Got).count, c.if-count-gt-ADDRESSES_MOST.false)) (omega (arith, c.well_formed.0.1))
+returns c = list-extends (list (goal.at.returns c).In_ok-next) 1 (omega arith) (omega (arith, (list (goal.at.returns c).In_ok-next).count, c.if-count-gt-ADDRESSES_MOST.false)) (omega (arith, c.well_formed.0.1))

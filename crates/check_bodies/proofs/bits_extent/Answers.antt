@@ -7,13 +7,11 @@ use Rattle.check_bodies.proofs.Extents.{absent-extends, plain-extends}
 use Rattle.check_bodies.proofs.Places.{got-ends}
 use Rattle.check_bodies.proofs.bits_extent.Goals as goal
 
-pub returns-in_default : goal.returns-in_default
-returns-in_default c =
-    let told = c.in_default.is in
-    rw (c.number.ensures, c.fault.ensures, told) (absent-extends _ (rw told at c.read_bits-step.ensures.result_value))
+pub returns-in_err-read_bits : goal.returns-in_err-read_bits
+returns-in_err-read_bits c = absent-extends _ _ c.from_residual.ensures.1 c.in_err-read_bits.ensures.result_value
 
 pub returns-then-parts-gt-WORD_MOST : goal.returns-then-parts-gt-WORD_MOST
-returns-then-parts-gt-WORD_MOST c = too_long (is-there (got-ends (rw c.in-Got.is at c.read_bits-step.ensures.result_value))) (λ f. omega arith)
+returns-then-parts-gt-WORD_MOST c = too_long (is-there (got-ends c.in_ok-read_bits.ensures.result_value)) (λ f. omega arith)
 
 pub returns : goal.returns
-returns c = plain-extends _ (is-there (got-ends (rw c.in-Got.is at c.read_bits-step.ensures.result_value))) (omega arith) refl (omega arith)
+returns c = plain-extends _ (is-there (got-ends c.in_ok-read_bits.ensures.result_value)) (omega arith) refl (omega arith)

@@ -4,14 +4,13 @@ use Rattle.check_bodies.proofs.Extents.{absent-checked, long-checked, sized-chec
 use Rattle.check_bodies.proofs.Rules.{rules}
 use Rattle.check_bodies.proofs.check_body.Goals as goal
 
-pub returns-in-Absent : goal.returns-in-Absent
-returns-in-Absent c = absent-checked (rw c.in-Absent.is at c.body_extent-extent.ensures)
+pub returns-in_err-size : goal.returns-in_err-size
+returns-in_err-size c = absent-checked _ c.from_residual.ensures.1 c.in_err-size.ensures
 
-pub returns-in-TooLong : goal.returns-in-TooLong
-returns-in-TooLong c = long-checked (rw c.in-TooLong.is at c.body_extent-extent.ensures)
+pub returns-in_default : goal.returns-in_default
+returns-in_default c = long-checked (rw c.in_default.is at c.in_ok-size.ensures)
 
-pub returns-in-Sized : goal.returns-in-Sized
-returns-in-Sized c =
+pub returns : goal.returns
+returns c =
     let s = c.args.src.now in
-    rw c.broken_rule.ensures.rule
-    (sized-checked (rules s (slice-bytes s c.type_inv.src) c.args.b c.broken_rule.ensures.bounded) (rw c.in-Sized.is at c.body_extent-extent.ensures))
+    sized-checked _ (rw c.broken_rule-rule.ensures.rule (rules s (slice-bytes s c.type_inv.src) c.args.b c.broken_rule-rule.ensures.bounded)) (rw c.in-Some.is at c.in_ok-size.ensures)

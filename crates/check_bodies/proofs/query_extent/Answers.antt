@@ -4,21 +4,19 @@ use Rattle.wire.proofs.Replies.{slice-bytes}
 use Rattle.check_bodies.proofs.Extents.{absent-extends, query-extends}
 use Rattle.check_bodies.proofs.Places.{QueryListed, got-ends, query-listed}
 use Rattle.check_bodies.proofs.query_extent.Goals as goal
-use Rattle.check_bodies.proofs.query_extent.Goals.{In-Got}
+use Rattle.check_bodies.proofs.query_extent.Goals.{In_ok-next}
 
-query : (c : In-Got) → QueryListed c.args.src.now c.args.q c.in-Got.next.at
+query : (c : In_ok-next) → QueryListed c.args.src.now c.args.q c.in_ok-next.next.at
 query c =
     let src = c.args.src.now in
     query-listed src (slice-bytes src c.type_inv.src) c.args.q
-    (got-ends (rw c.in-Got.is at c.read_query-step.ensures.meaning))
+    (got-ends c.in_ok-next.ensures.meaning)
 
-pub returns-in_default : goal.returns-in_default
-returns-in_default c =
-    let told = c.in_default.is in
-    rw (c.number.ensures, c.fault.ensures, told) (absent-extends _ (rw told at c.read_query-step.ensures.meaning))
+pub returns-in_err-next : goal.returns-in_err-next
+returns-in_err-next c = absent-extends _ _ c.from_residual.ensures.1 c.in_err-next.ensures.meaning
 
 pub overflow_sub-size : goal.overflow_sub-size
-overflow_sub-size c = (query (goal.at.overflow_sub-size c).In-Got).order
+overflow_sub-size c = (query (goal.at.overflow_sub-size c).In_ok-next).order
 
 pub returns : goal.returns
-returns c = query-extends _ _ _ (query (goal.at.returns c).In-Got) (omega (arith, c.well_formed.0.1))
+returns c = query-extends _ _ _ (query (goal.at.returns c).In_ok-next) (omega (arith, c.well_formed.0.1))

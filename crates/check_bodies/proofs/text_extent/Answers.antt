@@ -4,13 +4,11 @@ use Rattle.check_bodies.proofs.Extents.{absent-extends, text-extends, text-long}
 use Rattle.check_bodies.proofs.Places.{got-ends}
 use Rattle.check_bodies.proofs.text_extent.Goals as goal
 
-pub returns-in_default : goal.returns-in_default
-returns-in_default c =
-    let told = c.in_default.is in
-    rw (c.number.ensures, c.fault.ensures, told) (absent-extends _ (rw told at c.run-step.ensures.result_value))
+pub returns-in_err-run : goal.returns-in_err-run
+returns-in_err-run c = absent-extends _ _ c.from_residual.ensures.1 c.in_err-run.ensures.result_value
 
 pub returns-then-len-gt-WORD_MOST : goal.returns-then-len-gt-WORD_MOST
-returns-then-len-gt-WORD_MOST c = text-long _ _ (is-there (got-ends (rw c.in-Got.is at c.run-step.ensures.result_value))) c.if-len-gt-WORD_MOST.true
+returns-then-len-gt-WORD_MOST c = text-long _ _ (is-there (got-ends c.in_ok-run.ensures.result_value)) c.if-len-gt-WORD_MOST.true
 
 pub returns : goal.returns
-returns c = text-extends _ _ (is-there (got-ends (rw c.in-Got.is at c.run-step.ensures.result_value))) c.if-len-gt-WORD_MOST.false
+returns c = text-extends _ _ (is-there (got-ends c.in_ok-run.ensures.result_value)) c.if-len-gt-WORD_MOST.false

@@ -1,10 +1,6 @@
 -- The first i gaps end by the start of the range (`end-by-next` of Loops).
-use Prim.Native.Nat.{◌-◌}
 use Rattle.gap_numbers.specs.NumberSteps.{EndBy}
 use Rattle.gap_numbers.proofs.count_before.Given as goal
 
 abbrev pub invariant-loop-i : goal.invariant-loop-i
 invariant-loop-i l = EndBy l.numbers l.start l.i
-
-abbrev pub decreases-loop-i : goal.decreases-loop-i
-decreases-loop-i l = l.gaps - l.i

@@ -1,10 +1,6 @@
 -- After i gaps the numbers of these are put (`PairsWritten` of Records).
-use Prim.Native.Nat.{◌-◌}
 use Rattle.gap_numbers.proofs.Records.{PairsWritten}
 use Rattle.gap_numbers.proofs.put_pairs.Given as goal
 
 abbrev pub invariant-loop-i : goal.invariant-loop-i
-invariant-loop-i l = PairsWritten l.given l.initial.out l.out l.wrote l.i
-
-abbrev pub decreases-loop-i : goal.decreases-loop-i
-decreases-loop-i l = 64 - l.i
+invariant-loop-i l = PairsWritten l.given l.initial.out l.out l.i

@@ -12,4 +12,4 @@ put_pieces-requires c =
     simp (length-take, length-drop) (omega (arith, room h, h.holds.long))
 
 pub returns : goal.returns
-returns c = replaced c.requires _ _ _ c.move_numbers.ensures c.put_pieces.ensures c.clear.ensures
+returns c = replaced c.requires _ _ _ c.copy_within.ensures.after c.put_pieces.ensures c.clear.ensures

@@ -14,7 +14,7 @@ counted c = let h = c.requires in c.count_left-count.ensures ∙ count_left (hol
 pub returns-then-count-gt-GAP_LIMIT : goal.returns-then-count-gt-GAP_LIMIT
 returns-then-count-gt-GAP_LIMIT c =
     let h = c.requires in
-    rw (too_many c.args.numbers.now c.args.start c.args.end h.0 h.1 (rw (counted (goal.at.returns-then-count-gt-GAP_LIMIT c).After-count_left-count) at c.if-count-gt-GAP_LIMIT.true)) (record { told = c.refused.ensures; numbers = refl })
+    rw (too_many c.args.numbers.now c.args.start c.args.end h.0 h.1 (rw (counted (goal.at.returns-then-count-gt-GAP_LIMIT c).After-count_left-count) at c.if-count-gt-GAP_LIMIT.true)) (record { told = refl; numbers = refl })
 
 pub replace-requires : goal.replace-requires
 replace-requires c = record { holds = holds _ _ _ c.requires.0 c.requires.1; touches = c.touch-touched.ensures; counted = counted (goal.at.replace-requires c).After-count_left-count; few = c.if-count-gt-GAP_LIMIT.false }

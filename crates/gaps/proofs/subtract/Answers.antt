@@ -1,35 +1,28 @@
--- After i gaps what the range leaves of these is in the record made (`Made` of MarkingSteps).
+-- After some gaps what the range leaves of these is in the record made (`Made` of MarkingSteps).
 use native.Mathlib.Omega.{arith}
-use mathlib.Core.Path.{◌≡◌, sym}
-use lib.ListN.{length}
+use mathlib.Core.Path.{sym, ◌∙◌}
 use Rattle.format.specs.Gaps.{subtract}
 use Rattle.gaps.proofs.MarkingSteps.{made_more, made-full, made_all}
 use Rattle.gaps.proofs.subtract.Goals as goal
 
-pub loop-i-init : goal.loop-i-init
+pub loop-gap-init : goal.loop-gap-init
 unfolding subtract
-loop-i-init c =
-    let g = c.args.given in
-    let w : length g.gaps ≡ 64 = c.well_formed.0.1.1.1.1.0.1.0.1 in
-    record {
-      at = record { passed = omega arith; few = omega arith; places = w };
-      holds = c.none_missing-made.ensures;
-      few = omega arith;
-    }
+loop-gap-init c = record { holds = c.none_missing-made.ensures; few = omega arith }
 
-pub returns-then-pushed : goal.returns-then-pushed
-returns-then-pushed c =
+pub returns-in_err-made : goal.returns-in_err-made
+returns-in_err-made c =
     let a = c.args in
-    sym (made-full a.given a.start a.end c.loop-i.i c.loop-i.made c.loop-i.invariant (omega arith)
-    c.push_remaining-pushed.result c.push_remaining-pushed.ensures c.if-pushed.true)
+    let m = c.loop-gap in
+    c.from_residual.ensures ∙ sym (made-full a.given a.start a.end m.gap-index m.made m.invariant (omega arith) (sym c.in_err-made.ensures))
 
-pub loop-i-preserved : goal.loop-i-preserved
-loop-i-preserved c =
+pub loop-gap-preserved : goal.loop-gap-preserved
+loop-gap-preserved c =
     let a = c.args in
-    made_more a.given a.start a.end c.loop-i.i c.loop-i.made c.loop-i.invariant (omega arith)
-    c.push_remaining-pushed.result c.push_remaining-pushed.ensures c.if-pushed.false
+    let m = c.loop-gap in
+    made_more a.given a.start a.end m.gap-index m.made m.invariant (omega arith) _ (sym c.in_ok-made.ensures)
 
 pub returns : goal.returns
 returns c =
     let a = c.args in
-    sym (made_all a.given a.start a.end c.loop-i.i c.loop-i.made c.loop-i.invariant (omega arith))
+    let m = c.loop-gap in
+    sym (made_all a.given a.start a.end m.gap-index m.made m.invariant (omega arith))

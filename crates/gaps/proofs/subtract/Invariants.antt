@@ -1,10 +1,6 @@
--- After i gaps what the range leaves of these is in the record made (`Made` of MarkingSteps).
-use Prim.Native.Nat.{◌-◌}
+-- After some gaps what the range leaves of these is in the record made (`Made` of MarkingSteps).
 use Rattle.gaps.proofs.MarkingSteps.{Made}
 use Rattle.gaps.proofs.subtract.Given as goal
 
-abbrev pub invariant-loop-i : goal.invariant-loop-i
-invariant-loop-i l = Made l.given l.start l.end l.i l.made
-
-abbrev pub decreases-loop-i : goal.decreases-loop-i
-decreases-loop-i l = l.count - l.i
+abbrev pub invariant-loop-gap : goal.invariant-loop-gap
+invariant-loop-gap l = Made l.fn.given.size l.gap-items l.start l.end l.gap-index l.made

@@ -20,14 +20,14 @@ kept-few c =
 
 turned : (c : After-in_gap-in-loop-opened_passed-3) → let a = c.args in
     Turn (bounds_in a.opened.now) (bounds_in a.first.now) (bounds_in a.second.now) c.loop-opened_passed.opened_passed c.loop-opened_passed.first_passed c.loop-opened_passed.second_passed
-    c.smaller-at.result c.pass-opened_passed.result c.pass-first_passed.result c.pass-second_passed.result c.misses-missing.result
+    c.min-at.result c.pass-opened_passed.result c.pass-first_passed.result c.pass-second_passed.result c.misses-missing.result
 turned c =
-    let at = c.smaller-at.result in
+    let at = c.min-at.result in
     let o = c.next_bound-opened_next.ensures in
     let a = c.next_bound-first_next.ensures in
     let b = c.next_bound-second_next.ensures in
     record {
-      least = omega (arith, o, a, b, c.smaller-at.ensures, c.smaller.ensures);
+      least = omega (arith, o, a, b, c.min-at.ensures, c.min.ensures);
       passes-o = c.pass-opened_passed.ensures ∙ ap (λ n. pick (eqb n at) (c.loop-opened_passed.opened_passed + 1) c.loop-opened_passed.opened_passed) o;
       passes-a = c.pass-first_passed.ensures ∙ ap (λ n. pick (eqb n at) (c.loop-opened_passed.first_passed + 1) c.loop-opened_passed.first_passed) a;
       passes-b = c.pass-second_passed.ensures ∙ ap (λ n. pick (eqb n at) (c.loop-opened_passed.second_passed + 1) c.loop-opened_passed.second_passed) b;

@@ -5,24 +5,23 @@ use Rattle.format.specs.Decoding.{got}
 use Rattle.format.specs.PacketOrder.{decode_opening}
 use Rattle.packets.proofs.Heads.{no-opening, no-frame, after_frame}
 use Rattle.packets.proofs.Openings.{opened}
+use Rattle.wire.proofs.Steps.{propagated}
 use Rattle.packets.proofs.read_head.Goals as goal
-use Rattle.packets.proofs.read_head.Goals.{In-Got}
+use Rattle.packets.proofs.read_head.Goals.{In_ok-after_opening}
 
-opening-read : (c : In-Got) → let start = c.args in
-    got 0xE3 c.in-Got.after_opening.at ≡ decode_opening (0xE3 ∷ []) start.s.now 0
-opening-read c = opened 0xE3 c.args.s.now 0 c.in-Got.is c.read_opening-opening_step.ensures
+opening-read : (c : In_ok-after_opening) → let start = c.args in
+    got 0xE3 c.in_ok-after_opening.after_opening.at ≡ decode_opening (0xE3 ∷ []) start.s.now 0
+opening-read c = opened 0xE3 c.args.s.now 0 c.in_ok-after_opening.was c.read_opening.ensures
 
-pub returns-in_default : goal.returns-in_default
-returns-in_default c =
-    let told = c.in_default.is in
-    rw (c.fault.ensures, told) (no-opening _ c.args.link (rw told at c.read_opening-opening_step.ensures))
+pub returns-in_err-after_opening : goal.returns-in_err-after_opening
+returns-in_err-after_opening c =
+    rw ((propagated _ c.from_residual.ensures.1)) (no-opening _ c.args.link c.in_err-after_opening.ensures)
 
-pub returns-in_default-frame_step : goal.returns-in_default-frame_step
-returns-in_default-frame_step c =
-    let told = c.in_default-frame_step.is in
-    rw (c.fault-in_default-frame_step.ensures, told) (no-frame _ (opening-read (goal.at.returns-in_default-frame_step c).In-Got) c.args.link (rw told at c.read_frame-frame_step.ensures))
+pub returns-in_err-after_frame : goal.returns-in_err-after_frame
+returns-in_err-after_frame c =
+    rw ((propagated _ c.from_residual-in_err-after_frame.ensures.1)) (no-frame _ (opening-read (goal.at.returns-in_err-after_frame c).In_ok-after_opening) c.args.link c.in_err-after_frame.ensures)
 
 pub returns : goal.returns
 returns c =
-    let framed = rw c.in-Got-frame_step.is at c.read_frame-frame_step.ensures in
-    after_frame _ (opening-read (goal.at.returns c).In-Got) c.args.link c.read_opcode.result framed c.read_opcode.ensures
+    let framed = c.in_ok-after_frame.ensures in
+    after_frame _ (opening-read (goal.at.returns c).In_ok-after_opening) c.args.link c.read_opcode.result framed c.read_opcode.ensures

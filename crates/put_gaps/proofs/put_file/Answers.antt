@@ -22,23 +22,22 @@ use Rattle.put_gaps.proofs.put_file.Goals.{After-measure_file-sizes}
 bytes : (c : After-measure_file-sizes) → Bytes c.args.file.now
 bytes c = slice-bytes c.args.file.now c.type_inv.file
 
-length-new : (c : After-measure_file-sizes) → c.measure_file-sizes.result.length ≡ length ((encode_part_met (with_gaps ((gaps_of (held c.args.gaps.now))) (part_met_in c.args.file.now c.args.part))))
+length-new : (c : After-measure_file-sizes) → c.measure_file-sizes.result.length ≡ length (encode_part_met (with_gaps (gaps_of (held c.args.gaps.now)) (part_met_in c.args.file.now c.args.part)))
 length-new c =
-    let bytes : (Bytes c.args.file.now) = slice-bytes c.args.file.now c.type_inv.file in
-    let z = c.measure_file-sizes.ensures in omega (arith, z.at, z.list, z.length, new-length c.args.file.now (bytes) c.args.part c.requires.0.read ((gaps_of (held c.args.gaps.now))))
+    let z = c.measure_file-sizes.ensures in
+    omega (arith, z.at, z.list, z.length, new-length c.args.file.now (bytes c) c.args.part c.requires.0.read (gaps_of (held c.args.gaps.now)))
 
 pub returns-then-length-gt-MET_CEILING : goal.returns-then-length-gt-MET_CEILING
-returns-then-length-gt-MET_CEILING c = rw c.refused.ensures (above-ceiling ((encode_part_met (with_gaps ((gaps_of (held c.args.gaps.now))) (part_met_in c.args.file.now c.args.part)))) _ _ (length-new (goal.at.returns-then-length-gt-MET_CEILING c).After-measure_file-sizes) c.if-length-gt-MET_CEILING.true)
+returns-then-length-gt-MET_CEILING c = above-ceiling _ _ _ (length-new (goal.at.returns-then-length-gt-MET_CEILING c).After-measure_file-sizes) c.if-length-gt-MET_CEILING.true
 
 pub returns-then-out-length : goal.returns-then-out-length
-returns-then-out-length c = rw c.refused-then-out-length.ensures (no_room ((encode_part_met (with_gaps ((gaps_of (held c.args.gaps.now))) (part_met_in c.args.file.now c.args.part)))) _ _ (length-new (goal.at.returns-then-out-length c).After-measure_file-sizes) c.if-length-gt-MET_CEILING.false c.if-out-length.true)
+returns-then-out-length c = no_room _ _ _ (length-new (goal.at.returns-then-out-length c).After-measure_file-sizes) c.if-length-gt-MET_CEILING.false c.if-out-length.true
 
 pub copy-requires-2 : goal.copy-requires-2
 copy-requires-2 c =
     let z = c.measure_file-sizes.ensures in
     let tail = tail-bytes c.args.file.now (bytes (goal.at.copy-requires-2 c).After-measure_file-sizes) c.args.part c.requires.0.read in
-    let out = c.out-2-1.given.1 ∙ c.out-1.given in
-    rw (c.bytes_at-2.ensures, z.after, tail) (simp (length-take, length-drop) (omega (arith, z.length, out, c.if-out-length.false)))
+    rw (c.bytes_at-2.ensures, z.after, tail) (simp (length-take, length-drop) (omega (arith, z.length, c.if-out-length.false)))
 
 pub returns : goal.returns
 returns c =
@@ -47,7 +46,7 @@ returns c =
     let old-head = head_of (part_met_in c.args.file.now part) in
     let old-tail = tail_of (part_met_in c.args.file.now part) in
     let old-tags = tags_in c.args.file.now (tags_place part) in
-    let list = encode_tags (regapped ((gaps_of (held c.args.gaps.now))) old-tags) in
+    let list = encode_tags (regapped (gaps_of (held c.args.gaps.now)) old-tags) in
     let head = rw (c.bytes_at.ensures, z.at, head_bytes c.args.file.now (bytes (goal.at.returns c).After-measure_file-sizes) part c.requires.0.read) at c.copy.ensures in
     let tags = rw c.tags.ensures at c.put_tag_list.ensures.output in
     let tail =
@@ -55,7 +54,7 @@ returns c =
     c.copy-2.ensures in
     let first = after old-head list _ _ _ _ (sym z.at) head tags in
     let length-first = length-append old-head list in
-    let place = length-list ((gaps_of (held c.args.gaps.now))) old-tags in
+    let place = length-list (gaps_of (held c.args.gaps.now)) old-tags in
     let last = after (old-head ++ list) old-tail _ _ _ _ (omega (arith, length-first, place, z.at, z.list)) first tail in
-    written ((encode_part_met (with_gaps ((gaps_of (held c.args.gaps.now))) (part_met_in c.args.file.now c.args.part)))) c.args.out.now _ (length-new (goal.at.returns c).After-measure_file-sizes) c.if-length-gt-MET_CEILING.false c.if-out-length.false _
-    (last ∙ ap (λ §P:19§. overwritten §P:19§ c.args.out.now) (sym (new_pieces c.args.file.now (bytes (goal.at.returns c).After-measure_file-sizes) part c.requires.0.read ((gaps_of (held c.args.gaps.now))))))
+    written _ c.args.out.now _ (length-new (goal.at.returns c).After-measure_file-sizes) c.if-length-gt-MET_CEILING.false c.if-out-length.false _
+    (last ∙ ap (λ l. overwritten l c.args.out.now) (sym (new_pieces c.args.file.now (bytes (goal.at.returns c).After-measure_file-sizes) part c.requires.0.read (gaps_of (held c.args.gaps.now)))))

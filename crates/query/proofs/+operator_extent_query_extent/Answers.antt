@@ -1,19 +1,19 @@
 -- The two functions that go past a query call each other as its readers do, by the same measures: what each says is a law of Skips.
 use native.Mathlib.Omega.{arith}
-use Rattle.query.proofs.Depths.{within-depths}
+use Rattle.query.proofs.Depths.{within_depths}
 use Rattle.query.proofs.Skips.{told, leaf-spans, join-spans, sides-span}
 use Rattle.query.proofs.+operator_extent_query_extent.Goals as goal
 
 pub operator_extent-join_extent-requires-clause-first_bound : goal.operator_extent-join_extent-requires-clause-first_bound
 operator_extent-join_extent-requires-clause-first_bound t c =
     let deep = c.requires.left_nonzero in
-    let first-depth = within-depths _ _ _ (told c.query_extent-first.ensures c.if-first-eq0.false) in
+    let first-depth = within_depths _ _ _ (told c.query_extent-first.ensures c.if-first-eq0.false) in
     omega (arith, deep, first-depth)
 
 pub operator_extent-join_extent-requires-clause-second_bound : goal.operator_extent-join_extent-requires-clause-second_bound
 operator_extent-join_extent-requires-clause-second_bound t c =
     let deep = c.requires.left_nonzero in
-    let second-depth = within-depths _ _ _ (told c.query_extent-second.ensures c.if-second-eq0.false) in
+    let second-depth = within_depths _ _ _ (told c.query_extent-second.ensures c.if-second-eq0.false) in
     omega (arith, deep, second-depth)
 
 pub operator_extent-returns : goal.operator_extent-returns

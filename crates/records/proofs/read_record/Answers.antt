@@ -4,43 +4,42 @@ use Rattle.format.specs.Order.{decode_record, decode_dword, decode_hash, decode_
 use Rattle.format.specs.Decoding.{got}
 use Rattle.wire.proofs.Inside.{hash-inside}
 use Rattle.wire.specs.WireAnswers.{hash_at}
+use Rattle.wire.proofs.Steps.{propagated}
 use Rattle.records.proofs.read_record.Goals as goal
-use Rattle.records.proofs.read_record.Goals.{In-Got, In-Got-client_step, In-Got-port_step}
+use Rattle.records.proofs.read_record.Goals.{In_ok-hash, In_ok-client, In_ok-port}
 
-hash-read : (c : In-Got) → let start = c.args in
-    decode_hash start.s.now start.c.at ≡ got (hash_at start.s.now c.in-Got.hash) c.in-Got.after_hash.at
-hash-read c = rw (← c.hash-hash_step.ensures, c.in-Got.is) refl
+hash-read : (c : In_ok-hash) → let start = c.args in
+    decode_hash start.s.now start.c.at ≡ got (hash_at start.s.now c.in_ok-hash.hash) c.in_ok-hash.after_hash.at
+hash-read c = rw (← c.in_ok-hash.ensures) refl
 
-client-read : (c : In-Got-client_step) → decode_dword c.args.s.now c.in-Got.after_hash.at ≡ got c.in-Got-client_step.client c.in-Got-client_step.after_client.at
-client-read c = rw (← c.dword-client_step.ensures, c.in-Got-client_step.is) refl
+client-read : (c : In_ok-client) → decode_dword c.args.s.now c.in_ok-hash.after_hash.at ≡ got c.in_ok-client.client c.in_ok-client.after_client.at
+client-read c = rw (← c.in_ok-client.ensures) refl
 
-port-read : (c : In-Got-port_step) → decode_word c.args.s.now c.in-Got-client_step.after_client.at ≡ got c.in-Got-port_step.port c.in-Got-port_step.after_port.at
-port-read c = rw (← c.word-port_step.ensures, c.in-Got-port_step.is) refl
+port-read : (c : In_ok-port) → decode_word c.args.s.now c.in_ok-client.after_client.at ≡ got c.in_ok-port.port c.in_ok-port.after_port.at
+port-read c = rw (← c.in_ok-port.ensures) refl
 
-pub returns-in_default-clause-meaning : goal.returns-in_default-clause-meaning
+pub returns-in_err-hash-clause-meaning : goal.returns-in_err-hash-clause-meaning
 unfolding decode_record
-returns-in_default-clause-meaning c = rw (c.fault.ensures, ← c.hash-hash_step.ensures, c.in_default.is) refl
+returns-in_err-hash-clause-meaning c = rw ((propagated _ c.from_residual.ensures.1), ← c.in_err-hash.ensures) refl
 
-pub returns-in_default-client_step-clause-meaning : goal.returns-in_default-client_step-clause-meaning
+pub returns-in_err-client-clause-meaning : goal.returns-in_err-client-clause-meaning
 unfolding decode_record
-returns-in_default-client_step-clause-meaning c = rw (c.fault-in_default-client_step.ensures, (hash-read (goal.at.returns-in_default-client_step-clause-meaning c).In-Got), ← c.dword-client_step.ensures, c.in_default-client_step.is) refl
+returns-in_err-client-clause-meaning c = rw ((propagated _ c.from_residual-in_err-client.ensures.1), (hash-read (goal.at.returns-in_err-client-clause-meaning c).In_ok-hash), ← c.in_err-client.ensures) refl
 
-pub returns-in_default-port_step-clause-meaning : goal.returns-in_default-port_step-clause-meaning
+pub returns-in_err-port-clause-meaning : goal.returns-in_err-port-clause-meaning
 unfolding decode_record
-returns-in_default-port_step-clause-meaning c = rw (c.fault-in_default-port_step.ensures, (hash-read (goal.at.returns-in_default-port_step-clause-meaning c).In-Got), (client-read (goal.at.returns-in_default-port_step-clause-meaning c).In-Got-client_step), ← c.word-port_step.ensures, c.in_default-port_step.is) refl
+returns-in_err-port-clause-meaning c = rw ((propagated _ c.from_residual-in_err-port.ensures.1), (hash-read (goal.at.returns-in_err-port-clause-meaning c).In_ok-hash), (client-read (goal.at.returns-in_err-port-clause-meaning c).In_ok-client), ← c.in_err-port.ensures) refl
 
-pub returns-in_default-tags_step-clause-meaning : goal.returns-in_default-tags_step-clause-meaning
+pub returns-in_err-tags-clause-meaning : goal.returns-in_err-tags-clause-meaning
 unfolding decode_record
-returns-in_default-tags_step-clause-meaning c = rw (c.fault-in_default-tags_step.ensures, (hash-read (goal.at.returns-in_default-tags_step-clause-meaning c).In-Got), (client-read (goal.at.returns-in_default-tags_step-clause-meaning c).In-Got-client_step), (port-read (goal.at.returns-in_default-tags_step-clause-meaning c).In-Got-port_step), ← c.read_tags-tags_step.ensures.result_value, c.in_default-tags_step.is) refl
+returns-in_err-tags-clause-meaning c = rw ((propagated _ c.from_residual-in_err-tags.ensures.1), (hash-read (goal.at.returns-in_err-tags-clause-meaning c).In_ok-hash), (client-read (goal.at.returns-in_err-tags-clause-meaning c).In_ok-client), (port-read (goal.at.returns-in_err-tags-clause-meaning c).In_ok-port), ← c.in_err-tags.ensures.result_value) refl
 
 pub returns-clause-meaning : goal.returns-clause-meaning
 unfolding decode_record
 returns-clause-meaning c =
-    let told = c.in-Got-tags_step.is in
-    rw ((hash-read (goal.at.returns-clause-meaning c).In-Got), (client-read (goal.at.returns-clause-meaning c).In-Got-client_step), (port-read (goal.at.returns-clause-meaning c).In-Got-port_step), ← c.read_tags-tags_step.ensures.result_value, told) refl
+    rw ((hash-read (goal.at.returns-clause-meaning c).In_ok-hash), (client-read (goal.at.returns-clause-meaning c).In_ok-client), (port-read (goal.at.returns-clause-meaning c).In_ok-port), ← c.in_ok-tags.ensures.result_value) refl
 
 pub returns-clause-placed : goal.returns-clause-placed
 unfolding decode_record
 returns-clause-placed c =
-    let told = c.in-Got-tags_step.is in
-    (hash-inside _ _ _ (sym (hash-read (goal.at.returns-clause-placed c).In-Got)), rw told at c.read_tags-tags_step.ensures.placed)
+    (hash-inside _ _ _ (sym (hash-read (goal.at.returns-clause-placed c).In_ok-hash)), c.in_ok-tags.ensures.placed)

@@ -2,31 +2,32 @@
 use mathlib.Core.Path.{refl}
 use Rattle.format.proofs.There.{value-is}
 use Rattle.wire.proofs.Inside.{hash-inside}
+use Rattle.wire.proofs.Steps.{propagated}
 use Rattle.tags.proofs.read_value.Goals as goal
 
-pub returns-in_default-clause-result_value : goal.returns-in_default-clause-result_value
-returns-in_default-clause-result_value c = rw (c.fault.ensures, c.in-Hash.is, value-is, ← c.hash-hash_step.ensures, c.in_default.is) refl
+pub returns-in_err-at-in-Hash-clause-result_value : goal.returns-in_err-at-in-Hash-clause-result_value
+returns-in_err-at-in-Hash-clause-result_value c = rw ((propagated _ c.from_residual.ensures.1), c.in-Hash.is, value-is, ← c.in_err-at-in-Hash.ensures) refl
 
-pub returns-in_default-text_step-clause-result_value : goal.returns-in_default-text_step-clause-result_value
-returns-in_default-text_step-clause-result_value c = rw (c.fault-in_default-text_step.ensures, c.in-Text.is, value-is, ← c.string-text_step.ensures.result_value, c.in_default-text_step.is) refl
+pub returns-in_err-text-in-Text-clause-result_value : goal.returns-in_err-text-in-Text-clause-result_value
+returns-in_err-text-in-Text-clause-result_value c = rw ((propagated _ c.from_residual-in_err-text-in-Text.ensures.1), c.in-Text.is, value-is, ← c.in_err-text-in-Text.ensures.result_value) refl
 
-pub returns-in_default-dword_step-clause-result_value : goal.returns-in_default-dword_step-clause-result_value
-returns-in_default-dword_step-clause-result_value c = rw (c.fault-in_default-dword_step.ensures, c.in-Dword.is, value-is, ← c.dword-dword_step.ensures, c.in_default-dword_step.is) refl
+pub returns-in_err-value-in-Dword-clause-result_value : goal.returns-in_err-value-in-Dword-clause-result_value
+returns-in_err-value-in-Dword-clause-result_value c = rw ((propagated _ c.from_residual-in_err-value-in-Dword.ensures.1), c.in-Dword.is, value-is, ← c.in_err-value-in-Dword.ensures) refl
 
-pub returns-in_default-bits_step-clause-result_value : goal.returns-in_default-bits_step-clause-result_value
-returns-in_default-bits_step-clause-result_value c = rw (c.fault-in_default-bits_step.ensures, c.in-Float.is, value-is, ← c.dword-bits_step.ensures, c.in_default-bits_step.is) refl
+pub returns-in_err-bits-in-Float-clause-result_value : goal.returns-in_err-bits-in-Float-clause-result_value
+returns-in_err-bits-in-Float-clause-result_value c = rw ((propagated _ c.from_residual-in_err-bits-in-Float.ensures.1), c.in-Float.is, value-is, ← c.in_err-bits-in-Float.ensures) refl
 
-pub returns-in-Got-clause-result_value : goal.returns-in-Got-clause-result_value
-returns-in-Got-clause-result_value c = rw (c.in-Hash.is, value-is, ← c.hash-hash_step.ensures, c.in-Got.is) refl
+pub returns-in_ok-at-in-Hash-clause-result_value : goal.returns-in_ok-at-in-Hash-clause-result_value
+returns-in_ok-at-in-Hash-clause-result_value c = rw (c.in-Hash.is, value-is, ← c.in_ok-at-in-Hash.ensures) refl
 
-pub returns-in-Got-clause-inside : goal.returns-in-Got-clause-inside
-returns-in-Got-clause-inside c = hash-inside _ _ _ (rw c.in-Got.is at c.hash-hash_step.ensures)
+pub returns-in_ok-at-in-Hash-clause-inside : goal.returns-in_ok-at-in-Hash-clause-inside
+returns-in_ok-at-in-Hash-clause-inside c = hash-inside _ _ _ c.in_ok-at-in-Hash.ensures
 
-pub returns-in-Got-text_step-clause-result_value : goal.returns-in-Got-text_step-clause-result_value
-returns-in-Got-text_step-clause-result_value c = rw (c.in-Text.is, value-is, ← c.string-text_step.ensures.result_value, c.in-Got-text_step.is) refl
+pub returns-in_ok-text-in-Text-clause-result_value : goal.returns-in_ok-text-in-Text-clause-result_value
+returns-in_ok-text-in-Text-clause-result_value c = rw (c.in-Text.is, value-is, ← c.in_ok-text-in-Text.ensures.result_value) refl
 
-pub returns-in-Got-dword_step-clause-result_value : goal.returns-in-Got-dword_step-clause-result_value
-returns-in-Got-dword_step-clause-result_value c = rw (c.in-Dword.is, value-is, ← c.dword-dword_step.ensures, c.in-Got-dword_step.is) refl
+pub returns-in_ok-value-in-Dword-clause-result_value : goal.returns-in_ok-value-in-Dword-clause-result_value
+returns-in_ok-value-in-Dword-clause-result_value c = rw (c.in-Dword.is, value-is, ← c.in_ok-value-in-Dword.ensures) refl
 
-pub returns-in-Got-bits_step-clause-result_value : goal.returns-in-Got-bits_step-clause-result_value
-returns-in-Got-bits_step-clause-result_value c = rw (c.in-Float.is, value-is, ← c.dword-bits_step.ensures, c.in-Got-bits_step.is) refl
+pub returns-in_ok-bits-in-Float-clause-result_value : goal.returns-in_ok-bits-in-Float-clause-result_value
+returns-in_ok-bits-in-Float-clause-result_value c = rw (c.in-Float.is, value-is, ← c.in_ok-bits-in-Float.ensures) refl

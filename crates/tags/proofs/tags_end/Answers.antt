@@ -5,8 +5,8 @@ use Rattle.wire.proofs.Loops.{finishes, goes_over}
 use Rattle.tags.proofs.Skips.{told}
 use Rattle.tags.proofs.tags_end.Goals as goal
 
-pub loop-passed-preserved : goal.loop-passed-preserved
-loop-passed-preserved c = search (goes_over decode_tag, told)
+pub loop-preserved : goal.loop-preserved
+loop-preserved c = search (goes_over decode_tag, told)
 
 pub returns : goal.returns
-returns c = inr (finishes decode_tag _ _ _ _ _ c.loop-passed-test.false c.loop-passed.invariant).1.0
+returns c = inr (finishes decode_tag _ _ _ _ _ c.loop-test.false c.loop.invariant).1.0

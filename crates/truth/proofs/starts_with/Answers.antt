@@ -10,12 +10,12 @@ returns-then-s-t c = sym (prefix-longer _ _ c.if-s-t.true)
 pub loop-i-preserved : goal.loop-i-preserved
 loop-i-preserved c =
     let a = c.args in
-    (omega arith, (omega arith, c.loop-i.invariant.1.1 ∙ prefix-step a.t.now a.s.now c.loop-i.i (omega arith) (omega arith) c.if-t-i.true))
+    (omega arith, (omega arith, c.loop-i.invariant.1.1 ∙ prefix-step a.t.now a.s.now c.loop-i.i (omega arith) (omega arith) c.if-t-i.false))
 
-pub returns-else-t-i : goal.returns-else-t-i
-returns-else-t-i c =
+pub returns-then-t-i : goal.returns-then-t-i
+returns-then-t-i c =
     let a = c.args in
-    sym (c.loop-i.invariant.1.1 ∙ prefix-stop a.t.now a.s.now c.loop-i.i (omega arith) (omega arith) c.if-t-i.false)
+    sym (c.loop-i.invariant.1.1 ∙ prefix-stop a.t.now a.s.now c.loop-i.i (omega arith) (omega arith) c.if-t-i.true)
 
 pub returns : goal.returns
 returns c = sym (c.loop-i.invariant.1.1 ∙ prefix-done _ _ _ c.loop-i-test.false)

@@ -1,22 +1,8 @@
--- The query is evaluated, or refused, or leaves bytes, by the laws of Answers.
-use mathlib.Core.Path.{refl}
-use borrow.Author.Tests.{lt-leb}
-use Rattle.format.specs.Rules.{packet_ceiling}
-use Rattle.format.specs.MetOrder.{decode}
-use Rattle.truth.proofs.Answers.{bytes_left, evaluated, evaluation-refused}
+-- A refusal of the evaluation is one of the query.
+use Rattle.wire.proofs.Steps.{propagated}
+use Rattle.truth.proofs.Answers.{evaluation_refused}
 use Rattle.truth.proofs.truth_on.Goals as goal
 
-pub returns-then-query-gt-PACKET_CEILING : goal.returns-then-query-gt-PACKET_CEILING
-unfolding decode
-returns-then-query-gt-PACKET_CEILING c = rw (c.number.ensures, lt-leb _ packet_ceiling c.if-query-gt-PACKET_CEILING.true) refl
-
-pub returns-in_default : goal.returns-in_default
-returns-in_default c =
-    rw (c.number-in_default.ensures, c.fault.ensures, c.in_default.is)
-    (evaluation-refused _ _ c.if-query-gt-PACKET_CEILING.false (rw c.in_default.is at c.evaluate-step.ensures))
-
-pub returns-then-end-query : goal.returns-then-end-query
-returns-then-end-query c = evaluated _ _ c.if-query-gt-PACKET_CEILING.false (rw c.in-Got.is at c.evaluate-step.ensures) c.if-end-query.true
-
-pub returns : goal.returns
-returns c = rw c.number-2.ensures (bytes_left _ _ c.if-query-gt-PACKET_CEILING.false (rw c.in-Got.is at c.evaluate-step.ensures) c.if-end-query.false)
+pub returns-in_err-holds : goal.returns-in_err-holds
+returns-in_err-holds c =
+    rw (propagated _ c.from_residual.ensures.1) (evaluation_refused _ _ c.if-query-gt-PACKET_CEILING.false c.in_err-holds.ensures)

@@ -3,7 +3,7 @@ use Rattle.records.specs.RecordAnswers.{address_of}
 use Rattle.write_bodies.proofs.write_address.Goals as goal
 
 pub returns-then-out-lt-ADDRESS_BYTES : goal.returns-then-out-lt-ADDRESS_BYTES
-returns-then-out-lt-ADDRESS_BYTES c = rw c.refused.ensures (address-roomless (address_of c.args.address) c.args.out.now c.if-out-lt-ADDRESS_BYTES.true)
+returns-then-out-lt-ADDRESS_BYTES c = address-roomless (address_of c.args.address) c.args.out.now c.if-out-lt-ADDRESS_BYTES.true
 
 pub returns : goal.returns
-returns c = address-writes (address_of c.args.address) c.args.out.now c.if-out-lt-ADDRESS_BYTES.false c.put_address-wrote.ensures
+returns c = address-writes (address_of c.args.address) c.args.out.now c.if-out-lt-ADDRESS_BYTES.false c.put_address.ensures

@@ -2,32 +2,26 @@
 use Prim.Native.Nat.{◌+◌}
 use mathlib.Core.Path.{◌≡◌}
 use Rattle.format.specs.Decoding.{got}
-use Rattle.format.specs.Order.{decode_hash}
-use Rattle.write_items.specs.There.{hash_there, items_there}
+use Rattle.wire.proofs.Steps.{propagated}
+use Rattle.write_items.specs.There.{hash_there}
 use Rattle.write_items.proofs.There.{ends-refused, first-missing, then-there}
 use Rattle.write_met.proofs.Lists.{hash-there}
 use Rattle.write_met.proofs.file_entry_lengths.Goals as goal
-use Rattle.write_met.proofs.file_entry_lengths.Goals.{In-Got, In-Got-parts}
+use Rattle.write_met.proofs.file_entry_lengths.Goals.{In_ok-hash}
 
-hash : (c : In-Got) → let a = c.args in got tt (a.file.hash + 16) ≡ hash_there a.s.now a.file.hash
-hash c = let a = c.args in hash-there a.s.now a.file.hash (rw c.in-Got.is at c.hash-step.ensures)
+hash : (c : In_ok-hash) → let a = c.args in got tt (a.file.hash + 16) ≡ hash_there a.s.now a.file.hash
+hash c = let a = c.args in hash-there a.s.now a.file.hash c.in_ok-hash.ensures
 
-parts : (c : In-Got-parts) →
-    let a = c.args in got tt (a.file.parts.at + c.in-Got-parts.parts_len) ≡ items_there decode_hash a.s.now a.file.parts
-parts c = rw c.in-Got-parts.is at c.hashes_length-parts.ensures
+pub returns-in_err-hash : goal.returns-in_err-hash
+returns-in_err-hash c = rw (propagated _ c.from_residual.ensures.1) (first-missing _ (ends-refused c.in_err-hash.ensures))
 
-pub returns-in_default : goal.returns-in_default
-returns-in_default c = let told = c.in_default.is in rw (c.fault.ensures, told) (first-missing _ (ends-refused (rw told at c.hash-step.ensures)))
+pub returns-in_err-parts_len : goal.returns-in_err-parts_len
+returns-in_err-parts_len c =
+    rw (propagated _ c.from_residual-in_err-parts_len.ensures.1) (then-there (hash (goal.at.returns-in_err-parts_len c).In_ok-hash) (first-missing _ c.in_err-parts_len.ensures))
 
-pub returns-in_default-parts : goal.returns-in_default-parts
-returns-in_default-parts c =
-    let told = c.in_default-parts.is in
-    rw (c.fault-in_default-parts.ensures, told) (then-there (hash (goal.at.returns-in_default-parts c).In-Got) (first-missing _ (rw told at c.hashes_length-parts.ensures)))
-
-pub returns-in_default-tags : goal.returns-in_default-tags
-returns-in_default-tags c =
-    let told = c.in_default-tags.is in
-    rw (c.fault-in_default-tags.ensures, told) (then-there (hash (goal.at.returns-in_default-tags c).In-Got) (then-there (parts (goal.at.returns-in_default-tags c).In-Got-parts) (rw told at c.tags_length-tags.ensures)))
+pub returns-in_err-tags_len : goal.returns-in_err-tags_len
+returns-in_err-tags_len c =
+    rw (propagated _ c.from_residual-in_err-tags_len.ensures.1) (then-there (hash (goal.at.returns-in_err-tags_len c).In_ok-hash) (then-there c.in_ok-parts_len.ensures c.in_err-tags_len.ensures))
 
 pub returns : goal.returns
-returns c = (hash (goal.at.returns c).In-Got, (parts (goal.at.returns c).In-Got-parts, rw c.in-Got-tags.is at c.tags_length-tags.ensures))
+returns c = (hash (goal.at.returns c).In_ok-hash, (c.in_ok-parts_len.ensures, c.in_ok-tags_len.ensures))

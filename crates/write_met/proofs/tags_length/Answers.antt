@@ -11,11 +11,10 @@ use Rattle.write_met.proofs.tags_length.Goals as goal
 pub overflow_sub-result : goal.overflow_sub-result
 overflow_sub-result c =
     let a = c.args in
-    end_after codec-tag tag-needed a.s.now c.type_inv.s a.list (rw c.in-Got.is at c.tags_end-step.ensures)
+    end_after codec-tag tag-needed a.s.now c.type_inv.s a.list c.in_ok-next.ensures
 
 pub returns : goal.returns
 returns c =
     let a = c.args in
-    let read = rw c.in-Got.is at c.tags_end-step.ensures in
-    let behind = end_after codec-tag tag-needed a.s.now c.type_inv.s a.list read in
-    ap (λ (n : ℕ). got tt n) (omega (arith, behind)) ∙ read
+    let behind = end_after codec-tag tag-needed a.s.now c.type_inv.s a.list c.in_ok-next.ensures in
+    ap (λ (n : ℕ). got tt n) (omega (arith, behind)) ∙ c.in_ok-next.ensures

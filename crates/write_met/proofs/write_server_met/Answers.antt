@@ -1,68 +1,49 @@
--- Each answer follows by a law of Answers from the length of the entries, the tail and the number, once they are known: `ready`.
-use Prim.Native.Nat.{◌+◌}
-use mathlib.Core.Path.{◌≡◌, sym, ◌∙◌}
+-- Each answer follows by a law of Answers from the length of the entries and the tail, once they are known: `ready`.
+use mathlib.Core.Path.{◌≡◌}
 use native.Mathlib.Omega.{arith}
 use lib.ListN.{length}
-use Rattle.format.specs.Decoding.{bytes_at, got}
-use Rattle.format.specs.MetOrder.{decode_server_entry}
-use Rattle.write_items.specs.There.{items_there}
+use Rattle.format.specs.Decoding.{bytes_at}
 use Rattle.write_items.proofs.There.{ends-refused, first-missing, then-there}
+use Rattle.write_items.proofs.Listed.{run-few}
 use Rattle.write_items.proofs.Answers.{faulty, missing-promised, roomless, written}
 use Rattle.write_met.proofs.Known.{opening-fits}
 use Rattle.write_met.proofs.Servers.{ServerReady, part-sizes, server-ready}
 use Rattle.write_met.proofs.write_server_met.Goals as goal
-use Rattle.write_met.proofs.write_server_met.Goals.{After-tailed_number-number, In-Got}
+use Rattle.write_met.proofs.write_server_met.Goals.{In_ok-run}
 
-read : (c : In-Got) → got tt (c.args.server.entries.at + c.in-Got.size) ≡ items_there decode_server_entry c.args.src.now c.args.server.entries
-read c = rw c.in-Got.is at c.server_entries_length-step.ensures
-
-ready : (c : After-tailed_number-number) → ServerReady c.args.src.now c.args.server c.in-Got.size c.tailed_number-number.result
+ready : (c : In_ok-run) → ServerReady c.args.src.now c.args.server c.in_ok-size.size
 ready c =
-    server-ready c.args.src.now c.type_inv.src c.args.server c.in-Got.size ((rw c.in-Got.is at c.server_entries_length-step.ensures))
-    (rw c.in-Got-tail_step.is at c.run-tail_step.ensures.result_value) c.tailed_number-number.ensures
+    server-ready c.args.src.now c.type_inv.src c.args.server c.in_ok-size.size c.in_ok-size.ensures c.in_ok-run.ensures.result_value
     (omega (arith, c.well_formed)) (omega (arith, c.well_formed))
 
-sizes : (c : After-tailed_number-number) → let m = c.args.server in
-    (length (bytes_at c.args.src.now m.entries.at c.in-Got.size) ≡ c.in-Got.size) × (length (bytes_at c.args.src.now m.tail.at m.tail.len) ≡ m.tail.len)
-sizes c =
-    part-sizes c.args.src.now c.type_inv.src c.args.server c.in-Got.size ((rw c.in-Got.is at c.server_entries_length-step.ensures))
-    (rw c.in-Got-tail_step.is at c.run-tail_step.ensures.result_value)
+sizes : (c : In_ok-run) → let s = c.args.src.now in let m = c.args.server in
+    (length (bytes_at s m.entries.at c.in_ok-size.size) ≡ c.in_ok-size.size) × (length (bytes_at s m.tail.at m.tail.len) ≡ m.tail.len)
+sizes c = part-sizes c.args.src.now c.type_inv.src c.args.server c.in_ok-size.size c.in_ok-size.ensures c.in_ok-run.ensures.result_value
 
-pub returns-in_default-clause-writes : goal.returns-in_default-clause-writes
-returns-in_default-clause-writes c =
-    let told = c.in_default.is in
-    rw (c.refused.ensures, c.number.ensures, c.fault.ensures, told) ((missing-promised _ (first-missing _ (rw told at c.server_entries_length-step.ensures))).0)
+pub returns-in_err-size : goal.returns-in_err-size
+returns-in_err-size c = missing-promised _ _ c.from_residual.ensures.1 (first-missing _ c.in_err-size.ensures)
 
-pub returns-in_default-tail_step-clause-writes : goal.returns-in_default-tail_step-clause-writes
-returns-in_default-tail_step-clause-writes c =
-    let told = c.in_default-tail_step.is in
-    rw (c.refused-in_default-tail_step.ensures, c.number-in_default-tail_step.ensures, c.fault-in_default-tail_step.ensures, told) ((missing-promised _ (then-there (read (goal.at.returns-in_default-tail_step-clause-writes c).In-Got) (ends-refused (rw told at c.run-tail_step.ensures.result_value)))).0)
+pub returns-in_err-run : goal.returns-in_err-run
+returns-in_err-run c = missing-promised _ _ c.from_residual-in_err-run.ensures.1 (then-there c.in_ok-size.ensures (ends-refused c.in_err-run.ensures.result_value))
 
-pub returns-in_default-tail_step-clause-round : goal.returns-in_default-tail_step-clause-round
-returns-in_default-tail_step-clause-round c =
-    let told = c.in_default-tail_step.is in
-    rw (c.refused-in_default-tail_step.ensures, c.number-in_default-tail_step.ensures, c.fault-in_default-tail_step.ensures, told) ((missing-promised _ (then-there (read (goal.at.returns-in_default-tail_step-clause-round c).In-Got) (ends-refused (rw told at c.run-tail_step.ensures.result_value)))).1)
+pub returns-in_err-check_opening : goal.returns-in_err-check_opening
+returns-in_err-check_opening c = faulty (ready (goal.at.returns-in_err-check_opening c).In_ok-run) _ _ c.from_residual-in_err-check_opening.ensures.1 c.in_err-check_opening.ensures
 
-pub returns-then-number-ne0-clause-writes : goal.returns-then-number-ne0-clause-writes
-returns-then-number-ne0-clause-writes c = rw c.refused-then-number-ne0.ensures ((faulty _ (ready (goal.at.returns-then-number-ne0-clause-writes c).After-tailed_number-number) c.if-number-ne0.true).0)
+pub overflow_add-rest : goal.overflow_add-rest
+overflow_add-rest c =
+    let s = c.args.src.now in
+    let m = c.args.server in
+    let lengths = sizes (goal.at.overflow_add-rest c).In_ok-run in
+    omega (arith, lengths.0, lengths.1, run-few s m.entries.at c.in_ok-size.size, run-few s m.tail.at m.tail.len)
 
-pub returns-then-number-ne0-clause-round : goal.returns-then-number-ne0-clause-round
-returns-then-number-ne0-clause-round c = rw c.refused-then-number-ne0.ensures ((faulty _ (ready (goal.at.returns-then-number-ne0-clause-round c).After-tailed_number-number) c.if-number-ne0.true).1)
+pub overflow_add-rest-2 : goal.overflow_add-rest-2
+overflow_add-rest-2 c = omega (arith, opening-fits _ _ c.in_ok-check_opening.ensures)
 
-pub overflow_add-size : goal.overflow_add-size
-overflow_add-size c = omega (arith, opening-fits _ _ (sym c.tailed_number-number.ensures ∙ c.if-number-ne0.false))
+pub returns-then-out-rest : goal.returns-then-out-rest
+returns-then-out-rest c = roomless (ready (goal.at.returns-then-out-rest c).In_ok-run) c.in_ok-check_opening.ensures c.if-out-rest.true
 
-pub overflow_add-size-2 : goal.overflow_add-size-2
-overflow_add-size-2 c = omega (arith, opening-fits _ _ (sym c.tailed_number-number.ensures ∙ c.if-number-ne0.false))
-
-pub returns-then-out-size-clause-writes : goal.returns-then-out-size-clause-writes
-returns-then-out-size-clause-writes c = rw c.refused-then-out-size.ensures ((roomless _ (ready (goal.at.returns-then-out-size-clause-writes c).After-tailed_number-number) c.if-number-ne0.false c.if-out-size.true).0)
-
-pub returns-then-out-size-clause-round : goal.returns-then-out-size-clause-round
-returns-then-out-size-clause-round c = rw c.refused-then-out-size.ensures ((roomless _ (ready (goal.at.returns-then-out-size-clause-round c).After-tailed_number-number) c.if-number-ne0.false c.if-out-size.true).1)
-
-pub returns-clause-writes : goal.returns-clause-writes
-returns-clause-writes c = rw (c.put_server_met-wrote.ensures.written, c.put_server_met-wrote.ensures.output, c.bytes_at-items.ensures, c.bytes_at-rest.ensures, (sizes (goal.at.returns-clause-writes c).After-tailed_number-number).0, (sizes (goal.at.returns-clause-writes c).After-tailed_number-number).1) ((written _ (ready (goal.at.returns-clause-writes c).After-tailed_number-number) c.if-number-ne0.false c.if-out-size.false).0)
-
-pub returns-clause-round : goal.returns-clause-round
-returns-clause-round c = rw (c.put_server_met-wrote.ensures.written, c.put_server_met-wrote.ensures.output, c.bytes_at-items.ensures, c.bytes_at-rest.ensures, (sizes (goal.at.returns-clause-round c).After-tailed_number-number).0, (sizes (goal.at.returns-clause-round c).After-tailed_number-number).1) ((written _ (ready (goal.at.returns-clause-round c).After-tailed_number-number) c.if-number-ne0.false c.if-out-size.false).1)
+pub returns : goal.returns
+returns c =
+    let lengths = sizes (goal.at.returns c).In_ok-run in
+    written (ready (goal.at.returns c).In_ok-run) c.in_ok-check_opening.ensures c.if-out-rest.false
+    (rw (c.bytes_at-items.ensures, c.bytes_at-tail_bytes.ensures, lengths.0, lengths.1) at c.put_server_met.ensures)

@@ -3,13 +3,12 @@ use mathlib.Core.Path.{refl}
 use Rattle.ed2k.proofs.Links.{handed, part-read}
 use Rattle.ed2k.proofs.read.read_part.Goals as goal
 
-pub returns-in-Refused : goal.returns-in-Refused
-returns-in-Refused c =
-    let given = c.args in
-    part-read given.bytes.now given.fields.now c.read_part_met-answer.result _ c.read_part_met-answer.ensures.meaning c.read_part_met-answer.ensures.placed c.read_part_met-answer.ensures.sized (rw c.in-Refused.is refl)
+pub returns-in-Err : goal.returns-in-Err
+returns-in-Err c =
+    part-read _ _ c.read_part_met.result _ c.read_part_met.ensures.meaning c.read_part_met.ensures.placed c.read_part_met.ensures.sized
+    (rw (c.in-Err.is, c.number.ensures) refl)
 
-pub returns-in-Accepted : goal.returns-in-Accepted
-returns-in-Accepted c =
-    let given = c.args in
-    part-read given.bytes.now given.fields.now c.read_part_met-answer.result _ c.read_part_met-answer.ensures.meaning c.read_part_met-answer.ensures.placed c.read_part_met-answer.ensures.sized
-    (rw c.in-Accepted.is (handed given.fields.now c.hand_out.ensures c.part_fields-numbers.ensures))
+pub returns-in-Ok : goal.returns-in-Ok
+returns-in-Ok c =
+    part-read _ _ c.read_part_met.result _ c.read_part_met.ensures.meaning c.read_part_met.ensures.placed c.read_part_met.ensures.sized
+    (rw c.in-Ok.is (handed _ c.hand_out.ensures c.part_fields.ensures))

@@ -3,13 +3,12 @@ use mathlib.Core.Path.{refl}
 use Rattle.ed2k.proofs.Links.{handed, server-read}
 use Rattle.ed2k.proofs.read.read_server.Goals as goal
 
-pub returns-in-Refused : goal.returns-in-Refused
-returns-in-Refused c =
-    let given = c.args in
-    server-read given.bytes.now given.fields.now c.read_server_met-answer.result _ c.read_server_met-answer.ensures.meaning c.read_server_met-answer.ensures.placed (rw c.in-Refused.is refl)
+pub returns-in-Err : goal.returns-in-Err
+returns-in-Err c =
+    server-read _ _ c.read_server_met.result _ c.read_server_met.ensures.meaning c.read_server_met.ensures.placed
+    (rw (c.in-Err.is, c.number.ensures) refl)
 
-pub returns-in-Accepted : goal.returns-in-Accepted
-returns-in-Accepted c =
-    let given = c.args in
-    server-read given.bytes.now given.fields.now c.read_server_met-answer.result _ c.read_server_met-answer.ensures.meaning c.read_server_met-answer.ensures.placed
-    (rw c.in-Accepted.is (handed given.fields.now c.hand_out.ensures c.server_fields-numbers.ensures))
+pub returns-in-Ok : goal.returns-in-Ok
+returns-in-Ok c =
+    server-read _ _ c.read_server_met.result _ c.read_server_met.ensures.meaning c.read_server_met.ensures.placed
+    (rw c.in-Ok.is (handed _ c.hand_out.ensures c.server_fields.ensures))

@@ -16,7 +16,9 @@ tells c =
     rw (c.query_fields-numbers.ensures, found) at c.same_fields.ensures
 
 pub returns-then-not-same_fields : goal.returns-then-not-same_fields
-returns-then-not-same_fields c = none-given (tells (goal.at.returns-then-not-same_fields c).After-same_fields) c.if-not-same_fields.true
+returns-then-not-same_fields c = rw (c.report.ensures _) (none-given (tells (goal.at.returns-then-not-same_fields c).After-same_fields) c.if-not-same_fields.true)
 
 pub returns : goal.returns
-returns c = message-given (tells (goal.at.returns c).After-same_fields) c.if-not-same_fields.false (rw (found (goal.at.returns c).After-query_given-query) at c.write_query-wrote.ensures.writes, rw (found (goal.at.returns c).After-query_given-query) at c.write_query-wrote.ensures.round)
+returns c =
+    let found = found (goal.at.returns c).After-query_given-query in
+    rw (c.report-2.ensures _) (message-given (tells (goal.at.returns c).After-same_fields) c.if-not-same_fields.false (rw found at c.write_query.ensures.writes, rw found at c.write_query.ensures.round))

@@ -16,7 +16,9 @@ tells c =
     rw (c.part_fields-numbers.ensures, c.size_given-size.ensures, found) at c.same_fields.ensures
 
 pub returns-then-not-same_fields : goal.returns-then-not-same_fields
-returns-then-not-same_fields c = none-given (tells (goal.at.returns-then-not-same_fields c).After-same_fields) c.if-not-same_fields.true
+returns-then-not-same_fields c = rw (c.report.ensures _) (none-given (tells (goal.at.returns-then-not-same_fields c).After-same_fields) c.if-not-same_fields.true)
 
 pub returns : goal.returns
-returns c = message-given (tells (goal.at.returns c).After-same_fields) c.if-not-same_fields.false (rw (found (goal.at.returns c).After-part_given-part) at c.write_part_met-wrote.ensures.writes, rw (found (goal.at.returns c).After-part_given-part) at c.write_part_met-wrote.ensures.round)
+returns c =
+    let found = found (goal.at.returns c).After-part_given-part in
+    rw (c.report-2.ensures _) (message-given (tells (goal.at.returns c).After-same_fields) c.if-not-same_fields.false (rw found at c.write_part_met.ensures.writes, rw found at c.write_part_met.ensures.round))

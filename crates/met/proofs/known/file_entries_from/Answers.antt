@@ -2,21 +2,21 @@
 use Rattle.format.specs.MetOrder.{decode_file_entry}
 use Rattle.wire.proofs.Loops.{finishes, goes_on, goes_over, refuses}
 use Rattle.tags.proofs.Skips.{told}
+use Rattle.wire.proofs.Steps.{propagated}
 use Rattle.met.proofs.known.file_entries_from.Goals as goal
 
-pub loop-passed-preserved-then-next-ne0 : goal.loop-passed-preserved-then-next-ne0
-loop-passed-preserved-then-next-ne0 c = search (goes_over decode_file_entry, told)
+pub loop-preserved-then-next-ne0 : goal.loop-preserved-then-next-ne0
+loop-preserved-then-next-ne0 c = search (goes_over decode_file_entry, told)
 
-pub returns-in_default-clause-meaning : goal.returns-in_default-clause-meaning
-returns-in_default-clause-meaning c =
-    let step = c.in_default.is in
-    rw (c.fault.ensures, step) ((refuses decode_file_entry _ _ _ _ _ c.loop-passed-test.true c.loop-passed.invariant (rw step at c.read_file_entry-entry_step.ensures.meaning)).0)
+pub returns-in_err-after-clause-meaning : goal.returns-in_err-after-clause-meaning
+returns-in_err-after-clause-meaning c =
+    rw ((propagated _ c.from_residual.ensures.1)) ((refuses decode_file_entry _ _ _ _ _ c.loop-test.true c.loop.invariant c.in_err-after.ensures.meaning).0)
 
-pub loop-passed-preserved : goal.loop-passed-preserved
-loop-passed-preserved c = let read = rw c.in-Got.is at c.read_file_entry-entry_step.ensures.meaning in search (goes_on decode_file_entry, read)
+pub loop-preserved : goal.loop-preserved
+loop-preserved c = let read = c.in_ok-after.ensures.meaning in search (goes_on decode_file_entry, read)
 
 pub returns-clause-meaning : goal.returns-clause-meaning
-returns-clause-meaning c = (finishes decode_file_entry _ _ _ _ _ c.loop-passed-test.false c.loop-passed.invariant).0
+returns-clause-meaning c = (finishes decode_file_entry _ _ _ _ _ c.loop-test.false c.loop.invariant).0
 
 pub returns-clause-placed : goal.returns-clause-placed
-returns-clause-placed c = (finishes decode_file_entry _ _ _ _ _ c.loop-passed-test.false c.loop-passed.invariant).1
+returns-clause-placed c = (finishes decode_file_entry _ _ _ _ _ c.loop-test.false c.loop.invariant).1

@@ -1,3 +1,4 @@
+-- Digits whose key is above the highest are new: `key-new` of GapTags.
 use mathlib.Core.Path.{sym}
 use Rattle.part_tags.proofs.GapTags.{key-new}
 use native.Mathlib.Omega.{arith}

@@ -1,5 +1,6 @@
-use Rattle.part_tags.proofs.TagLaws.{fault-is}
+-- A tag that no offset comes after is refused.
+use Rattle.part_tags.proofs.TagLaws.{is-refused}
 use Rattle.part_tags.proofs.survey.fault_at.Goals as goal
 
-pub returns : goal.returns
-returns c = rw c.fault.ensures (fault-is c.args.s.now c.args.at c.read_tag-tag_step.result c.read_tag-tag_step.ensures.result_value c.requires)
+pub unwrap_err-requires : goal.unwrap_err-requires
+unwrap_err-requires c = is-refused _ _ _ c.read_tag.ensures.result_value c.requires

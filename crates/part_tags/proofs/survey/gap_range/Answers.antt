@@ -23,10 +23,10 @@ size_at-number-requires c = there-is _ _ c.tag_after-after.ensures c.if-after-eq
 pub is_plain-requires : goal.is_plain-requires
 is_plain-requires c = there-is _ _ c.tag_after-after.ensures c.if-after-eq0.false
 
-pub loop-i-preserved-then-not-is_plain : goal.loop-i-preserved-then-not-is_plain
-loop-i-preserved-then-not-is_plain c = rw c.join-sizes.ensures (ranges-gap _ _ _ _ c.loop-i.invariant c.size_at-number.result c.loop-i-test.true (tag_of (goal.at.loop-i-preserved-then-not-is_plain c).After-join-sizes))
+pub loop-i-preserved-then-is_plain : goal.loop-i-preserved-then-is_plain
+loop-i-preserved-then-is_plain c =
+    let plain = sym c.is_plain.ensures ∙ c.if-is_plain.true in
+    rw c.join-sizes.ensures (ranges-plain _ _ _ _ c.loop-i.invariant c.size_at-number.result c.loop-i-test.true (tag_of (goal.at.loop-i-preserved-then-is_plain c).After-join-sizes) plain)
 
 pub loop-i-preserved : goal.loop-i-preserved
-loop-i-preserved c =
-    let plain = sym c.is_plain.ensures ∙ c.if-not-is_plain.false in
-    rw c.join-sizes.ensures (ranges-plain _ _ _ _ c.loop-i.invariant c.size_at-number.result c.loop-i-test.true (tag_of (goal.at.loop-i-preserved c).After-join-sizes) plain)
+loop-i-preserved c = rw c.join-sizes.ensures (ranges-gap _ _ _ _ c.loop-i.invariant c.size_at-number.result c.loop-i-test.true (tag_of (goal.at.loop-i-preserved c).After-join-sizes))

@@ -1,3 +1,4 @@
+-- The first byte of the name tells, by the laws of TagLaws.
 use mathlib.Core.Path.{sym, ap}
 use Rattle.format.specs.PutGaps.{is_plain}
 use Rattle.part_tags.proofs.TagLaws.{bytes_of, plain-test, role-other}

@@ -1,10 +1,14 @@
--- One byte: it is there, or short.
-use native.Mathlib.Omega.{arith}
+-- A byte is there, or short.
+use Rattle.wire.proofs.Steps.{propagated}
 use Rattle.format.proofs.There.{byte-there, byte-short}
 use Rattle.wire.proofs.Cursor.byte.Goals as goal
 
-pub returns-then-s-at : goal.returns-then-s-at
-returns-then-s-at c = let start = c.args in byte-short start.s.now start.self.at (omega arith)
+pub returns-in_err-next : goal.returns-in_err-next
+returns-in_err-next c =
+    let start = c.args in
+    rw (propagated _ c.from_residual.ensures.1, c.in_err-next.ensures.1) (byte-short start.s.now start.self.at c.in_err-next.ensures.0)
 
 pub returns : goal.returns
-returns c = let start = c.args in byte-there start.s.now start.self.at (omega arith)
+returns c =
+    let start = c.args in
+    rw c.in_ok-next.ensures.1 (byte-there start.s.now start.self.at c.in_ok-next.ensures.0)

@@ -1,5 +1,4 @@
 -- write_number_tag promises the write that it works out; by `as-tried` it is the one that is owed.
-use mathlib.Core.Path.{refl}
 use native.Mathlib.Omega.{arith}
 use Rattle.wire.proofs.Replies.{slice-bytes}
 use Rattle.write_items.proofs.Answers.{as-tried}
@@ -9,5 +8,4 @@ use Rattle.write_items.proofs.items.write_float_tag.Goals as goal
 pub returns : goal.returns
 returns c =
     let name = c.args.name.now in
-    let ready = float-ready name (slice-bytes name c.type_inv.name) refl c.args.bits (omega (arith, c.well_formed)) in
-    as-tried _ ready c.write_number_tag.ensures
+    as-tried (float-ready name (slice-bytes name c.type_inv.name) c.args.bits (omega (arith, c.well_formed))) c.write_number_tag.ensures

@@ -1,6 +1,6 @@
--- Each answer follows by a law of Answers from what is known once the number is: `ready`.
+-- Each answer follows by a law of Answers from the hash that is there: `ready`.
 use Prim.Native.Nat.{◌+◌}
-use mathlib.Core.Path.{◌∙◌, sym}
+use mathlib.Core.Path.{sym}
 use mathlib.Core.List.{◌++◌}
 use lib.ListN.{length}
 use Rattle.format.specs.Messages.{hash_type}
@@ -11,39 +11,38 @@ use Rattle.wire.specs.WireAnswers.{hash_at}
 use Rattle.wire.proofs.Replies.{slice-bytes}
 use Rattle.write_items.specs.There.{hash_there}
 use Rattle.write_items.specs.Item.{WritesTag, tag_of}
+use Rattle.write_items.specs.Numbers.{spec_tag_number}
 use Rattle.write_items.proofs.There.{ends-got, ends-refused, is-there, valid-hash}
 use Rattle.write_items.proofs.Answers.{Ready, faulty, item-missing, roomless, written}
 use Rattle.write_items.proofs.Pieces.{tag_fits}
 use Rattle.write_items.proofs.Item.{hash-ready}
 use Rattle.write_items.proofs.items.write_hash_tag.Goals as goal
-use Rattle.write_items.proofs.items.write_hash_tag.Goals.{After-tag_number-number}
+use Rattle.write_items.proofs.items.write_hash_tag.Goals.{In_ok-hash}
 
-here : (c : After-tag_number-number) → IsThere (hash_there ((c.args.src.now)) c.args.at)
-here c = is-there (sym (ends-got (rw c.in-Got.is at c.hash-step.ensures)))
+here : (c : In_ok-hash) → IsThere (hash_there c.args.src.now c.args.at)
+here c = is-there (sym (ends-got c.in_ok-hash.ensures))
 
-whole : (c : After-tag_number-number) → ValidHash ((hash_at ((c.args.src.now)) c.args.at))
-whole c = valid-hash ((c.args.src.now)) (slice-bytes ((c.args.src.now)) c.type_inv.src) c.args.at (here c)
+whole : (c : In_ok-hash) → ValidHash (hash_at c.args.src.now c.args.at)
+whole c = valid-hash c.args.src.now (slice-bytes c.args.src.now c.type_inv.src) c.args.at (here c)
 
-ready : (c : After-tag_number-number) → Ready (WritesTag (hash_there ((c.args.src.now)) c.args.at) (tag_of ((c.args.name.now)) hash_type ((hash_at ((c.args.src.now)) c.args.at)))) c.tag_number-number.result
-    (byte 1 ++ (encode_name ((c.args.name.now)) ++ ((hash_at ((c.args.src.now)) c.args.at)))) (19 + length ((c.args.name.now)))
-ready c = hash-ready ((c.args.name.now)) (slice-bytes ((c.args.name.now)) c.type_inv.name) c.tag_number-number.ensures ((hash_at ((c.args.src.now)) c.args.at)) (here c) (whole c)
+ready : (c : In_ok-hash) → let name = c.args.name.now in let hash = hash_at c.args.src.now c.args.at in
+    Ready (WritesTag (hash_there c.args.src.now c.args.at) (tag_of name hash_type hash)) (spec_tag_number (length name) 0) (byte 1 ++ (encode_name name ++ hash)) (19 + length name)
+ready c = hash-ready c.args.name.now (slice-bytes c.args.name.now c.type_inv.name) (hash_at c.args.src.now c.args.at) (here c) (whole c)
 
-pub returns-in_default : goal.returns-in_default
-returns-in_default c =
-    let told = c.in_default.is in
-    rw (c.refused.ensures, c.number.ensures, c.fault.ensures, told)
-    (item-missing _ (ends-refused (rw told at c.hash-step.ensures)))
+pub returns-in_err-hash : goal.returns-in_err-hash
+returns-in_err-hash c = item-missing _ _ c.from_residual.ensures.1 (ends-refused c.in_err-hash.ensures)
 
-pub returns-then-number-ne0 : goal.returns-then-number-ne0
-returns-then-number-ne0 c = rw c.refused-then-number-ne0.ensures (faulty _ (ready (goal.at.returns-then-number-ne0 c).After-tag_number-number) c.if-number-ne0.true)
+pub returns-in_err-check_tag : goal.returns-in_err-check_tag
+returns-in_err-check_tag c = faulty (ready (goal.at.returns-in_err-check_tag c).In_ok-hash) _ _ c.from_residual-in_err-check_tag.ensures.1 c.in_err-check_tag.ensures
 
 pub returns-then-out-name : goal.returns-then-out-name
-returns-then-out-name c = rw c.refused-then-out-name.ensures (roomless _ (ready (goal.at.returns-then-out-name c).After-tag_number-number) c.if-number-ne0.false c.if-out-name.true)
+returns-then-out-name c = roomless (ready (goal.at.returns-then-out-name c).In_ok-hash) c.in_ok-check_tag.ensures c.if-out-name.true
 
-pub put_hash_tag-wrote-requires : goal.put_hash_tag-wrote-requires
-put_hash_tag-wrote-requires c =
-    let fit = tag_fits (length ((c.args.name.now))) 0 (sym c.tag_number-number.ensures ∙ c.if-number-ne0.false) in
-    (fit.0, rw c.bytes_at-hash.ensures (whole (goal.at.put_hash_tag-wrote-requires c).After-tag_number-number).0, c.if-out-name.false)
+pub put_hash_tag-requires : goal.put_hash_tag-requires
+put_hash_tag-requires c =
+    let fit = tag_fits (length c.args.name.now) 0 c.in_ok-check_tag.ensures in
+    (fit.0, rw c.bytes_at-hash.ensures (whole (goal.at.put_hash_tag-requires c).In_ok-hash).0, c.if-out-name.false)
 
 pub returns : goal.returns
-returns c = rw (c.put_hash_tag-wrote.ensures.written, c.put_hash_tag-wrote.ensures.output, c.bytes_at-hash.ensures) (written _ (ready (goal.at.returns c).After-tag_number-number) c.if-number-ne0.false c.if-out-name.false)
+returns c =
+    written (ready (goal.at.returns c).In_ok-hash) c.in_ok-check_tag.ensures c.if-out-name.false (rw c.bytes_at-hash.ensures at c.put_hash_tag.ensures)

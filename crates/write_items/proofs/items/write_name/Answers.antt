@@ -1,16 +1,20 @@
--- write_text promises the write that it works out; by `as-tried` it is the one that is owed.
-use mathlib.Core.Path.{◌∙◌, sym}
+-- The length is refused, or write_text writes what is owed.
 use lib.ListN.{length}
 use Rattle.wire.proofs.Replies.{slice-bytes}
-use Rattle.write_items.proofs.Answers.{as-tried}
+use Rattle.write_items.proofs.Answers.{faulty}
 use Rattle.write_items.proofs.Pieces.{tag_fits}
 use Rattle.write_items.proofs.Item.{name-ready}
 use Rattle.write_items.proofs.items.write_name.Goals as goal
 
+pub returns-in_err-check_tag : goal.returns-in_err-check_tag
+returns-in_err-check_tag c =
+    let name = c.args.name.now in
+    faulty (name-ready name (slice-bytes name c.type_inv.name)) _ _ c.from_residual.ensures.1 c.in_err-check_tag.ensures
+
 pub write_text-requires : goal.write_text-requires
-write_text-requires c = λ none. (tag_fits (length c.args.name.now) 0 (sym c.tag_number.ensures ∙ none)).0
+write_text-requires c = (tag_fits (length c.args.name.now) 0 c.in_ok-check_tag.ensures).0
 
 pub returns : goal.returns
 returns c =
     let name = c.args.name.now in
-    as-tried _ (name-ready name (slice-bytes name c.type_inv.name) c.tag_number.ensures) c.write_text.ensures
+    rw c.write_text.ensures ((name-ready name (slice-bytes name c.type_inv.name)).tries _ c.in_ok-check_tag.ensures)

@@ -1,11 +1,10 @@
-use mathlib.Core.Path.{refl}
-use Rattle.format.specs.Decoding.{ends}
+-- The end of the tags, without what they are.
+use Rattle.wire.proofs.Steps.{propagated}
+use Rattle.write_items.proofs.There.{ends-got, ends-refused}
 use Rattle.write_items.proofs.lists.tags_end.Goals as goal
 
-pub returns-in_default : goal.returns-in_default
-unfolding ends
-returns-in_default c = rw (c.fault.ensures, ← c.tags_from-step.ensures.meaning, c.in_default.is) refl
+pub returns-in_err-next : goal.returns-in_err-next
+returns-in_err-next c = rw (propagated _ c.from_residual.ensures.1) (ends-refused c.in_err-next.ensures.meaning)
 
 pub returns : goal.returns
-unfolding ends
-returns c = rw (← c.tags_from-step.ensures.meaning, c.in-Got.is) refl
+returns c = ends-got c.in_ok-next.ensures.meaning

@@ -2,32 +2,26 @@
 use Prim.Native.Nat.{◌+◌}
 use mathlib.Core.Path.{◌≡◌}
 use Rattle.format.specs.Decoding.{got}
-use Rattle.format.specs.Order.{decode_tag}
-use Rattle.write_items.specs.There.{hash_there, items_there}
+use Rattle.wire.proofs.Steps.{propagated}
+use Rattle.write_items.specs.There.{hash_there}
 use Rattle.write_items.proofs.There.{ends-refused, first-missing, then-there}
 use Rattle.write_met.proofs.Lists.{hash-there}
 use Rattle.write_part.proofs.part_e1.e1_lengths.Goals as goal
-use Rattle.write_part.proofs.part_e1.e1_lengths.Goals.{In-Got, In-Got-tags}
+use Rattle.write_part.proofs.part_e1.e1_lengths.Goals.{In_ok-hash}
 
-hash : (c : In-Got) → let a = c.args in got tt (a.file.hash + 16) ≡ hash_there a.s.now a.file.hash
-hash c = let a = c.args in hash-there a.s.now a.file.hash (rw c.in-Got.is at c.hash-step.ensures)
+hash : (c : In_ok-hash) → let a = c.args in got tt (a.file.hash + 16) ≡ hash_there a.s.now a.file.hash
+hash c = let a = c.args in hash-there a.s.now a.file.hash c.in_ok-hash.ensures
 
-tags : (c : In-Got-tags) →
-    let a = c.args in got tt (a.file.tags.at + c.in-Got-tags.tags_len) ≡ items_there decode_tag a.s.now a.file.tags
-tags c = rw c.in-Got-tags.is at c.tags_length-tags.ensures
+pub returns-in_err-hash : goal.returns-in_err-hash
+returns-in_err-hash c = rw (propagated _ c.from_residual.ensures.1) (first-missing _ (ends-refused c.in_err-hash.ensures))
 
-pub returns-in_default : goal.returns-in_default
-returns-in_default c = let told = c.in_default.is in rw (c.fault.ensures, told) (first-missing _ (ends-refused (rw told at c.hash-step.ensures)))
+pub returns-in_err-tags_len : goal.returns-in_err-tags_len
+returns-in_err-tags_len c =
+    rw (propagated _ c.from_residual-in_err-tags_len.ensures.1) (then-there (hash (goal.at.returns-in_err-tags_len c).In_ok-hash) (first-missing _ c.in_err-tags_len.ensures))
 
-pub returns-in_default-tags : goal.returns-in_default-tags
-returns-in_default-tags c =
-    let told = c.in_default-tags.is in
-    rw (c.fault-in_default-tags.ensures, told) (then-there (hash (goal.at.returns-in_default-tags c).In-Got) (first-missing _ (rw told at c.tags_length-tags.ensures)))
-
-pub returns-in_default-blocks_step : goal.returns-in_default-blocks_step
-returns-in_default-blocks_step c =
-    let told = c.in_default-blocks_step.is in
-    rw (c.fault-in_default-blocks_step.ensures, told) (then-there (hash (goal.at.returns-in_default-blocks_step c).In-Got) (then-there (tags (goal.at.returns-in_default-blocks_step c).In-Got-tags) (rw told at c.area_of-blocks_step.ensures)))
+pub returns-in_err-area : goal.returns-in_err-area
+returns-in_err-area c =
+    rw (propagated _ c.from_residual-in_err-area.ensures.1) (then-there (hash (goal.at.returns-in_err-area c).In_ok-hash) (then-there c.in_ok-tags_len.ensures c.in_err-area.ensures))
 
 pub returns : goal.returns
-returns c = (hash (goal.at.returns c).In-Got, (tags (goal.at.returns c).In-Got-tags, rw c.in-Got-blocks_step.is at c.area_of-blocks_step.ensures))
+returns c = (hash (goal.at.returns c).In_ok-hash, (c.in_ok-tags_len.ensures, c.in_ok-area.ensures))
