@@ -29,6 +29,7 @@ pub fn read_all<R: Read>(reader: &mut R, out: &mut [u8]) -> io::Result<usize>
     ensures end { IfOk result (λ count. count < length out.old → IsAtEnd (R.remaining reader.new)) }
 {
     let mut at = 0;
+    // By `while`, since a read takes as many bytes as come.
     while at < out.len() {
         let came = read_some(reader, &mut out[at..])?;
         if came == 0 {

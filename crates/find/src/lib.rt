@@ -53,16 +53,13 @@ fn search_from(text: &[u8], part: &[u8], from: usize, end: usize) -> bool
     ensures { Decides result (StandsIn part.now text.now from end) }
 {
     let first = part[0];
-    let mut start = from;
-    while start < end {
+    for start in from..end {
         if text[start] != first {
-            start += 1;
             continue;
         }
         if stands_at(text, part, start) {
             return true;
         }
-        start += 1;
     }
     false
 }
@@ -113,6 +110,7 @@ fn search_blocks(text: &[u8], part: &[u8], end: usize) -> bool
     ensures { result ≡ occurs part.now text.now }
 {
     let mut start = 0;
+    // By `while`, since it goes on by blocks.
     while start < end {
         let from = start.min(end - BLOCK);
         if search_block(text, part, from) {
@@ -166,6 +164,7 @@ fn fill_table(part: &[u8], table: &mut [u16])
     let mut start = 1;
     let mut matched = 0;
     let mut sample = 1;
+    // By `while`, since a turn moves the part, matches one byte more, or fills an entry.
     while STRIDE * sample <= part.len() {
         if start + matched == STRIDE * sample {
             table[sample] = start as u16;
@@ -191,6 +190,7 @@ fn search_by_table(text: &[u8], part: &[u8], table: &[u16]) -> bool
     let last = text.len() - part.len();
     let mut start = 0;
     let mut matched = 0;
+    // By `while`, since a turn moves the part or matches one byte more.
     while start <= last {
         if matched == part.len() {
             return true;

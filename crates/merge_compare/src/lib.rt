@@ -136,6 +136,7 @@ fn same_by_tag(s: &[u8], tags: Items, t: &[u8], other: Items) -> bool
 {
     let mut next = next_plain(s, tags.at, tags.count);
     let mut other_next = next_plain(t, other.at, other.count);
+    // By `while`, since two lists are walked, and gap tags are skipped in both.
     while let Some(found) = next {
         let Some(other_found) = other_next else {
             return false;

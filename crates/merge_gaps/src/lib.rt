@@ -72,6 +72,7 @@ fn merge_bounds(opened: &[u64], first: &[u64], second: &[u64], out: &mut [u64]) 
     let mut first_passed = 0;
     let mut second_passed = 0;
     let mut kept = 0;
+    // By `while`, since a turn passes a bound of one file, of two or of all.
     while opened_passed + first_passed + second_passed < all {
         let opened_next = next_bound(opened, opened_passed, opened_bounds);
         let first_next = next_bound(first, first_passed, first_bounds);

@@ -23,7 +23,7 @@ use crate::{
 use gaps::GapRecord;
 use part_tags::{part_tags_from, record_of};
 use records::{hashes_from, read_hashes};
-use wire::{Cursor, Fault, Items, Rule, Step};
+use wire::{Cursor, Fault, Items, Rule, Step, items_from};
 
 // part.met
 
@@ -32,14 +32,7 @@ fn block_hash_by_block_hash(s: &[u8], first: Cursor, n: u32) -> Step<Items>
     ensures meaning { items_meaning (decode_run 8) s.now result ≡ decode_many n (decode_run 8) s.now first.at }
     ensures placed { ItemsStepPlaced (decode_run 8) s.now result }
 {
-    let mut next = first;
-    for _ in 0..n {
-        let (_, after) = next.run(s, 8)?;
-        next = after;
-    }
-    let at = first.at;
-    let end = next.at;
-    Ok((Items { at, end, count: n }, next))
+    items_from(first, n, |c| c.run(s, 8))
 }
 
 // Block hashes all have 8 bytes: where the bytes of all are there, none is read.

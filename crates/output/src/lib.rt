@@ -149,12 +149,10 @@ fn differing(a: &[u8], b: &[u8], at: usize) -> u8
     ensures { (result ≡ 0) ↔ Agree a.now b.now at 128 }
 {
     let mut differ: u8 = 0;
-    let mut i = 0;
-    while i < BLOCK {
+    for i in 0..BLOCK {
         let x = a[at + i];
         let y = b[at + i];
         differ = counted(differ, x, y);
-        i += 1;
     }
     differ
 }
@@ -165,12 +163,10 @@ fn same_from(a: &[u8], b: &[u8], at: usize) -> bool
     ensures { result ≡ same (drop at a.now) (drop at b.now) }
 {
     let n = a.len();
-    let mut i = at;
-    while i < n {
+    for i in at..n {
         if a[i] != b[i] {
             return false;
         }
-        i += 1;
     }
     true
 }
@@ -189,6 +185,7 @@ pub fn same(a: &[u8], b: &[u8]) -> bool
     }
     let last = n - BLOCK;
     let mut i = 0;
+    // By `while`, since it goes on by blocks.
     while i < last {
         let differ = differing(a, b, i);
         if differ != 0 {

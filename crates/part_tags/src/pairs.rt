@@ -22,12 +22,6 @@ const MOST_DIGITS: usize = 10;
 // A key of so many digits is below this; the remainder by it keeps the next key within 64 bits.
 const KEY_ROOM: u64 = 1099511627776;
 
-fn wide(b: u8) -> u64
-    ensures { result ≡ b }
-{
-    b as u64
-}
-
 // The key of 1 to 10 decimal digits, which is higher for the digits of a higher number.
 fn digits_key(digits: &[u8]) -> Option<u64>
     ensures { result ≡ spec_key_found digits.now }
@@ -48,7 +42,7 @@ fn digits_key(digits: &[u8]) -> Option<u64>
         if b'9' < b {
             return None;
         }
-        key = key % KEY_ROOM * 16 + wide(b);
+        key = key % KEY_ROOM * 16 + u64::from(b);
     }
     Some(key)
 }
@@ -70,9 +64,7 @@ fn is_used(s: &[u8], digits: &[u8], starts: &[usize; 64], count: usize) -> bool
     requires { (count ≤ gap_limit) × PairsInside s.now count starts.now }
     ensures { result ≡ used digits.now (first_pairs s.now count starts.now) }
 {
-    let mut i = count;
-    while 0 < i {
-        i -= 1;
+    for i in (0..count).rev() {
         let at = starts[i];
         if same(digits, digits_at(s, at)) {
             return true;
@@ -202,6 +194,7 @@ pub fn pass_gaps(
     let mut gap_count: u32 = 0;
     let mut next = at;
     let mut i: u32 = 0;
+    // By `while`, since a pair is two tags.
     while i < count {
         let here = next;
         let after = tag_after(s, here);

@@ -9,14 +9,14 @@
 
 ghost use Rattle.std.specs.Prelude.{◌≡◌, ◌↔◌, max, ◌+◌, ◌-◌, ◌≤◌, ◌<◌, length};
 ghost use Rattle.format.specs.Messages as messages;
-ghost use Rattle.format.specs.Layout.{encode_query};
+ghost use Rattle.format.specs.Layout.{encode_query, operator_code, bound_code};
 ghost use Rattle.format.specs.Rules.{Valid, packet_ceiling, depth_limit};
 ghost use Rattle.format.specs.Decoding.{message, reply};
 ghost use Rattle.format.specs.Order.{decode_name, is_join, is_limit, decode_case, decode_query_in, decode_query};
 ghost use Rattle.format.specs.MetOrder.{decode};
 ghost use Rattle.query.specs.Nodes.{decode_node_of, decode_node, decode_leaf, depths};
 ghost use Rattle.query.specs.Skips.{Passes, Spans, offset_after, places, end_in, depth_in};
-ghost use Rattle.query.specs.QueryAnswers.{depth_meaning, query_meaning, query_reply, QueryStepPlaced, QueryAnswerPlaced};
+ghost use Rattle.query.specs.QueryAnswers.{operator_of, bound_of, depth_meaning, query_meaning, query_reply, QueryStepPlaced, QueryAnswerPlaced};
 
 use wire::{Cursor, Fault, PACKET_CEILING, Place, Rule, Step};
 
@@ -36,11 +36,34 @@ pub enum Operator {
     AndNot,
 }
 
+impl From<Operator> for u8 {
+    ghost from_gives = { λ operator code. code ≡ operator_code (operator_of operator) };
+
+    fn from(operator: Operator) -> u8 {
+        match operator {
+            Operator::And => 0,
+            Operator::Or => 1,
+            Operator::AndNot => 2,
+        }
+    }
+}
+
 // Document 01's min and max.
 #[derive(Clone, Copy)]
 pub enum Bound {
     AtLeast,
     AtMost,
+}
+
+impl From<Bound> for u8 {
+    ghost from_gives = { λ bound code. code ≡ bound_code (bound_of bound) };
+
+    fn from(bound: Bound) -> u8 {
+        match bound {
+            Bound::AtLeast => 1,
+            Bound::AtMost => 2,
+        }
+    }
 }
 
 // The first byte of a query and what stands after it. The two sides of a join are queries of their own: they follow.

@@ -58,7 +58,8 @@ pub fn read(kind: Kind, s: &[u8]) -> Result<Message, Rule>
     }
 }
 
-// What the reading program says of some bytes: the number of a refusal; or 0, the opcode or opening byte, and the length.
+// What the reading program says of some bytes: the number of a refusal; or 0, the opcode or opening byte, and the length. It is no Result:
+// the edit refusal_with_a_length tells a refusal with a length, which a Result could not.
 #[derive(Clone, Copy)]
 pub struct Summary {
     pub number: u8,
@@ -66,6 +67,7 @@ pub struct Summary {
     pub length: usize,
 }
 
+// Not a conversion: this byte of a message is not all of it.
 fn code_of(m: Message) -> u8
     ensures { result ≡ code_of m }
 {
@@ -98,7 +100,7 @@ pub fn summarize(kind: Kind, s: &[u8]) -> Summary
     }
 }
 
-// The kind for a letter that the reading program takes.
+// The kind for a letter that the reading program takes. Only that program has letters, so that this is no `TryFrom`.
 pub fn kind_of_letter(letter: u8) -> Option<Kind>
     ensures { lettered_of result ≡ lookup letters letter }
 {

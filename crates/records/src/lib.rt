@@ -13,7 +13,7 @@ ghost use Rattle.tags.specs.Skips.{EndsThere};
 ghost use Rattle.records.specs.RecordAnswers.{address_meaning, record_meaning, RecordStepPlaced};
 
 use tags::{read_tags, tag_list_end};
-use wire::{Cursor, Fault, Items, Step};
+use wire::{Cursor, Fault, Items, Step, items_from};
 
 #[derive(Clone, Copy)]
 pub struct Address {
@@ -65,14 +65,7 @@ fn address_by_address(s: &[u8], first: Cursor, count: u32) -> Step<Items>
     ensures meaning { items_meaning decode_address s.now result ≡ decode_many count decode_address s.now first.at }
     ensures placed { ItemsStepPlaced decode_address s.now result }
 {
-    let mut next = first;
-    for _ in 0..count {
-        let (_, after) = read_address(s, next)?;
-        next = after;
-    }
-    let at = first.at;
-    let end = next.at;
-    Ok((Items { at, end, count }, next))
+    items_from(first, count, |c| read_address(s, c))
 }
 
 // Addresses all have 6 bytes: where the bytes of all are there, none is read.
@@ -128,14 +121,7 @@ fn hash_by_hash(s: &[u8], first: Cursor, count: u32) -> Step<Items>
     ensures meaning { items_meaning decode_hash s.now result ≡ decode_many count decode_hash s.now first.at }
     ensures placed { ItemsStepPlaced decode_hash s.now result }
 {
-    let mut next = first;
-    for _ in 0..count {
-        let (_, after) = next.hash(s)?;
-        next = after;
-    }
-    let at = first.at;
-    let end = next.at;
-    Ok((Items { at, end, count }, next))
+    items_from(first, count, |c| c.hash(s))
 }
 
 // Hashes with no count before them, as the blocks of a part.met have them. They all have 16 bytes.

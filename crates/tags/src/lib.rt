@@ -20,7 +20,7 @@ ghost use Rattle.wire.specs.WireAnswers.{items_meaning, ItemsStepPlaced, ItemsSt
 ghost use Rattle.tags.specs.TagAnswers.{type_of, type_meaning, value_meaning, ValueStepInside, tag_meaning, TagStepInside, tag_list_reply, TagListPlaced};
 ghost use Rattle.tags.specs.Skips.{EndsThere, Lies, spec_own_size, offset_after, spec_text_size};
 
-use wire::{Cursor, Fault, Items, PACKET_CEILING, Place, Rule, Step, pair};
+use wire::{Cursor, Fault, Items, PACKET_CEILING, Place, Rule, Step, items_from, pair};
 
 #[derive(Clone, Copy)]
 pub enum TagType {
@@ -261,14 +261,7 @@ fn tag_by_tag(s: &[u8], first: Cursor, count: u32) -> Step<Items>
     ensures meaning { items_meaning decode_tag s.now result ≡ decode_many count decode_tag s.now first.at }
     ensures placed { ItemsStepPlaced decode_tag s.now result }
 {
-    let mut next = first;
-    for _ in 0..count {
-        let (_, after) = read_tag(s, next)?;
-        next = after;
-    }
-    let at = first.at;
-    let end = next.at;
-    Ok((Items { at, end, count }, next))
+    items_from(first, count, |c| read_tag(s, c))
 }
 
 // Tags one after the other, as many as counted. Every tag is skipped, so that the list returned is known to lie there whole. Where the

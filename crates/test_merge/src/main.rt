@@ -30,13 +30,11 @@ const PATTERN: u8 = 0xA5;
 // The number of a field of digits, from the first nine of them.
 fn read_decimal(field: &[u8]) -> usize {
     let mut number: usize = 0;
-    let mut i = 0;
-    while i < field.len() {
+    for &digit in field {
         if 99999999 < number {
             return number;
         }
-        number = 10 * number + (field[i] % 16) as usize;
-        i += 1;
+        number = 10 * number + usize::from(digit % 16);
     }
     number
 }
@@ -172,6 +170,7 @@ fn print_cases(rt: &impl Print, call: Call, text: &[u8; TEXT], length: usize) ->
     requires { length ≤ 1048576 }
 {
     let mut at = 0;
+    // By `while`, since a line's end is found in it.
     while at < length {
         let line = line_at(text, at);
         print_case(rt, call, text, line)?;

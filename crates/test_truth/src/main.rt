@@ -66,6 +66,7 @@ fn print_cases(rt: &impl Print, text: &[u8; ROOM], length: usize) -> io::Result<
     requires { length ≤ 32768 }
 {
     let mut at = 0;
+    // By `while`, since a line's end is found in it.
     while at < length {
         let line = line_at(text, at);
         print_case(rt, text, at, line)?;

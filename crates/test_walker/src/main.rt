@@ -24,14 +24,6 @@ fn write_number(rt: &impl Print, n: u64) -> io::Result<()> {
     println!(rt; "{n}")
 }
 
-fn wide(n: u32) -> u64 {
-    n as u64
-}
-
-fn byte_wide(n: u8) -> u64 {
-    n as u64
-}
-
 fn show_tag(rt: &impl Print, list: &[u8], tag: Tag) -> io::Result<()> {
     let name = bytes_at(list, tag.name_at, tag.name_len);
     write(rt, b"  tag ")?;
@@ -48,11 +40,11 @@ fn show_tag(rt: &impl Print, list: &[u8], tag: Tag) -> io::Result<()> {
         }
         TagValue::Dword(n) => {
             write(rt, b", number ")?;
-            write_number(rt, wide(n))
+            write_number(rt, u64::from(n))
         }
         TagValue::Float(n) => {
             write(rt, b", bits of a float ")?;
-            write_number(rt, wide(n))
+            write_number(rt, u64::from(n))
         }
     }
 }
@@ -73,7 +65,7 @@ fn show(rt: &impl Print, list: &[u8], step: WalkStep, stops: u8) -> io::Result<u
         }
         Err(fault) => {
             write(rt, b"  refused ")?;
-            write_number(rt, byte_wide(fault.rule.number()))?;
+            write_number(rt, u64::from(fault.rule.number()))?;
             Ok(stops + 1)
         }
     }
@@ -83,6 +75,7 @@ fn show(rt: &impl Print, list: &[u8], step: WalkStep, stops: u8) -> io::Result<u
 fn walk(rt: &impl Print, list: &[u8]) -> io::Result<()> {
     let mut w = new(list);
     let mut stops = 0;
+    // By `while`, since a tag is no stop.
     while stops < 2 {
         stops = show(rt, list, next(&mut w), stops)?;
     }

@@ -18,7 +18,7 @@ pub fn why(s: &[u8], link: Link) -> Option<Fault>
     packet_step(s, link).err()
 }
 
-// The number that a rule has for callers from C.
+// The number that a rule has for callers from C. The C interface fixes it, and it is not that of `Rule::number`.
 fn code_of(rule: Rule) -> u8
     ensures { result ≡ rule_code (rule_meaning rule) }
 {

@@ -1,6 +1,6 @@
 -- The loop that reads n items and keeps none of them, over the decoder of one item.
 use Prim.Native.Nat.{ℕ, zero, suc, ◌+◌, ◌-◌, ◌*◌, ◌≤◌, ◌<◌}
-use mathlib.Core.Path.{◌≡◌, refl, ap, ◌∙◌}
+use mathlib.Core.Path.{◌≡◌, refl, ap, sym, ◌∙◌}
 use mathlib.Core.List.{List}
 use native.Mathlib.Nat.{mul-suc, mul-zero, sub-zero}
 use lib.ListN.{length}
@@ -9,6 +9,9 @@ use Rattle.format.specs.Decoding.{Decoder, Fault, Outcome, bytes_at, decode_many
 use Rattle.format.specs.Order.{decode_hash}
 use Rattle.format.proofs.Differ.{differ}
 use Rattle.format.proofs.There.{run-there}
+use Rattle.std.specs.Prelude.{Ok, Err}
+use Rattle.wire.specs.declared.Items.{Items}
+use Rattle.wire.specs.WireAnswers.{Step, step_meaning, end_meaning, items_meaning, ItemsAre, ItemsStepPlaced}
 use Rattle.format.proofs.Many.{ends-items, many-step, loop-step, loop-stop, loop-ends, loop-done}
 
 -- The invariant: i of the n items are read, and the others lie from `at` on up to where the whole list ends.
@@ -49,6 +52,33 @@ module _ {A : Type 0} (d : Decoder A) (s : List ℕ) (first n : ℕ) where
 
     pub refuses-over : {f : Fault} → i < n → ReadUpTo d s first n i at → refused f ≡ ends (d s at) → (refused f ≡ decode_many n d s first) × Unit {0}
     refuses-over h inv read = refuses h inv (ended-refused (d s at) read)
+
+-- A decoder without its values, and what n of its items end as.
+abbrev pub bare : {A : Type 0} → Decoder A → Decoder (Unit {0})
+bare d s at = ends (d s at)
+
+pub bare-ended : {A B : Type 0} (mean : A → B) (answer : Step A) {o : Outcome B} → step_meaning mean answer ≡ o → end_meaning answer ≡ ends o
+unfolding ends
+bare-ended mean (Ok (v, c)) e = rw (← e) refl
+bare-ended mean (Err f) e = rw (← e) refl
+
+module _ {A : Type 0} (d : Decoder A) (s : List ℕ) where
+  bare-turn : (n at : ℕ) → ((p : ℕ) → ends (decode_many n (bare d) s p) ≡ ends (decode_many n d s p)) → (o : Outcome A) → o ≡ d s at
+      → ends (decode_many (suc n) (bare d) s at) ≡ ends (decode_many (suc n) d s at)
+  unfolding ends
+  bare-turn n at rest (refused f) e = rw (← e) refl
+  bare-turn n at rest (got a p) e = many-step (bare d) s n at (rw (← e) refl) ∙ rest p ∙ sym (many-step d s n at e)
+
+  bare-many : (n at : ℕ) → ends (decode_many n (bare d) s at) ≡ ends (decode_many n d s at)
+  unfolding ends
+  bare-many zero at = refl
+  bare-many (suc n) at = bare-turn n at (bare-many n) (d s at) refl
+
+  -- What `items_from` ensures, where its reader answers what this decoder finds.
+  pub items-read : (n at : ℕ) (answer : Step Items) → end_meaning answer ≡ ends (decode_many n (bare d) s at) → ItemsAre at n answer
+      → (items_meaning d s answer ≡ decode_many n d s at) × ItemsStepPlaced d s answer
+  items-read n at (Ok (l, c)) e are = let lies = sym (e ∙ bare-many n at) in rw are (ends-items _ _ lies, (lies, refl))
+  items-read n at (Err f) e are = (ended-refused _ (e ∙ bare-many n at), tt)
 
 -- Items that all have k bytes: n of them lie there if their bytes do.
 module _ {A : Type 0} (d : Decoder A) (k : ℕ) (item : (s : List ℕ) (at : ℕ) → at + k ≤ length s → (a : A) × (got a (at + k) ≡ d s at)) (s : List ℕ) where

@@ -96,6 +96,19 @@ ItemsInside d s l = ItemsPlaced d s l × (l.end ≤ length s)
 abbrev pub ItemsStepInside : {A : Type 0} → Decoder A → List ℕ → Step Items → Type 0
 ItemsStepInside d s = OfStep (ItemsInside d s)
 
+-- Where a step ends, without its value.
+abbrev pub end_meaning : {A : Type 0} → Step A → Outcome (Unit {0})
+end_meaning = step_meaning (λ v. tt)
+
+-- What a reader answers at a cursor ends where the decoder, which keeps no value, does.
+abbrev pub EndsBy : {A : Type 0} → Decoder (Unit {0}) → List ℕ → (Cursor → Step A → Type 0) → Type 0
+EndsBy {A} d s Answers = (c : Cursor) (answer : Step A) → Answers c answer → end_meaning answer ≡ d s c.at
+
+-- The list that a step read has so many items, from the offset to the cursor after it.
+abbrev pub ItemsAre : (at count : ℕ) → Step Items → Type 0
+ItemsAre at count (Ok (l, c)) = l ≡ record { at = at; end = c.at; count = count }
+ItemsAre at count (Err f) = Unit {0}
+
 -- A step that has no value: what was read is known.
 abbrev pub done_meaning : Result Cursor Fault → Outcome (Unit {0})
 done_meaning (Ok c) = got tt c.at

@@ -10,11 +10,11 @@
 
 #![tactic(auto)]
 
-ghost use Rattle.std.specs.Prelude.{◌≡◌, ◌+◌, ◌-◌, ◌*◌, length};
+ghost use Rattle.std.specs.Prelude.{ℕ, List, ◌≡◌, ◌+◌, ◌-◌, ◌*◌, length};
 ghost use Rattle.format.specs.Decoding as decoding;
-ghost use Rattle.format.specs.Decoding.{bytes_at, decode_run};
+ghost use Rattle.format.specs.Decoding.{Decoder, bytes_at, decode_many, decode_run, ends};
 ghost use Rattle.format.specs.Order.{decode_byte, decode_word, decode_dword, decode_hash, decode_string, decode_name, decode_fixed};
-ghost use Rattle.wire.specs.WireAnswers.{rule_meaning, number_meaning, hash_meaning, place_meaning, PlaceStepInside, done_meaning, SkipIs};
+ghost use Rattle.wire.specs.WireAnswers.{rule_meaning, number_meaning, hash_meaning, place_meaning, PlaceStepInside, done_meaning, SkipIs, end_meaning, EndsBy, ItemsAre};
 
 // The most bytes that a packet can have, and a query or a tag list alone: `packet_ceiling` in the format's rules.
 pub const PACKET_CEILING: usize = 65536;
@@ -112,13 +112,13 @@ pub struct Items {
 pub fn pair(low: u8, high: u8) -> u16
     ensures { result ≡ low + 256 * high }
 {
-    low as u16 + 256 * (high as u16)
+    u16::from_le_bytes([low, high])
 }
 
 fn quad(first: u8, second: u8, third: u8, fourth: u8) -> u32
     ensures { result ≡ first + 256 * second + 65536 * third + 16777216 * fourth }
 {
-    first as u32 + 256 * (second as u32) + 65536 * (third as u32) + 16777216 * (fourth as u32)
+    u32::from_le_bytes([first, second, third, fourth])
 }
 
 impl Cursor {
@@ -132,6 +132,7 @@ impl Cursor {
 
     // The cursor after an item of `len` bytes. Whether they are there is tested by the length less the item's, so that no sum can
     // wrap, wherever the cursor stands.
+    #[inline(always)]
     fn skip(self, s: &[u8], len: usize) -> Result<Cursor, Fault>
         ensures { SkipIs s.now self.at len result }
     {
@@ -146,6 +147,7 @@ impl Cursor {
         Ok(Cursor { at: at + len })
     }
 
+    #[inline]
     pub fn byte(self, s: &[u8]) -> Step<u8>
         ensures { number_meaning result ≡ decode_byte s.now self.at }
     {
@@ -153,6 +155,7 @@ impl Cursor {
         Ok((s[self.at], next))
     }
 
+    #[inline]
     pub fn word(self, s: &[u8]) -> Step<u16>
         ensures { number_meaning result ≡ decode_word s.now self.at }
     {
@@ -162,6 +165,7 @@ impl Cursor {
         Ok((value, next))
     }
 
+    #[inline]
     pub fn dword(self, s: &[u8]) -> Step<u32>
         ensures { number_meaning result ≡ decode_dword s.now self.at }
     {
@@ -172,6 +176,7 @@ impl Cursor {
     }
 
     // The offset of a HASH.
+    #[inline]
     pub fn hash(self, s: &[u8]) -> Step<usize>
         ensures { hash_meaning s.now result ≡ decode_hash s.now self.at }
     {
@@ -237,6 +242,27 @@ impl Cursor {
             size: 1,
         })
     }
+}
+
+// Items one after the other, each read by itself. A count that is too high ends at the first missing item.
+pub fn items_from<T: Copy, F: Fn(Cursor) -> Step<T>>(
+    first: Cursor,
+    count: u32,
+    read: F,
+) -> Step<Items>
+    requires { F.IsAlwaysCallable read }
+    ensures ended { (d : Decoder (Unit {0})) (s : List ℕ) → EndsBy d s (F.post read)
+        → end_meaning result ≡ ends (decode_many count d s first.at) }
+    ensures list { ItemsAre first.at count result }
+{
+    let mut next = first;
+    for _ in 0..count {
+        let (_, after) = read(next)?;
+        next = after;
+    }
+    let at = first.at;
+    let end = next.at;
+    Ok((Items { at, end, count }, next))
 }
 
 // The `len` bytes from the offset on, or as many of them as there are. It takes any numbers, so that no caller has to show that a

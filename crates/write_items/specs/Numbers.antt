@@ -2,12 +2,8 @@
 -- show that they are the numbers of the format.
 use Rattle.std.specs.Prelude.{ℕ, ◌+◌, List, eqb, leb}
 use Rattle.format.specs.Tables.{pick}
-use Rattle.format.specs.Layout.{bound_code, operator_code}
 use Rattle.format.specs.Rules.{depth_limit, name_limit, packet_ceiling}
 use Rattle.format.specs.Writing.{Written, unwritten, written_into}
-use Rattle.query.specs.declared.Bound.{Bound}
-use Rattle.query.specs.declared.Operator.{Operator}
-use Rattle.query.specs.QueryAnswers.{bound_of, operator_of}
 
 -- The number for pieces with these lengths: 6 for a text or name that its count field, a WORD, cannot hold; then what the reader says of
 -- the bytes: 6 above the byte ceiling, 5 for an empty name, 6 for a name above 255 bytes. The room (10) is left out.
@@ -37,12 +33,6 @@ spec_join_number size deep = ceiling_number size (pick (leb deep depth_limit) 0 
 -- A single tag has no byte ceiling.
 unfoldable pub spec_tag_number : ℕ → ℕ → ℕ
 spec_tag_number name text = count_number name (count_number text (spec_name_number name))
-
-abbrev pub spec_bound_byte : Bound → ℕ
-spec_bound_byte b = bound_code (bound_of b)
-
-abbrev pub spec_operator_byte : Operator → ℕ
-spec_operator_byte o = operator_code (operator_of o)
 
 -- The write of finished bytes that have this number.
 abbrev pub tried : ℕ → List ℕ → List ℕ → Written

@@ -1,7 +1,7 @@
 // Lone queries: from their pieces, and as they are encoded in the lent bytes.
 ghost use Rattle.std.specs.Prelude.{◌≡◌, ◌++◌, suc, max, ◌+◌, ◌≤◌, length};
 ghost use Rattle.format.specs.Messages.{keyword, field, limit, lone_query};
-ghost use Rattle.format.specs.Layout.{byte, encode_query};
+ghost use Rattle.format.specs.Layout.{byte, operator_code, encode_query};
 ghost use Rattle.format.specs.Decoding.{ends};
 ghost use Rattle.format.specs.Order.{decode_query};
 ghost use Rattle.format.specs.MetOrder.{decode};
@@ -11,7 +11,6 @@ ghost use Rattle.output.specs.WriteAnswers.{answered, number_of};
 ghost use Rattle.query.specs.QueryAnswers.{bound_of, operator_of, query_in};
 ghost use Rattle.write_items.specs.There.{no_places};
 ghost use Rattle.write_items.specs.Writers.{join_of, sides_there};
-ghost use Rattle.write_items.specs.Numbers.{spec_bound_byte, spec_operator_byte};
 ghost use Rattle.write_items.specs.Numbers.{spec_keyword_number, spec_field_number, spec_limit_number, spec_join_number};
 
 use crate::{PACKET_CEILING, WORD_MOST, check_name};
@@ -103,21 +102,12 @@ fn put_field(out: &mut [u8], text: &[u8], name: &[u8]) -> usize
     at + name_size
 }
 
-fn bound_byte(bound: Bound) -> u8
-    ensures { result ≡ spec_bound_byte bound }
-{
-    match bound {
-        Bound::AtLeast => 1,
-        Bound::AtMost => 2,
-    }
-}
-
 fn put_limit(out: &mut [u8], value: u32, bound: Bound, name: &[u8]) -> usize
     requires { StringFits name.now × (8 + length name.now ≤ length out.old) }
     ensures written { result ≡ 8 + length name.now }
     ensures output { out.new ≡ overwritten (encode_query (limit value (bound_of bound) name.now)) out.old }
 {
-    let code = bound_byte(bound);
+    let code = u8::from(bound);
     output::put_byte(out, BOUNDED);
     output::put_dword(&mut out[1..], value);
     output::put_byte(&mut out[5..], code);
@@ -167,16 +157,6 @@ pub fn write_limit(value: u32, bound: Bound, name: &[u8], out: &mut [u8]) -> Wri
     Ok(put_limit(out, value, bound, name))
 }
 
-fn operator_byte(operator: Operator) -> u8
-    ensures { result ≡ spec_operator_byte operator }
-{
-    match operator {
-        Operator::And => 0,
-        Operator::Or => 1,
-        Operator::AndNot => 2,
-    }
-}
-
 // The check of a join of two queries that have these sizes and depths.
 #[tactic(auto, unfolding(crate::specs::Numbers::spec_join_number))]
 fn check_join(
@@ -207,9 +187,9 @@ fn put_join(out: &mut [u8], operator: Operator, left: &[u8], right: &[u8]) -> us
     requires { 2 + length left.now + length right.now ≤ length out.old }
     ensures written { result ≡ 2 + length left.now + length right.now }
     ensures output { out.new ≡
-        overwritten (byte 0 ++ (byte (spec_operator_byte operator) ++ (left.now ++ right.now))) out.old }
+        overwritten (byte 0 ++ (byte (operator_code (operator_of operator)) ++ (left.now ++ right.now))) out.old }
 {
-    let code = operator_byte(operator);
+    let code = u8::from(operator);
     output::put_byte(out, JOIN);
     output::put_byte(&mut out[1..], code);
     output::copy(&mut out[2..], left);

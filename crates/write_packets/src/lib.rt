@@ -31,6 +31,7 @@ const TCP_HEAD: usize = 6;
 
 const UDP_HEAD: usize = 2;
 
+// The shape that a body has: it drops what the body holds, so that it is no conversion.
 fn body_shape(body: Body) -> Shape
     ensures { (s : List ℕ) → shape_of result ≡ (body_in s body).0 }
 {

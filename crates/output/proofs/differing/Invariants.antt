@@ -1,5 +1,5 @@
 -- No byte differs so far exactly where the bytes so far agree.
-use Prim.Native.Nat.{◌≤◌, ◌-◌}
+use Prim.Native.Nat.{◌≤◌}
 use mathlib.Core.Path.{◌≡◌}
 use mathlib.Core.Logic.{◌↔◌}
 use Rattle.output.specs.Agreement.{Agree}
@@ -7,6 +7,3 @@ use Rattle.output.proofs.differing.Given as goal
 
 abbrev pub invariant-loop-i : goal.invariant-loop-i
 invariant-loop-i l = (l.i ≤ 128) × (l.differ ≤ l.i) × ((l.differ ≡ 0) ↔ Agree l.a l.b l.at l.i)
-
-abbrev pub decreases-loop-i : goal.decreases-loop-i
-decreases-loop-i l = 128 - l.i

@@ -3,7 +3,8 @@ use Rattle.wire.proofs.Steps.{propagated}
 use Rattle.output.proofs.Refusals.{number-of-rule}
 use Rattle.save.proofs.Strict.{strict-refused, strict-conflict, strict-over}
 use borrow.Author.Tests.{le-leb, lt-leb}
-use mathlib.Core.Path.{refl}
+use mathlib.Core.Path.{refl, ap}
+use lib.ListN.{length}
 use Rattle.save.proofs.save_strict.Goals as goal
 
 pub returns-in_err-read_part_met : goal.returns-in_err-read_part_met
@@ -27,4 +28,5 @@ returns c =
     let a = c.args in
     let equal = rw c.if-not-same.false at c.same.ensures in
     let room = le-leb _ _ c.if-out-length.false in
-    rw (strict-over a.stored.now a.opened.now _ _ _ c.in_ok-read_part_met.ensures.meaning equal, room, ← c.copy.ensures) refl
+    rw (strict-over a.stored.now a.opened.now _ _ _ c.in_ok-read_part_met.ensures.meaning equal, room)
+    (ap (λ output. record { number = 0; length = length a.new.now; output = output }) c.copy.ensures)

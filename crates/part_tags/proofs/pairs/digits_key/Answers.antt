@@ -33,7 +33,7 @@ loop-i-preserved c =
     let d = c.args.digits.now in
     let digit = decimal-next d c.loop-i.i (omega arith) in
     let key = key-next d c.loop-i.i c.loop-i.key (omega arith) in
-    (omega arith, c.loop-i.invariant.1 ∙ rw (digit, le-leb _ _ c.if-b-lt48.false, le-leb _ _ c.if-b-gt57.false, key, c.wide.ensures) refl)
+    (omega arith, c.loop-i.invariant.1 ∙ rw (digit, le-leb _ _ c.if-b-lt48.false, le-leb _ _ c.if-b-gt57.false, key, c.from.ensures) refl)
 
 pub returns : goal.returns
 returns c =

@@ -7,6 +7,3 @@ use Rattle.part_tags.proofs.pairs.is_used.Given as goal
 
 abbrev pub invariant-loop-i : goal.invariant-loop-i
 invariant-loop-i l = (l.i ≤ l.count) × (used l.digits (first_pairs l.s l.count l.starts) ≡ used l.digits (first_pairs l.s l.i l.starts))
-
-abbrev pub decreases-loop-i : goal.decreases-loop-i
-decreases-loop-i l = l.i
