@@ -7,20 +7,19 @@ use native.Mathlib.Omega.{arith}
 use lib.ListN.{length, get_or, length-take, length-drop}
 use lib.Dec.{eqb}
 use borrow.Author.Tests.{eq-eqb, ne_eqb}
-use Rattle.std.specs.List.{starts_with}
 use Rattle.format.specs.Tables.{pick, same}
 use Rattle.format.specs.Messages.{Tag, TagType, TagValue, hash_type, string_type, dword_type, float_type}
 use Rattle.format.specs.Layout.{type_code}
 use Rattle.format.specs.Decoding.{Outcome, refused, got, bytes_at}
 use Rattle.format.specs.Order.{decode_tag}
-use Rattle.format.specs.Truth.{on_string, on_dword, string_tag, dword_tag}
+use Rattle.format.specs.Truth.{on_string, on_dword, prefix, string_tag, dword_tag}
 use Rattle.format.proofs.Differ.{differ}
 use Rattle.format.proofs.There.{part-cons}
 use Rattle.format.proofs.PartTags.{same-lengths}
 use Rattle.tags.specs.Skips.{Lies}
 use Rattle.tags.proofs.WholeTags.{name-lies, on-tag}
 use Rattle.truth.specs.TruthAnswers.{is_of, on_item}
-use Rattle.truth.proofs.Texts.{starts-same}
+use Rattle.truth.proofs.Texts.{same-prefix}
 
 pick-self : (t : Bool) → t ≡ pick t true false
 pick-self true = refl
@@ -72,8 +71,8 @@ module _ (s : List ℕ) (at n : ℕ) (word : n ≡ get_or s (at + 1) 0 + 256 * g
       let e = sym (named one is) ∙ eq-eqb _ _ this in
       on-tag s at n word lies (λ o. eqb (get_or s at 0) code ≡ on_item (is_of code name) o) (λ t next w. rw (w.is, w.code, w.name-is, e) (pick-self (eqb (get_or s at 0) code)))
 
-  pub by-start : get_or s at 0 ≡ code → n ≡ length name → starts_with eqb name (bytes_at s (at + 3) n) ≡ on_item (is_of code name) (decode_tag s at)
-  by-start this is = starts-same _ _ (part_length ∙ is) ∙ by_name this
+  pub by-prefix : get_or s at 0 ≡ code → n ≡ length name → prefix (bytes_at s (at + 3) n) name ≡ on_item (is_of code name) (decode_tag s at)
+  by-prefix this is = same-prefix _ _ (part_length ∙ is) ∙ by_name this
 
 -- A tag of another type or name is not one that a leaf looks for.
 pub no_text : (name : List ℕ) (p : List ℕ → Bool) (o : Outcome Tag) → false ≡ on_item (is_of 2 name) o → false ≡ on_item (string_tag name p) o

@@ -17,7 +17,7 @@ ghost use Rattle.format.specs.Decoding.{accepted};
 ghost use Rattle.format.specs.Order.{decode_tag, decode_query_in};
 ghost use Rattle.format.specs.MetOrder.{decode};
 ghost use Rattle.format.specs.Truth as format;
-ghost use Rattle.format.specs.Truth.{on_query, some, within};
+ghost use Rattle.format.specs.Truth.{on_query, some, prefix, within};
 ghost use Rattle.wire.specs.WireAnswers.{ItemsPlaced};
 ghost use Rattle.tags.specs.Skips.{Lies};
 ghost use Rattle.tags.specs.TagAnswers.{tags_in};
@@ -38,6 +38,22 @@ const TEXT: u8 = 2;
 const DWORD: u8 = 3;
 
 const DEPTH_LIMIT: usize = 24;
+
+// Whether s begins with the bytes t. By the slice's own starts_with the lines of the bench for a query of depth 24 and for one of 9,300
+// leaves were at 0.83 and 0.80; by this loop they are above 1.
+fn starts_with(s: &[u8], t: &[u8]) -> bool
+    ensures { result ≡ prefix t.now s.now }
+{
+    if s.len() < t.len() {
+        return false;
+    }
+    for i in 0..t.len() {
+        if t[i] != s[i] {
+            return false;
+        }
+    }
+    true
+}
 
 fn is_within(bound: Bound, limit: u32, number: u32) -> bool
     ensures { result ≡ within (bound_of bound) limit number }
@@ -69,7 +85,7 @@ fn is_candidate(tags: &[u8], at: usize, code: u8, name: &[u8]) -> bool
     if tags[at] != code {
         return false;
     }
-    name.starts_with(bytes_at(tags, at + 3, name_length))
+    starts_with(name, bytes_at(tags, at + 3, name_length))
 }
 
 // The value of a tag is read where it lies. That the whole tag is there is known.

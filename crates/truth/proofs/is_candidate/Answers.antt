@@ -2,7 +2,7 @@
 use mathlib.Core.Path.{◌∙◌, sym}
 use native.Mathlib.Omega.{arith}
 use Rattle.tags.proofs.WholeTags.{head-lies, name-lies}
-use Rattle.truth.proofs.Candidates.{by-start, by-type, other_byte, other_length, other-type}
+use Rattle.truth.proofs.Candidates.{by-prefix, by-type, other_byte, other_length, other-type}
 use Rattle.truth.proofs.is_candidate.Goals as goal
 
 pub overflow_add-at : goal.overflow_add-at
@@ -40,5 +40,5 @@ overflow_add-at-3 c = omega (arith, head-lies _ _ c.requires)
 
 pub returns : goal.returns
 returns c =
-    rw c.bytes_at.ensures at c.starts_with.ensures.value
-    ∙ by-start _ _ _ c.pair-name_length.ensures c.requires _ _ c.if-tags-at-2.false c.if-name_length-name.false
+    rw c.bytes_at.ensures at c.starts_with.ensures
+    ∙ by-prefix _ _ _ c.pair-name_length.ensures c.requires _ _ c.if-tags-at-2.false c.if-name_length-name.false
