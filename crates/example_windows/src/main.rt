@@ -38,10 +38,10 @@ fn say_answer(rt: &impl Print, words: &str, answer: Written) -> io::Result<usize
 // What a window makes of the opened file when the bytes from start up to end arrive: how many bytes it wants to save.
 fn edit(rt: &impl Print, opened: &[u8], start: u64, end: u64, out: &mut [u8]) -> io::Result<usize> {
     let given = read_gaps(opened).unwrap_or(none_missing(0));
-    let (missing, after) = mark(given, start, end).map_or(
-        (0, given),
-        |marked| (marked.missing, marked.after),
-    );
+    let (missing, after) = match mark(given, start, end) {
+        Ok(marked) => (marked.missing, marked.after),
+        Err(unmarked) => (0, unmarked.given),
+    };
     say(rt, "window marks; bytes missing: ", missing)?;
     say_answer(
         rt,

@@ -8,17 +8,19 @@ use lib.ListN.{length, drop, length-append, length-map, length-replicate}
 use lib.Seq.{drop_at}
 use borrow.Author.Tests.{eq-eqb}
 use Rattle.format.specs.Gaps.{Gap, size_limit}
-use Rattle.gaps.specs.Marking.{MarkAnswer, MarkOutcome, marked}
+use Rattle.std.specs.Prelude.{Result}
+use Rattle.gaps.specs.Marking.{MarkOutcome, answer_meaning, marked}
 use Rattle.gaps.specs.EitherOrder.{EitherOrder, InPlace, MarkedInTurn}
 use Rattle.gaps.proofs.EitherOrder.{in_place, number-told}
 use Rattle.gaps.proofs.Marking.{accepted-as, zero-exactly}
+use Rattle.output.specs.declared.Refusal.{Refusal}
 use Rattle.gap_numbers.specs.Numbers.{numbers_of, record_in}
 use Rattle.gap_numbers.specs.EitherOrder.{OverNumbers}
 use Rattle.gap_numbers.proofs.Numbers.{length-numbers}
 use Rattle.gap_numbers.proofs.Records.{record-back}
 
 -- One marking over numbers that is accepted
-module _ (given : List ℕ) (r : Gap) (a : MarkAnswer) (left : List ℕ) (m : OverNumbers given r a left) (zero : a.number ≡ 0) where
+module _ (given : List ℕ) (r : Gap) (a : Result ℕ Refusal) (left : List ℕ) (m : OverNumbers given r a left) (zero : (answer_meaning a).number ≡ 0) where
   abbrev done : MarkOutcome
   done = marked size_limit (record_in given) r.start r.end
 
@@ -48,7 +50,7 @@ module _ (given : List ℕ) (r : Gap) (a : MarkAnswer) (left : List ℕ) (m : Ov
   in-record = (m.told, record-left)
 
 -- Two of them
-module _ {given left : List ℕ} {first second : Gap} {a : MarkAnswer} (t : MarkedInTurn OverNumbers given first second a left) where
+module _ {given left : List ℕ} {first second : Gap} {a : Result ℕ Refusal} (t : MarkedInTurn OverNumbers given first second a left) where
   abbrev between : List ℕ
   between = t.between
 

@@ -9,13 +9,16 @@ use mathlib.Core.List.{List, [], ◌∷◌, ◌++◌}
 use lib.ListN.{length}
 use lib.Dec.{ltb, eqb}
 use borrow.Author.Tests.{lt-ltb, le-leb, lt-leb, ltb-true, leb-true, eqb-true, eqb-false}
-use Rattle.std.specs.Prelude.{Some, None}
+use Rattle.std.specs.Prelude.{Some, None, Err}
 use Rattle.format.specs.Gaps.{Gap, within, missing, Ordered, count, total, subtract, marking}
 use Rattle.format.proofs.Gaps.{never, both_true, outside-both, subtract-ordered, subtract-lawful, missing-subtract, total-count, count_same}
 use Rattle.gaps.specs.declared.GapRecord.{GapRecord}
 use Rattle.gaps.specs.GapRecords.{gaps_of, spec_record_of, lawful_record, missing_count}
-use Rattle.gaps.specs.Marking.{MarkOutcome, Markable, markable, refusal, acceptance, marked, covered, mark_all, accepted_ranges}
+use Rattle.gaps.specs.declared.Unmarked.{Unmarked}
+use Rattle.gaps.specs.Marking.{MarkOutcome, Markable, answer_of, mark_meaning, markable, refusal, acceptance, marked, covered, mark_all, accepted_ranges}
 use Rattle.gaps.specs.MarkingSteps.{subtracted}
+use Rattle.output.specs.WriteAnswers.{refusal_number}
+use Rattle.output.proofs.Refusals.{not-accepted}
 use Rattle.gaps.proofs.GapRecords.{gaps-of-record, lawful-record-exactly}
 
 -- the test says what the rule says
@@ -141,6 +144,13 @@ module _ (limit : ℕ) (g : GapRecord) (s e : ℕ) where
       go (accepted m few q) = absurd (h (numbered q))
       go (too_many m many q) = rw q refl
       go (barred f q) = rw q refl
+
+  -- what a call that is refused answers, and the record that it leaves
+  pub handed-back : (u : Unmarked) → mark_meaning (Err u) ≡ answer →
+      (record { number = refusal_number u.refusal; missing = 0 } ≡ answer_of answer) × (g ≡ answer.after)
+  handed-back u h =
+      let refused = refused-as-given (λ z. omega (arith, not-accepted u.refusal, numbered (sym h), z)) in
+      (ap answer_of h, sym (ap (λ (m : MarkOutcome). m.after) refused))
 
   pub size-after : answer.after.size ≡ g.size
   size-after = go outcome

@@ -3,6 +3,7 @@ use Rattle.std.specs.Prelude.{ℕ, ◌≤◌, ◌<◌, Bool, ◌&&◌, cond, Lis
 use Rattle.format.specs.Gaps.{gap_limit, Gap, Lawful, missing, Marking, rejected, leaves, inside, marking}
 use Rattle.gaps.specs.declared.GapRecord.{GapRecord}
 use Rattle.gaps.specs.declared.Marked.{Marked}
+use Rattle.gaps.specs.declared.Unmarked.{Unmarked}
 use Rattle.gaps.specs.GapRecords.{gaps_of, spec_record_of, lawful_record}
 use Rattle.output.specs.declared.Refusal.{Refusal}
 use Rattle.output.specs.WriteAnswers.{refusal_number}
@@ -48,10 +49,15 @@ marked limit g start end = answered g (marking (markable limit g start end) g.si
 abbrev pub answer_of : MarkOutcome → MarkAnswer
 answer_of m = record { number = m.number; missing = m.missing }
 
--- what the answer of `mark` stands for, of the record given
-abbrev pub mark_meaning : GapRecord → Result Marked Refusal → MarkOutcome
-mark_meaning g (Ok m) = record { number = 0; missing = m.missing; after = m.after }
-mark_meaning g (Err r) = refusal (refusal_number r) g
+-- what the answer of `mark` stands for
+abbrev pub mark_meaning : Result Marked Unmarked → MarkOutcome
+mark_meaning (Ok m) = record { number = 0; missing = m.missing; after = m.after }
+mark_meaning (Err u) = refusal (refusal_number u.refusal) u.given
+
+-- the answer of `mark` without the record
+abbrev pub without_record : Result Marked Unmarked → Result ℕ Refusal
+without_record (Ok m) = Ok m.missing
+without_record (Err u) = Err u.refusal
 
 -- what the answer of a marking in place stands for
 abbrev pub answer_meaning : Result ℕ Refusal → MarkAnswer

@@ -3,10 +3,11 @@
 
 #![tactic(auto)]
 
-ghost use Rattle.std.specs.Prelude.{◌≡◌, ◌≤◌};
+ghost use Rattle.std.specs.Prelude.{◌≡◌, ◌≤◌, Err};
 ghost use Rattle.format.specs.Gaps.{Ordered, total, follows, size_limit};
 ghost use Rattle.gaps.specs.GapRecords.{gap_of, gaps_of, spec_none_missing, spec_all_missing, lawful_record, missing_count};
-ghost use Rattle.gaps.specs.Marking.{markable, mark_meaning, answer_meaning, marked, answer_of};
+ghost use Rattle.gaps.specs.Marking.{markable, mark_meaning, answer_meaning, marked, answer_of, refusal};
+ghost use Rattle.output.specs.WriteAnswers.{refusal_number};
 ghost use Rattle.gaps.specs.MarkingSteps.{pushed, pushed_remaining, subtracted};
 
 use output::Refusal;
@@ -37,6 +38,13 @@ pub struct GapRecord {
 pub struct Marked {
     pub missing: u64,
     pub after: GapRecord,
+}
+
+// Why a marking is refused, and the record that it was given, which it hands back.
+#[derive(Clone, Copy, PartialEq, Eq, Debug)]
+pub struct Unmarked {
+    pub refusal: Refusal,
+    pub given: GapRecord,
 }
 
 pub fn none_missing(size: u64) -> GapRecord
@@ -170,16 +178,25 @@ fn is_markable(given: GapRecord, start: u64, end: u64) -> bool
     end <= given.size
 }
 
+fn refused(why: Refusal, given: GapRecord) -> Unmarked
+    ensures { mark_meaning (Err result) ≡ refusal (refusal_number why) given }
+{
+    Unmarked {
+        refusal: why,
+        given,
+    }
+}
+
 // The bytes from `start` up to `end` have arrived.
 #[tactic(auto, unfolding(crate::specs::Marking::marked, format::specs::Gaps::marking))]
-pub fn mark(given: GapRecord, start: u64, end: u64) -> Result<Marked, Refusal>
-    ensures { mark_meaning given result ≡ marked size_limit given start end }
+pub fn mark(given: GapRecord, start: u64, end: u64) -> Result<Marked, Unmarked>
+    ensures { mark_meaning result ≡ marked size_limit given start end }
 {
     if !is_markable(given, start, end) {
-        return Err(Refusal::Data);
+        return Err(refused(Refusal::Data, given));
     }
     let Some(after) = subtract(given, start, end) else {
-        return Err(Refusal::Limit);
+        return Err(refused(Refusal::Limit, given));
     };
     let missing = sum_lengths(after);
     Ok(Marked { missing, after })
@@ -191,7 +208,11 @@ pub fn mark_in_place(given: &mut GapRecord, start: u64, end: u64) -> Result<u64,
     ensures { (answer_meaning result ≡ answer_of (marked size_limit given.old start end))
         × (given.new ≡ (marked size_limit given.old start end).after) }
 {
-    let marked = mark(*given, start, end)?;
-    *given = marked.after;
-    Ok(marked.missing)
+    match mark(*given, start, end) {
+        Ok(marked) => {
+            *given = marked.after;
+            Ok(marked.missing)
+        }
+        Err(unmarked) => Err(unmarked.refusal),
+    }
 }

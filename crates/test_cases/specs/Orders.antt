@@ -16,10 +16,10 @@ marked_one g range = marked size_limit g range.start range.end
 -- Two markings in each order: all four answers are those of the markings, each of the record that the one before leaves; and if none is a
 -- refusal, the last ones are equal.
 pub record MarkedInBothOrders (g : GapRecord) (a b : Gap) (r : Markings) : Type 0 where
-  pub first : mark_meaning g r.first ≡ marked_one g a
-  pub one : let left = (marked_one g a).after in mark_meaning left r.one ≡ marked_one left b
-  pub second : mark_meaning g r.second ≡ marked_one g b
-  pub other : let left = (marked_one g b).after in mark_meaning left r.other ≡ marked_one left a
+  pub first : mark_meaning r.first ≡ marked_one g a
+  pub one : mark_meaning r.one ≡ marked_one (marked_one g a).after b
+  pub second : mark_meaning r.second ≡ marked_one g b
+  pub other : mark_meaning r.other ≡ marked_one (marked_one g b).after a
   pub equal : (x one y other : Marked) → r.first ≡ Ok x → r.one ≡ Ok one → r.second ≡ Ok y → r.other ≡ Ok other → one ≡ other
 
 -- One pair more: counted if it was marked with no refusal, and then as equal if it left the same.

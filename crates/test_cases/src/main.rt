@@ -7,7 +7,7 @@ ghost use Rattle.format.specs.Gaps.{size_limit};
 ghost use Rattle.gaps.specs.Marking.{marked, mark_meaning};
 ghost use Rattle.test_cases.specs.Orders.{MarkedInBothOrders, tallied};
 
-use gaps::{Gap, GapRecord, Marked, all_missing, mark, mark_in_place};
+use gaps::{Gap, GapRecord, Marked, Unmarked, all_missing, mark, mark_in_place};
 use met::{block_count, part_count};
 use output::Refusal;
 use query::read_lone_query;
@@ -66,11 +66,14 @@ fn show_depths(rt: &impl Print) -> io::Result<()> {
     )
 }
 
-// The record after a marking: on a refusal the one given.
-fn record_after(given: GapRecord, answer: Result<Marked, Refusal>) -> GapRecord
-    ensures { result ≡ (mark_meaning given answer).after }
+// The record after a marking: on a refusal the one that is handed back.
+fn record_after(answer: Result<Marked, Unmarked>) -> GapRecord
+    ensures { result ≡ (mark_meaning answer).after }
 {
-    answer.map_or(given, |marked| marked.after)
+    match answer {
+        Ok(marked) => marked.after,
+        Err(unmarked) => unmarked.given,
+    }
 }
 
 // Prints the number of an answer to a marking: 0 where it is accepted.
@@ -88,8 +91,10 @@ fn show_answer(
 // Marks a range, and prints the number of the answer, how many gaps are left and how many bytes are missing.
 fn show_mark(rt: &impl Print, g: GapRecord, start: u64, end: u64) -> io::Result<GapRecord> {
     let answer = mark(g, start, end);
-    let after = record_after(g, answer);
-    let missing = answer.map(|marked| marked.missing);
+    let after = record_after(answer);
+    let missing = answer
+        .map(|marked| marked.missing)
+        .map_err(|unmarked| unmarked.refusal);
     show_answer(rt, "mark ", start, end, missing)?;
     print!(rt; ", gaps {}", after.count)?;
     say(rt, ", missing ", missing.unwrap_or(0))?;
@@ -136,7 +141,7 @@ fn show_same(rt: &impl Print, a: GapRecord, b: GapRecord) -> io::Result<()> {
 fn many_gaps() -> GapRecord {
     let mut record = all_missing(640);
     for at in (9..640).step_by(10) {
-        record = record_after(record, mark(record, at, at + 1));
+        record = record_after(mark(record, at, at + 1));
     }
     record
 }
@@ -155,19 +160,19 @@ fn show_lent(rt: &impl Print) -> io::Result<()> {
 // Two markings in each order: the answers of all four calls.
 #[derive(Clone, Copy)]
 struct Markings {
-    first: Result<Marked, Refusal>,
-    one: Result<Marked, Refusal>,
-    second: Result<Marked, Refusal>,
-    other: Result<Marked, Refusal>,
+    first: Result<Marked, Unmarked>,
+    one: Result<Marked, Unmarked>,
+    second: Result<Marked, Unmarked>,
+    other: Result<Marked, Unmarked>,
 }
 
 fn mark_both(given: GapRecord, a: Gap, b: Gap) -> Markings
     ensures { MarkedInBothOrders given a b result }
 {
     let first = mark(given, a.start, a.end);
-    let one = mark(record_after(given, first), b.start, b.end);
+    let one = mark(record_after(first), b.start, b.end);
     let second = mark(given, b.start, b.end);
-    let other = mark(record_after(given, second), a.start, a.end);
+    let other = mark(record_after(second), a.start, a.end);
     Markings {
         first,
         one,
@@ -224,7 +229,7 @@ fn random_range(random: u64, length: u64) -> Gap
 // Marks a range of up to three bytes. One that would leave too many gaps is refused.
 fn mark_random(given: GapRecord, random: u64) -> GapRecord {
     let range = random_range(random, random / 512 % 3 + 1);
-    record_after(given, mark(given, range.start, range.end))
+    record_after(mark(given, range.start, range.end))
 }
 
 // A file of which up to 128 such ranges have arrived.
