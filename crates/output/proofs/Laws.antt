@@ -1,7 +1,7 @@
 -- Laws of bytes written at the front of an output.
 use Prim.Native.Nat.{ℕ, zero, suc, ◌+◌, ◌-◌, ◌/◌, ◌%◌, ◌≤◌, ◌<◌}
 use native.Mathlib.Omega.{arith}
-use native.Mathlib.Nat.{zero-add, div-div-eq-div-mul}
+use native.Mathlib.Nat.{zero-add, le_of_suc-le-suc, not-suc-le-zero, div-div-eq-div-mul}
 use native.Mathlib.Numerals.{add-one}
 use mathlib.Core.Path.{◌≡◌, refl, ap, ◌∙◌}
 use mathlib.Core.Bool.{Bool, true, false}
@@ -10,8 +10,8 @@ use mathlib.Core.List.{List, [], ◌∷◌, ◌++◌, append_assoc, append-nil}
 use borrow.Rule.Slice.PartMut.{mid_of, put_mid}
 use borrow.Author.Tests.{eq-eqb, ne_eqb, eqb-true, eqb-false}
 use lib.Dec.{eqb}
-use lib.ListN.{drop_of_length-le, length, take, drop, get_or, length-append, length-drop}
-use lib.Seq.{take_all, sets, sets-eq, take-append_seam, drop-append_seam, drop-drop, drop-cons}
+use lib.ListN.{drop_of_length-le, length, take, drop, set, get_or, length-append, length-drop}
+use lib.Seq.{take_all, sets, sets-eq, take-length, take-append_seam, drop-append_seam, drop-drop, drop-cons}
 use Rattle.format.specs.Tables.{pick, same}
 use Rattle.format.proofs.PartTags.{same_not}
 use Rattle.output.specs.Agreement.{Agree}
@@ -23,6 +23,10 @@ pub byte-bytes : (v : ℕ) → v < 256 → little_endian 1 v ≡ v ∷ []
 unfolding little_endian
 byte-bytes v h = ap (λ n. n ∷ []) (omega arith)
 
+pub word_bytes : (v : ℕ) → little_endian 2 v ≡ v % 256 ∷ v / 256 % 256 ∷ []
+unfolding little_endian
+word_bytes v = refl
+
 pub dword-bytes : (v : ℕ) → little_endian 4 v ≡ v % 256 ∷ v / 256 % 256 ∷ v / 65536 % 256 ∷ v / 16777216 % 256 ∷ []
 unfolding little_endian
 dword-bytes v = rw (div-div-eq-div-mul v 256 256, div-div-eq-div-mul v 65536 256) refl
@@ -30,6 +34,21 @@ dword-bytes v = rw (div-div-eq-div-mul v 256 256, div-div-eq-div-mul v 65536 256
 -- One store after the other, from the first place on.
 pub stores : {bytes vs : List ℕ} (l : List ℕ) → bytes ≡ vs → length vs ≤ length l → sets l 0 vs ≡ overwritten bytes l
 stores {bytes} {vs} l e h = sets-eq vs l 0 (rw zero-add h) ∙ rw (zero-add, e) refl
+
+-- A turn of the loop that copies.
+store : (s d : List ℕ) (i : ℕ) → i < length s → i < length d →
+    set (take i s ++ drop i d) i (get_or s i 0) ≡ take (suc i) s ++ drop (suc i) d
+store [] d i h k = absurd (not-suc-le-zero h)
+store (x ∷ xs) [] i h k = absurd (not-suc-le-zero k)
+store (x ∷ xs) (y ∷ ys) zero h k = refl
+store (x ∷ xs) (y ∷ ys) (suc i) h k = ap (λ (l : List ℕ). x ∷ l) (store xs ys i (le_of_suc-le-suc h) (le_of_suc-le-suc k))
+
+pub copied : (s d e : List ℕ) (i : ℕ) → i < length s → i < length d → e ≡ take i s ++ drop i d →
+    set e i (get_or s i 0) ≡ take (i + 1) s ++ drop (i + 1) d
+copied s d e i h k q = rw (q, add-one) (store s d i h k)
+
+pub copied_all : (s d e : List ℕ) (i : ℕ) → i ≤ length s → length s ≤ i → e ≡ take i s ++ drop i d → e ≡ overwritten s d
+copied_all s d e i h k q = let z : i ≡ length s = omega arith in q ∙ rw (z, take-length) refl
 
 -- A writer is lent the rest from k on, `&mut out[k..]`, where the k bytes p were written before: p and what it writes are at the front.
 pub after : (p b old e new : List ℕ) (k : ℕ) → length p ≡ k → e ≡ overwritten p old → new ≡ overwritten b (mid_of k (length e - k) e) →

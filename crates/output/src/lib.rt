@@ -96,12 +96,13 @@ pub fn put_byte(out: &mut [u8], v: u8)
 }
 
 // Low byte first.
-#[tactic(auto, unfolding(format::specs::Layout::little_endian))]
 pub fn put_word(out: &mut [u8], v: u16)
     requires { 2 ≤ length out.old }
     ensures { out.new ≡ overwritten (word v) out.old }
 {
-    copy(out, &v.to_le_bytes());
+    let bytes = v.to_le_bytes();
+    out[0] = bytes[0];
+    out[1] = bytes[1];
 }
 
 pub fn put_dword(out: &mut [u8], v: u32)
@@ -109,15 +110,20 @@ pub fn put_dword(out: &mut [u8], v: u32)
     ensures { out.new ≡ overwritten (dword v) out.old }
 {
     let bytes = v.to_le_bytes();
-    copy(out, &bytes);
+    out[0] = bytes[0];
+    out[1] = bytes[1];
+    out[2] = bytes[2];
+    out[3] = bytes[3];
 }
 
-// All bytes of `src`.
+// All bytes of `src`, by a loop: `copy_from_slice` would have the archive call the C library's memmove, which no other function needs.
 pub fn copy(out: &mut [u8], src: &[u8])
     requires { length src.now ≤ length out.old }
     ensures { out.new ≡ overwritten src.now out.old }
 {
-    out[..src.len()].copy_from_slice(src);
+    for i in 0..src.len() {
+        out[i] = src[i];
+    }
 }
 
 // A WORD with the length of the text, then the text. The answer is how many bytes were written.
